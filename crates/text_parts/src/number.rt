@@ -1,4 +1,6 @@
-ghost use Rattle.std.specs.Prelude.{◌≡◌, ◌≢◌, ℕ, ◌<◌, ◌^◌, ◌++◌, decimal, IfSome, IfNone, OnOk, OnErr};
+ghost use Rattle.std.specs.Prelude.{◌≡◌, ◌≢◌, ℕ, ◌<◌, ◌^◌, ◌++◌, List, decimal, IfSome, OnSome, IfNone, OnOk, OnErr};
+ghost use Rattle.std.specs.Str.Parse.{AllDigits, digits_value};
+ghost use Rattle.text_parts.specs.Number.{IsNumberText};
 
 use crate::no_memory::NoMemory;
 use itoa::Buffer;
@@ -14,14 +16,7 @@ pub fn read_number(bytes: &[u8]) -> Option<u64>
     if bytes[0] == b'0' && bytes.len() > 1 {
         return None;
     }
-    let mut value: u64 = 0;
-    for byte in bytes {
-        if !byte.is_ascii_digit() {
-            return None;
-        }
-        value = value.checked_mul(10)?.checked_add(u64::from(*byte - b'0'))?;
-    }
-    Some(value)
+    value_of(bytes)
 }
 
 /// Appends the digits of a number.
@@ -32,4 +27,29 @@ pub fn write_number(number: u64, out: &mut Vec<u8>) -> Result<(), NoMemory>
     let mut buffer = Buffer::new();
     out.extend_from_slice(buffer.format(number).as_bytes())?;
     Ok(())
+}
+
+/// A number below 2^64 has exactly one text, which is `0`, or a digit from 1 to 9 followed by digits; and each such text is that of the number that its digits write.
+pub fn number_has_one_text()
+    ensures one { (m n : ℕ) → m < 2 ^ 64 → n < 2 ^ 64 → decimal m ≡ decimal n → m ≡ n }
+    ensures spelled { (n : ℕ) → n < 2 ^ 64 → IsNumberText (decimal n) }
+    ensures valued { (n : ℕ) → n < 2 ^ 64 → digits_value 10 (decimal n) ≡ n }
+    ensures each { (text : List ℕ) → IsNumberText text → digits_value 10 text < 2 ^ 64 → text ≡ decimal (digits_value 10 text) }
+{}
+
+// The value of digits, which may begin with zeros.
+fn value_of(bytes: &[u8]) -> Option<u64>
+    ensures digits { OnSome result (AllDigits 10 bytes.now) }
+    ensures fits { OnSome result (digits_value 10 bytes.now < 2 ^ 64) }
+    ensures value { IfSome result (λ value. value ≡ digits_value 10 bytes.now) }
+    ensures none { IfNone result (AllDigits 10 bytes.now → digits_value 10 bytes.now < 2 ^ 64 → ⊥) }
+{
+    let mut value: u64 = 0;
+    for byte in bytes {
+        if !byte.is_ascii_digit() {
+            return None;
+        }
+        value = value.checked_mul(10)?.checked_add(u64::from(*byte - b'0'))?;
+    }
+    Some(value)
 }
