@@ -1,4 +1,4 @@
-ghost use Rattle.std.specs.Prelude.{◌≡◌, ◌-◌, ◌≤◌, take, drop, replicate};
+ghost use Rattle.std.specs.Prelude.{◌≡◌, ◌-◌, ◌≤◌, length, take, drop, replicate};
 ghost use Rattle.grove_sorts.specs.Identifier.{IsIdentifier};
 
 use std::cmp::Ordering;
@@ -6,12 +6,20 @@ use std::cmp::Ordering;
 /// How many bytes an identifier may have.
 pub const LONGEST: usize = 32;
 
+/// Why bytes are no identifier.
+#[derive(Clone, Copy, Debug, PartialEq, Eq)]
+pub enum IdentFault {
+    /// There are none or more than 32, the first is no lower-case letter, or another is neither such a letter nor a digit nor an underscore.
+    NotAnIdent,
+}
+
 /// An identifier of 1 to 32 bytes, held inline.
 #[derive(Clone, Copy, Debug)]
 pub struct Ident {
     // Zero past the end, so that equal identifiers are equal values.
     bytes: [u8; 32],
     len: usize,
+    ghost whole: { length bytes ≡ 32 },
     ghost short: { len ≤ 32 },
     ghost spelled: { IsIdentifier (take len bytes) },
     ghost padded: { drop len bytes ≡ replicate (32 - len) 0 },
@@ -19,6 +27,19 @@ pub struct Ident {
 
 impl Ident {
     ghost use Rattle.grove_sorts.specs.Ident.{ident_bytes};
+
+    // The identifier of these bytes.
+    pub(crate) fn new(spelling: &[u8]) -> Ident
+        requires { IsIdentifier spelling.now }
+        ensures { ident_bytes result ≡ spelling.now }
+    {
+        let mut bytes = [0; LONGEST];
+        bytes[..spelling.len()].copy_from_slice(spelling);
+        Ident {
+            bytes,
+            len: spelling.len(),
+        }
+    }
 
     /// Its bytes.
     pub fn as_slice(&self) -> &[u8]

@@ -18,3 +18,25 @@ pub enum Position {
     Dom,
     Cod,
 }
+
+impl Position {
+    /// Every position, in the order of the table.
+    pub const ALL: [Position; 16] = [
+        Position::Main,
+        Position::Param,
+        Position::Annot,
+        Position::Body,
+        Position::Fun,
+        Position::Arg,
+        Position::Left,
+        Position::Right,
+        Position::Test,
+        Position::WhenTrue,
+        Position::WhenFalse,
+        Position::First,
+        Position::Second,
+        Position::Operand,
+        Position::Dom,
+        Position::Cod,
+    ];
+}
