@@ -1,5 +1,5 @@
 -- Identifiers: what their fields keep, and that an identifier is its bytes.
-use Rattle.std.proofs.Common.{◌≡◌, ℕ, ◌-◌, ◌≤◌, ◌++◌, List, [], ◌∷◌, Bool, true, length, take, drop, replicate, IsTrue, nat_le, refl, ap, sym, subst, ◌∙◌, arith}
+use Rattle.std.proofs.Common.{◌≡◌, ℕ, ◌-◌, ◌≤◌, ◌++◌, List, [], ◌∷◌, length, take, drop, replicate, ap, sym, subst, ◌∙◌, arith}
 use Rattle.std.proofs.Props.{props}
 use Rattle.std.proofs.lemmas.List.{take-append-drop, length-take, length-append, length-drop, drop-replicate}
 use Rattle.std.proofs.Math.Seq.{take-append_seam, drop-append_seam}
@@ -52,8 +52,9 @@ identifier_short (x ∷ xs) h = grind (arith, nat_tests)
 pub padded_kept : (ys xs zeros : List ℕ) → ys ≡ xs → zeros ≡ replicate 32 0 → IsIdentifier xs → Kept (ys ++ drop (length xs) zeros) (length xs)
 padded_kept ys xs zeros e z h =
     let short : length xs ≤ 32 = identifier_short xs h in
-    subst (λ ys. Kept (ys ++ drop (length xs) zeros) (length xs)) (sym e)
-    ( simp (length-append, length-drop) (omega (arith, ap length z)),
+    subst (λ ys. Kept (ys ++ drop (length xs) zeros) (length xs)) (sym e) (
+      simp (length-append, length-drop) (omega (arith, ap length z)),
       short,
       rw take-append_seam h,
-      rw drop-append_seam (ap (drop (length xs)) z ∙ drop-replicate (length xs) 32 0) )
+      rw drop-append_seam (ap (drop (length xs)) z ∙ drop-replicate (length xs) 32 0),
+    )

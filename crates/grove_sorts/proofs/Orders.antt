@@ -1,5 +1,5 @@
 -- Identifiers, constructors and positions are the same where their orders find no difference.
-use Rattle.std.proofs.Common.{◌≡◌, ℕ, ◌-◌, ◌≤◌, ◌++◌, List, [], ◌∷◌, Bool, true, length, take, drop, replicate, min, IsTrue, nat_eq, refl, ap, sym, subst, ◌∙◌, arith}
+use Rattle.std.proofs.Common.{◌≡◌, ℕ, List, IsTrue, nat_eq, refl, ap, sym, ◌∙◌, arith}
 use Rattle.std.proofs.lemmas.Slice.Eq.{bytes_eq-Decides}
 use Rattle.std.proofs.lemmas.Map.Text.{is_eq-slice_cmp}
 use Rattle.std.proofs.lemmas.Cmp.{on_total, then_total, nat_cmp_total, nat_list_cmp_total}
@@ -19,6 +19,8 @@ use Rattle.grove_sorts.specs.declared.ctor.Ctor.TheVariants.{Root, Var, Lam, Ap,
 use Rattle.grove_sorts.specs.contracts.ctor.CtorOrd.TheImpl as ctor_impl
 use Rattle.grove_sorts.specs.contracts.position.PositionOrd.TheImpl as position_impl
 use Rattle.grove_sorts.proofs.Identifiers.{ident_exact}
+use Rattle.grove_sorts.specs.Ident.{ident_bytes, ident_cmp}
+use Rattle.grove_sorts.specs.declared.ident.Ident.{Ident}
 
 ordering_then_equal : (p q : Ordering) → ordering_then p q ≡ Equal → (p ≡ Equal) × (q ≡ Equal)
 ordering_then_equal Less q e = cc
@@ -30,6 +32,13 @@ nat_cmp_equal m n e = grind (arith, nat_tests)
 
 slice_cmp_equal : (xs ys : List ℕ) → slice_cmp nat_cmp xs ys ≡ Equal → xs ≡ ys
 slice_cmp_equal xs ys e = (bytes_eq-Decides xs ys).0 (sym (is_eq-slice_cmp xs ys) ∙ ap is_eq e)
+
+pub ident_cmp_total : IsTotalOrder ident_cmp
+ident_cmp_total = on_total ident_bytes nat_list_cmp_total
+
+-- identifiers that the order finds equal are one
+pub ident_cmp_exact : (a b : Ident) → ident_cmp a b ≡ Equal → a ≡ b
+ident_cmp_exact a b e = ident_exact a b (slice_cmp_equal _ _ e)
 
 -- constructors of one number and one payload are one
 ctor_same : (a b : Ctor) → IsTrue (nat_eq (ctor_number a) (ctor_number b)) → payload a ≡ payload b → a ≡ b
@@ -85,7 +94,8 @@ cmp_is_ctor_cmp TArrow TArrow = refl
 cmp_is_ctor_cmp TProd TProd = refl
 cmp_is_ctor_cmp _ _ = refl
 
-position_same : (a b : Position) → IsTrue (nat_eq (position_number a) (position_number b)) → a ≡ b
+-- positions of one number are one
+pub position_same : (a b : Position) → IsTrue (nat_eq (position_number a) (position_number b)) → a ≡ b
 position_same Main Main t = refl
 position_same Param Param t = refl
 position_same Annot Annot t = refl

@@ -1,5 +1,5 @@
 -- The table of constructors: their texts, their sorts, their positions and their order.
-use Rattle.std.specs.Prelude.{ℕ, ◌<◌, ◌^◌, List, [], ◌∷◌, ◌++◌, codes, decimal}
+use Rattle.std.specs.Prelude.{ℕ, ◌<◌, ◌^◌, ◌==◌, if◌then◌else◌, List, [], ◌∷◌, ◌++◌, Option, Some, None, codes, decimal}
 use Rattle.std.specs.declared.cmp.Ordering.{Ordering}
 use Rattle.std.specs.Ordering.{nat_cmp, ordering_then}
 use Rattle.std.specs.Cmp.Lexicographic.{slice_cmp}
@@ -10,6 +10,8 @@ use Rattle.grove_sorts.specs.declared.position.Position.TheVariants.{Main, Param
 use Rattle.grove_sorts.specs.declared.ctor.Ctor.{Ctor}
 use Rattle.grove_sorts.specs.declared.ctor.Ctor.TheVariants.{Root, Var, Lam, Ap, Num, Plus, LitTrue, LitFalse, Choose, Pair, Fst, Snd, PVar, TNum, TBool, TArrow, TProd}
 use Rattle.grove_sorts.specs.Ident.{ident_bytes}
+use Rattle.grove_sorts.specs.Position.{position_number}
+use Rattle.grove_sorts.specs.Sort.{sort_number}
 
 -- a literal lies in its range, as that of every constructor of the program does
 abbrev pub InRange : Ctor → Type 0
@@ -35,6 +37,27 @@ ctor_text TBool = codes "tbool"
 ctor_text TArrow = codes "tarrow"
 ctor_text TProd = codes "tprod"
 
+-- a constructor with neither an identifier nor a literal
+abbrev pub IsPlain : Ctor → Type 0
+IsPlain (Var x) = ⊥
+IsPlain (Num n) = ⊥
+IsPlain (PVar x) = ⊥
+IsPlain _ = Unit {0}
+
+-- the word that the text of a constructor begins with: all of it, for a plain one
+abbrev pub keyword : Ctor → List ℕ
+keyword (Var x) = codes "var:"
+keyword (Num n) = codes "num:"
+keyword (PVar x) = codes "pvar:"
+keyword ctor = ctor_text ctor
+
+-- what stands after that word
+abbrev pub payload_text : Ctor → List ℕ
+payload_text (Var x) = ident_bytes x
+payload_text (Num n) = decimal n
+payload_text (PVar x) = ident_bytes x
+payload_text _ = []
+
 abbrev pub sort_of_ctor : Ctor → Sort
 sort_of_ctor Root = Top
 sort_of_ctor (PVar x) = Pat
@@ -57,6 +80,24 @@ positions Snd = (Operand, Exp) ∷ []
 positions TArrow = (Dom, Typ) ∷ (Cod, Typ) ∷ []
 positions TProd = (Left, Typ) ∷ (Right, Typ) ∷ []
 positions _ = []
+
+abbrev pub sort_in : List (Position × Sort) → Position → Option Sort
+sort_in [] position = None
+sort_in (entry ∷ entries) position =
+    if position_number entry.0 == position_number position then Some entry.1 else sort_in entries position
+
+-- the sort of the children at a position, if the constructor has it
+abbrev pub sort_at : Ctor → Position → Option Sort
+sort_at ctor position = sort_in (positions ctor) position
+
+abbrev pub first_in : List (Position × Sort) → Sort → Option Position
+first_in [] sort = None
+first_in (entry ∷ entries) sort =
+    if sort_number entry.1 == sort_number sort then Some entry.0 else first_in entries sort
+
+-- the first position in table order whose children have a sort, if there is one
+abbrev pub first_position : Ctor → Sort → Option Position
+first_position ctor sort = first_in (positions ctor) sort
 
 abbrev pub ctor_number : Ctor → ℕ
 ctor_number Root = 0

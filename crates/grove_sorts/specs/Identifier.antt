@@ -1,5 +1,5 @@
 -- Which bytes are an identifier.
-use Rattle.std.specs.Prelude.{ℕ, Bool, true, false, ◌&&◌, ◌||◌, nat_le, ◌==◌, List, [], ◌∷◌, length, IsTrue}
+use Rattle.std.specs.Prelude.{ℕ, Bool, false, ◌&&◌, ◌||◌, nat_le, ◌==◌, List, [], ◌∷◌, length, IsTrue}
 use Rattle.std.specs.List.{list_all}
 
 abbrev pub is_lowercase_letter : ℕ → Bool

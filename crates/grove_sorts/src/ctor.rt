@@ -22,3 +22,23 @@ pub enum Ctor {
     TArrow,
     TProd,
 }
+
+impl Ctor {
+    // The constructors with neither an identifier nor a literal.
+    pub(crate) const PLAIN: [Ctor; 14] = [
+        Ctor::Root,
+        Ctor::Lam,
+        Ctor::Ap,
+        Ctor::Plus,
+        Ctor::LitTrue,
+        Ctor::LitFalse,
+        Ctor::Choose,
+        Ctor::Pair,
+        Ctor::Fst,
+        Ctor::Snd,
+        Ctor::TNum,
+        Ctor::TBool,
+        Ctor::TArrow,
+        Ctor::TProd,
+    ];
+}

@@ -14,9 +14,16 @@ mod write;
 
 pub use ctor::Ctor;
 pub use ident::{Ident, IdentFault};
-pub use laws::identifiers_are_their_bytes;
+pub use laws::{
+    constructors_are_ordered, constructors_are_their_texts, identifiers_are_ordered,
+    positions_are_ordered, positions_are_their_words,
+};
 pub use no_memory::NoMemory;
 pub use position::Position;
-pub use read::{read_ident, read_position};
+pub use read::{read_ctor, read_ident, read_position};
 pub use sort::Sort;
-pub use table::{position_count, sort_of};
+pub use table::{first_position_of_sort, position_at, position_count, position_sort, sort_of};
+pub use write::{write_ctor, write_ident, write_position};
+
+#[cfg(test)]
+mod tests;

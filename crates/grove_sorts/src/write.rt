@@ -1,10 +1,84 @@
-ghost use Rattle.std.specs.Prelude.{◌≡◌};
+ghost use Rattle.std.specs.Prelude.{◌≡◌, ◌++◌, OnOk, OnErr};
+ghost use Rattle.grove_sorts.specs.Ident.{ident_bytes};
+ghost use Rattle.grove_sorts.specs.Ctor.{ctor_text, keyword, payload_text};
 ghost use Rattle.grove_sorts.specs.Position.{position_text};
 
+use crate::ctor::Ctor;
+use crate::ident::Ident;
+use crate::no_memory::NoMemory;
 use crate::position::Position;
+use text_parts::write_number;
 
-/// The word of a position.
-pub fn position_word(position: Position) -> &'static [u8]
+/// Appends an identifier.
+pub fn write_ident(ident: &Ident, out: &mut Vec<u8>) -> Result<(), NoMemory>
+    ensures appended { OnOk result (out.new.items ≡ out.old.items ++ ident_bytes ident.now) }
+    ensures unchanged { OnErr result (out.new.items ≡ out.old.items) }
+{
+    out.extend_from_slice(ident.as_slice())?;
+    Ok(())
+}
+
+/// Appends the text of a constructor.
+pub fn write_ctor(ctor: &Ctor, out: &mut Vec<u8>) -> Result<(), NoMemory>
+    ensures appended { OnOk result (out.new.items ≡ out.old.items ++ ctor_text ctor.now) }
+    ensures unchanged { OnErr result (out.new.items ≡ out.old.items) }
+{
+    let start = out.len();
+    out.extend_from_slice(keyword(ctor))?;
+    if let Err(error) = write_payload(ctor, out) {
+        out.truncate(start);
+        return Err(error);
+    }
+    Ok(())
+}
+
+fn write_payload(ctor: &Ctor, out: &mut Vec<u8>) -> Result<(), NoMemory>
+    ensures appended { OnOk result (out.new.items ≡ out.old.items ++ payload_text ctor.now) }
+    ensures unchanged { OnErr result (out.new.items ≡ out.old.items) }
+{
+    match ctor {
+        Ctor::Var(ident) | Ctor::PVar(ident) => write_ident(ident, out),
+        Ctor::Num(number) => Ok(write_number(*number, out)?),
+        _ => Ok(()),
+    }
+}
+
+/// Appends the word of a position.
+pub fn write_position(position: Position, out: &mut Vec<u8>) -> Result<(), NoMemory>
+    ensures appended { OnOk result (out.new.items ≡ out.old.items ++ position_text position) }
+    ensures unchanged { OnErr result (out.new.items ≡ out.old.items) }
+{
+    out.extend_from_slice(position_word(position))?;
+    Ok(())
+}
+
+// The word that a constructor's text begins with.
+pub(crate) fn keyword(ctor: &Ctor) -> &'static [u8]
+    ensures { result.now ≡ keyword ctor.now }
+{
+    match ctor {
+        Ctor::Root => b"root",
+        Ctor::Var(_) => b"var:",
+        Ctor::Lam => b"lam",
+        Ctor::Ap => b"ap",
+        Ctor::Num(_) => b"num:",
+        Ctor::Plus => b"plus",
+        Ctor::LitTrue => b"true",
+        Ctor::LitFalse => b"false",
+        Ctor::Choose => b"if",
+        Ctor::Pair => b"pair",
+        Ctor::Fst => b"fst",
+        Ctor::Snd => b"snd",
+        Ctor::PVar(_) => b"pvar:",
+        Ctor::TNum => b"tnum",
+        Ctor::TBool => b"tbool",
+        Ctor::TArrow => b"tarrow",
+        Ctor::TProd => b"tprod",
+    }
+}
+
+// The word of a position.
+pub(crate) fn position_word(position: Position) -> &'static [u8]
     ensures { result.now ≡ position_text position }
 {
     match position {
