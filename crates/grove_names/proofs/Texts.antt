@@ -1,5 +1,5 @@
 -- The text of names.
-use Rattle.std.proofs.Common.{◌≡◌, ◌≢◌, ℕ, ◌<◌, ◌≤◌, ◌^◌, ◌⊎◌, List, ◌∷◌, ◌++◌, length, decimal, ap, sym, ◌∙◌, inl, subst, arith, length-append}
+use Rattle.std.proofs.Common.{Result, Ok, Err, IfOk, IsErr, refl, ◌≡◌, ◌≢◌, ℕ, ◌<◌, ◌≤◌, ◌^◌, ◌⊎◌, List, ◌∷◌, ◌++◌, length, decimal, ap, sym, ◌∙◌, inl, subst, arith, length-append}
 use Rattle.std.specs.Str.Parse.{digits_value}
 use Rattle.std.proofs.lemmas.Fmt.{decimal_injective, length-decimal-le}
 use Rattle.text_parts.specs.Number.{IsNumberText}
@@ -70,3 +70,8 @@ no_name_large bytes author counter n split first is fits large name in_range sam
 pub no_name_counter : (bytes author counter : List ℕ) → bytes ≡ author ++ 46 ∷ counter → Lacks 46 author → ((n : ℕ) → n < 2 ^ 64 → counter ≢ decimal n) → (name : Name) → InRange name → bytes ≢ name_text name
 no_name_counter bytes author counter split first none name in_range same =
     none name.counter (omega arith) (name_text-parts name in_range author counter first (sym split ∙ same)).1
+
+-- what answers as reading does gives the name that a text spells
+pub read_name_gives : {E : Type 0} (bytes : List ℕ) (r : Result Name E) → IfOk r (λ name. bytes ≡ name_text name) → IfOk r InRange → (IsErr r → (name : Name) → InRange name → bytes ≢ name_text name) → (name : Name) → InRange name → bytes ≡ name_text name → r ≡ Ok name
+read_name_gives bytes (Ok other) found in_range refused name in_name same = ap Ok (name_text_injective other name in_range in_name (sym found ∙ same))
+read_name_gives bytes (Err e) found in_range refused name in_name same = absurd (refused refl name in_name same)
