@@ -1,6 +1,6 @@
 ghost use Rattle.std.specs.Prelude.{◌≡◌, ◌++◌, OnOk, OnErr};
 ghost use Rattle.grove_sorts.specs.Ident.{ident_bytes};
-ghost use Rattle.grove_sorts.specs.Ctor.{ctor_text, keyword, payload_text};
+ghost use Rattle.grove_sorts.specs.Ctor.{InRange, ctor_text, keyword, payload_text};
 ghost use Rattle.grove_sorts.specs.Position.{position_text};
 ghost use Rattle.grove_sorts.specs.Sort.{sort_text};
 
@@ -22,6 +22,7 @@ pub fn write_ident(ident: &Ident, out: &mut Vec<u8>) -> Result<(), NoMemory>
 
 /// Appends the text of a constructor.
 pub fn write_ctor(ctor: &Ctor, out: &mut Vec<u8>) -> Result<(), NoMemory>
+    ensures in_range { OnOk result (InRange ctor.now) }
     ensures appended { OnOk result (out.new.items ≡ out.old.items ++ ctor_text ctor.now) }
     ensures unchanged { OnErr result (out.new.items ≡ out.old.items) }
 {
@@ -35,6 +36,7 @@ pub fn write_ctor(ctor: &Ctor, out: &mut Vec<u8>) -> Result<(), NoMemory>
 }
 
 fn write_payload(ctor: &Ctor, out: &mut Vec<u8>) -> Result<(), NoMemory>
+    ensures in_range { OnOk result (InRange ctor.now) }
     ensures appended { OnOk result (out.new.items ≡ out.old.items ++ payload_text ctor.now) }
     ensures unchanged { OnErr result (out.new.items ≡ out.old.items) }
 {
