@@ -34,6 +34,9 @@ same_padded xs ys m n e t p q =
     sym (take-append-drop m xs) ∙ (let d : drop m xs ≡ drop n ys = p ∙ ap (λ k. replicate (32 - k) 0) e ∙ sym q in
     ap (λ zs. zs ++ drop m xs) t ∙ ap (λ zs. take n ys ++ zs) d) ∙ take-append-drop n ys
 
+pub identifier_spelled : (x : Ident) → IsIdentifier (ident_bytes x)
+identifier_spelled x = x.spelled
+
 -- an identifier is its bytes
 pub ident_exact : (a b : Ident) → ident_bytes a ≡ ident_bytes b → a ≡ b
 ident_exact a b e =

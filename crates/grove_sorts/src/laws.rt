@@ -5,6 +5,7 @@ ghost use Rattle.text_parts.specs.Separated.{Lacks};
 ghost use Rattle.grove_sorts.specs.declared.ident.Ident.{Ident};
 ghost use Rattle.grove_sorts.specs.declared.ctor.Ctor.{Ctor};
 ghost use Rattle.grove_sorts.specs.declared.position.Position.{Position};
+ghost use Rattle.grove_sorts.specs.Identifier.{IsIdentifier};
 ghost use Rattle.grove_sorts.specs.Ident.{ident_bytes, ident_cmp};
 ghost use Rattle.grove_sorts.specs.Ctor.{InRange, ctor_text, ctor_cmp};
 ghost use Rattle.grove_sorts.specs.Position.{position_text, position_cmp};
@@ -13,8 +14,10 @@ use crate::ctor::Ctor;
 use crate::ident::Ident;
 use crate::position::Position;
 
-/// An identifier is its bytes, and identifiers are ordered by them.
+/// An identifier is its bytes, in which none stands below the digits; identifiers are ordered by them, and only equal ones tie.
 pub fn identifiers_are_ordered()
+    ensures spelled { (a : Ident) → IsIdentifier (ident_bytes a) }
+    ensures unbroken { (c : ℕ) (a : Ident) → c < 48 → Lacks c (ident_bytes a) }
     ensures exact { (a b : Ident) → ident_bytes a ≡ ident_bytes b → a ≡ b }
     ensures total { IsTotalOrder ident_cmp }
     ensures ties { (a b : Ident) → ident_cmp a b ≡ Equal → a ≡ b }

@@ -23,7 +23,7 @@ pub use position::Position;
 pub use read::{read_ctor, read_ident, read_position};
 pub use sort::Sort;
 pub use table::{first_position_of_sort, position_at, position_count, position_sort, sort_of};
-pub use write::{write_ctor, write_ident, write_position};
+pub use write::{write_ctor, write_ident, write_position, write_sort};
 
 #[cfg(test)]
 mod tests;

@@ -80,6 +80,21 @@ fn positions_have_their_words(rt: HostRuntime) -> Result<(), Fail> {
 }
 
 #[test]
+fn sorts_have_their_words(rt: HostRuntime) -> Result<(), Fail> {
+    for (sort, word) in [
+        (Sort::Top, b"top".as_slice()),
+        (Sort::Exp, b"exp".as_slice()),
+        (Sort::Pat, b"pat".as_slice()),
+        (Sort::Typ, b"typ".as_slice()),
+    ] {
+        let mut out = Vec::new(rt.alloc());
+        write_sort(sort, &mut out)?;
+        assert_eq!(rt; out.as_slice(), word);
+    }
+    Ok(())
+}
+
+#[test]
 fn identifiers_have_up_to_32_bytes(rt: HostRuntime) -> Result<(), Fail> {
     let longest = b"a2345678901234567890123456789_32";
     for (text, is_identifier) in [

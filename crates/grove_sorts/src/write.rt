@@ -1,12 +1,14 @@
 ghost use Rattle.std.specs.Prelude.{◌≡◌, ◌++◌, OnOk, OnErr};
 ghost use Rattle.grove_sorts.specs.Ident.{ident_bytes};
-ghost use Rattle.grove_sorts.specs.Ctor.{ctor_text, keyword, payload_text};
+ghost use Rattle.grove_sorts.specs.Ctor.{InRange, ctor_text, keyword, payload_text};
 ghost use Rattle.grove_sorts.specs.Position.{position_text};
+ghost use Rattle.grove_sorts.specs.Sort.{sort_text};
 
 use crate::ctor::Ctor;
 use crate::ident::Ident;
 use crate::no_memory::NoMemory;
 use crate::position::Position;
+use crate::sort::Sort;
 use text_parts::write_number;
 
 /// Appends an identifier.
@@ -20,6 +22,7 @@ pub fn write_ident(ident: &Ident, out: &mut Vec<u8>) -> Result<(), NoMemory>
 
 /// Appends the text of a constructor.
 pub fn write_ctor(ctor: &Ctor, out: &mut Vec<u8>) -> Result<(), NoMemory>
+    ensures in_range { OnOk result (InRange ctor.now) }
     ensures appended { OnOk result (out.new.items ≡ out.old.items ++ ctor_text ctor.now) }
     ensures unchanged { OnErr result (out.new.items ≡ out.old.items) }
 {
@@ -33,6 +36,7 @@ pub fn write_ctor(ctor: &Ctor, out: &mut Vec<u8>) -> Result<(), NoMemory>
 }
 
 fn write_payload(ctor: &Ctor, out: &mut Vec<u8>) -> Result<(), NoMemory>
+    ensures in_range { OnOk result (InRange ctor.now) }
     ensures appended { OnOk result (out.new.items ≡ out.old.items ++ payload_text ctor.now) }
     ensures unchanged { OnErr result (out.new.items ≡ out.old.items) }
 {
@@ -49,6 +53,15 @@ pub fn write_position(position: Position, out: &mut Vec<u8>) -> Result<(), NoMem
     ensures unchanged { OnErr result (out.new.items ≡ out.old.items) }
 {
     out.extend_from_slice(position_word(position))?;
+    Ok(())
+}
+
+/// Appends the word of a sort.
+pub fn write_sort(sort: Sort, out: &mut Vec<u8>) -> Result<(), NoMemory>
+    ensures appended { OnOk result (out.new.items ≡ out.old.items ++ sort_text sort) }
+    ensures unchanged { OnErr result (out.new.items ≡ out.old.items) }
+{
+    out.extend_from_slice(sort_word(sort))?;
     Ok(())
 }
 
@@ -98,5 +111,16 @@ pub(crate) fn position_word(position: Position) -> &'static [u8]
         Position::Operand => b"of",
         Position::Dom => b"from",
         Position::Cod => b"to",
+    }
+}
+
+fn sort_word(sort: Sort) -> &'static [u8]
+    ensures { result.now ≡ sort_text sort }
+{
+    match sort {
+        Sort::Top => b"top",
+        Sort::Exp => b"exp",
+        Sort::Pat => b"pat",
+        Sort::Typ => b"typ",
     }
 }
