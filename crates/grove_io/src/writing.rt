@@ -1,0 +1,27 @@
+// The writing of all of some bytes.
+ghost use Rattle.std.specs.Prelude.{◌≡◌, ◌<◌, ◌≤◌, ◌-◌, ℕ, length, take, OnOk, OnErr, IsOk};
+ghost use Rattle.grove_io.specs.Outside.{Took, HasRisen};
+
+use crate::{Failed, Sink};
+
+/// Writes all the bytes, and goes on after a short write. It takes no memory.
+pub fn write_out<K: Sink>(sink: &mut K, bytes: &[u8]) -> Result<(), Failed>
+    ensures all { OnOk result (Took (K.taken sink.old) bytes.now (K.taken sink.new)) }
+    ensures prefix { OnErr result ((count : ℕ) × (count < length bytes.now)
+        × Took (K.taken sink.old) (take count bytes.now) (K.taken sink.new)) }
+
+    ensures cause { OnErr result (HasRisen (K.faults sink.old) (K.faults sink.new)) }
+    ensures never_falls { K.faults sink.old ≤ K.faults sink.new }
+
+    ensures sure { (room : ℕ) → K.never_fails sink.old room → length bytes.now ≤ room → IsOk result }
+    ensures stays_sure { (room : ℕ) → K.never_fails sink.old room → length bytes.now ≤ room
+        → OnOk result (K.never_fails sink.new (room - length bytes.now)) }
+    ensures no_fault { (room : ℕ) → K.never_fails sink.old room → length bytes.now ≤ room
+        → K.faults sink.new ≡ K.faults sink.old }
+{
+    let mut written = 0;
+    while written < bytes.len() {
+        written += sink.write(&bytes[written..])?;
+    }
+    Ok(())
+}
