@@ -53,3 +53,47 @@ impl<R: Read> Source for ReaderSource<R> {
         Err(Failed)
     }
 }
+
+#[cfg(test)]
+mod tests {
+    use super::*;
+    use crate::{InputFault, read_all};
+    use std::io;
+    use std::test::Fail;
+
+    // Gives a byte at each odd call. The second call is interrupted, and the fourth fails.
+    #[derive(Drop)]
+    struct Halting {
+        calls: u8,
+    }
+
+    impl Read for Halting {
+        fn read(&mut self, buf: &mut [u8]) -> io::Result<usize> {
+            self.calls = self.calls.saturating_add(1);
+            match self.calls {
+                2 => Err(io::Error::from(ErrorKind::Interrupted)),
+                4 => Err(io::Error::from(ErrorKind::Other)),
+                1 | 3 | 5 if !buf.is_empty() => {
+                    buf[0] = b'0' + self.calls;
+                    Ok(1)
+                }
+                _ => Ok(0),
+            }
+        }
+    }
+
+    #[test]
+    fn tries_an_interrupted_read_again(rt: HostRuntime) -> Result<(), Fail> {
+        let alloc = rt.alloc();
+        let mut source = ReaderSource::new(Halting { calls: 0 });
+        let mut out = [0; 8];
+        assert_eq!(rt; source.read(&mut out)?, 1);
+        assert_eq!(rt; source.read(&mut out)?, 1);
+        assert_eq!(rt; out[0], b'3');
+        assert_eq!(rt; source.faults, 1);
+        assert_eq!(rt; read_all(alloc, &mut source, 8).err(), Some(InputFault::ReadFault));
+        assert_eq!(rt; source.faults, 2);
+        assert_eq!(rt; read_all(alloc, &mut source, 8)?.as_slice(), b"5".as_slice());
+        Ok(())
+    }
+}

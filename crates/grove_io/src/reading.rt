@@ -22,8 +22,8 @@ pub fn read_all<S: Source>(alloc: Global, source: &mut S, limit: usize) -> Resul
         → (given : List ℕ) × (length given ≡ limit + 1) × Gave (S.left source.old) given (S.left source.new) }
     ensures beyond_the_limit { IsErrOf result InputFault.TooLong
         → IfSome (S.left source.old) (λ left. limit < length left) }
-    ensures never_more { (given : List ℕ) × (length given ≤ limit + 1)
-        × Gave (S.left source.old) given (S.left source.new) }
+    ensures otherwise_within_it { result ≢ Err InputFault.TooLong
+        → (given : List ℕ) × (length given ≤ limit) × Gave (S.left source.old) given (S.left source.new) }
 
     ensures cause { IsErrOf result InputFault.ReadFault → HasRisen (S.faults source.old) (S.faults source.new) }
     ensures never_falls { S.faults source.old ≤ S.faults source.new }
@@ -78,4 +78,43 @@ fn read_behind<S: Source>(source: &mut S, text: &mut [u8], filled: usize) -> Res
     ensures no_fault { S.never_fails source.old → S.faults source.new ≡ S.faults source.old }
 {
     source.read(&mut text[filled..])
+}
+
+#[cfg(test)]
+mod tests {
+    use super::*;
+    use crate::{MemorySource, SureSource};
+    use std::test::Fail;
+
+    // At one byte a read, four reads find the end of three bytes.
+    #[test]
+    fn goes_on_after_each_read_that_may_fail(rt: HostRuntime) -> Result<(), Fail> {
+        let alloc = rt.alloc();
+        for (failing, before, rest) in [(1, 0, "abc"), (2, 1, "bc"), (3, 2, "c"), (4, 3, "")] {
+            let bytes = b"abc".to_vec(alloc)?;
+            let mut source = MemorySource::new(bytes, 1, [failing].to_vec(alloc)?);
+            let first = read_all(alloc, &mut source, 3).err();
+            assert_eq!(rt; first, Some(InputFault::ReadFault), "with {before} bytes read");
+            let second = read_all(alloc, &mut source, 3)?;
+            assert_eq!(rt; second.as_slice(), rest.as_bytes(), "with {before} bytes read");
+        }
+        let mut source = MemorySource::new(b"abc".to_vec(alloc)?, 1, [5].to_vec(alloc)?);
+        assert_eq!(rt; read_all(alloc, &mut source, 3)?.as_slice(), b"abc".as_slice());
+        let mut source = SureSource::new(b"abc".to_vec(alloc)?, 2);
+        assert_eq!(rt; read_all(alloc, &mut source, 3)?.as_slice(), b"abc".as_slice());
+        Ok(())
+    }
+
+    #[test]
+    fn takes_one_byte_beyond_the_limit(rt: HostRuntime) -> Result<(), Fail> {
+        let alloc = rt.alloc();
+        for (limit, rest) in [(0, "bcd"), (1, "cd"), (2, "d"), (3, "")] {
+            let mut source = MemorySource::new(b"abcd".to_vec(alloc)?, 9, Vec::new(alloc));
+            let first = read_all(alloc, &mut source, limit).err();
+            assert_eq!(rt; first, Some(InputFault::TooLong), "at {limit}");
+            let second = read_all(alloc, &mut source, 3)?;
+            assert_eq!(rt; second.as_slice(), rest.as_bytes(), "at {limit}");
+        }
+        Ok(())
+    }
 }

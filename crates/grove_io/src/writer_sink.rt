@@ -57,3 +57,53 @@ impl<W: Write> Sink for WriterSink<W> {
         Err(Failed)
     }
 }
+
+#[cfg(test)]
+mod tests {
+    use super::*;
+    use crate::write_out;
+    use std::io;
+    use std::test::Fail;
+
+    // Takes two bytes at each odd call. The second call is interrupted, the fourth takes none, and the sixth fails.
+    #[derive(Drop)]
+    struct Halting {
+        taken: Vec<u8>,
+        calls: u8,
+    }
+
+    impl Write for Halting {
+        fn write(&mut self, buf: &[u8]) -> io::Result<usize> {
+            self.calls = self.calls.saturating_add(1);
+            match self.calls {
+                2 => Err(io::Error::from(ErrorKind::Interrupted)),
+                4 => Ok(0),
+                6 => Err(io::Error::from(ErrorKind::Other)),
+                _ => {
+                    let count = buf.len().min(2);
+                    self.taken.extend_from_slice(&buf[..count])?;
+                    Ok(count)
+                }
+            }
+        }
+
+        fn flush(&mut self) -> io::Result<()> {
+            Ok(())
+        }
+    }
+
+    #[test]
+    fn counts_a_write_that_takes_nothing(rt: HostRuntime) -> Result<(), Fail> {
+        let taken = Vec::new(rt.alloc());
+        let mut sink = WriterSink::new(Halting { taken, calls: 0 });
+        assert_eq!(rt; write_out(&mut sink, b"abcdefgh"), Err(Failed));
+        assert_eq!(rt; sink.writer.taken.as_slice(), b"abcd".as_slice());
+        assert_eq!(rt; sink.faults, 2);
+        assert_eq!(rt; write_out(&mut sink, b"efgh"), Err(Failed));
+        assert_eq!(rt; sink.writer.taken.as_slice(), b"abcdef".as_slice());
+        assert_eq!(rt; sink.faults, 3);
+        assert_eq!(rt; write_out(&mut sink, b"gh"), Ok(()));
+        assert_eq!(rt; sink.writer.taken.as_slice(), b"abcdefgh".as_slice());
+        Ok(())
+    }
+}

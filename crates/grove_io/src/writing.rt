@@ -25,3 +25,31 @@ pub fn write_out<K: Sink>(sink: &mut K, bytes: &[u8]) -> Result<(), Failed>
     }
     Ok(())
 }
+
+#[cfg(test)]
+mod tests {
+    use super::*;
+    use crate::MemorySink;
+    use std::test::Fail;
+
+    // At four bytes a call, three calls write ten bytes.
+    #[test]
+    fn keeps_what_was_written_before_a_fault(rt: HostRuntime) -> Result<(), Fail> {
+        let alloc = rt.alloc();
+        let rows = [
+            (1, Err(Failed), ""),
+            (2, Err(Failed), "0123"),
+            (3, Err(Failed), "01234567"),
+            (4, Ok(()), "0123456789"),
+        ];
+        for (failing, result, taken) in rows {
+            let mut sink = MemorySink::new(alloc, 10, 4, [failing].to_vec(alloc)?)?;
+            assert_eq!(rt; write_out(&mut sink, b"0123456789"), result, "at call {failing}");
+            assert_eq!(rt; sink.taken(), taken.as_bytes(), "at call {failing}");
+        }
+        let mut sink = MemorySink::new(alloc, 9, 4, Vec::new(alloc))?;
+        assert_eq!(rt; write_out(&mut sink, b"0123456789"), Err(Failed));
+        assert_eq!(rt; sink.taken(), b"012345678".as_slice());
+        Ok(())
+    }
+}
