@@ -86,35 +86,45 @@ mod tests {
     use crate::{MemorySource, SureSource};
     use std::test::Fail;
 
-    // At one byte a read, four reads find the end of three bytes.
+    fn source(alloc: Global, piece: usize, failing: u64) -> Result<MemorySource, AllocError>
+        requires { 1 ≤ piece }
+    {
+        let bytes = b"abc".to_vec(alloc)?;
+        Ok(MemorySource::new(bytes, piece, [failing].to_vec(alloc)?))
+    }
+
+    // At one byte a read, the fourth read finds the end.
     #[test]
-    fn goes_on_after_each_read_that_may_fail(rt: HostRuntime) -> Result<(), Fail> {
-        let alloc = rt.alloc();
-        for (failing, before, rest) in [(1, 0, "abc"), (2, 1, "bc"), (3, 2, "c"), (4, 3, "")] {
-            let bytes = b"abc".to_vec(alloc)?;
-            let mut source = MemorySource::new(bytes, 1, [failing].to_vec(alloc)?);
-            let first = read_all(alloc, &mut source, 3).err();
-            assert_eq!(rt; first, Some(InputFault::ReadFault), "with {before} bytes read");
-            let second = read_all(alloc, &mut source, 3)?;
-            assert_eq!(rt; second.as_slice(), rest.as_bytes(), "with {before} bytes read");
+    fn goes_on_after_a_fault_at_each_read(rt: HostRuntime) -> Result<(), Fail> {
+        let text = b"abc".as_slice();
+        for read in 0..4 {
+            let mut source = source(rt.alloc(), 1, read as u64 + 1)?;
+            let first = read_all(rt.alloc(), &mut source, 3).err();
+            assert_eq!(rt; first, Some(InputFault::ReadFault), "after {read} reads");
+            let rest = read_all(rt.alloc(), &mut source, 3)?;
+            assert_eq!(rt; rest.as_slice(), &text[read..], "after {read} reads");
         }
-        let mut source = MemorySource::new(b"abc".to_vec(alloc)?, 1, [5].to_vec(alloc)?);
-        assert_eq!(rt; read_all(alloc, &mut source, 3)?.as_slice(), b"abc".as_slice());
-        let mut source = SureSource::new(b"abc".to_vec(alloc)?, 2);
-        assert_eq!(rt; read_all(alloc, &mut source, 3)?.as_slice(), b"abc".as_slice());
         Ok(())
     }
 
     #[test]
     fn takes_one_byte_beyond_the_limit(rt: HostRuntime) -> Result<(), Fail> {
-        let alloc = rt.alloc();
-        for (limit, rest) in [(0, "bcd"), (1, "cd"), (2, "d"), (3, "")] {
-            let mut source = MemorySource::new(b"abcd".to_vec(alloc)?, 9, Vec::new(alloc));
-            let first = read_all(alloc, &mut source, limit).err();
+        let text = b"abc".as_slice();
+        for limit in 0..3 {
+            let mut source = source(rt.alloc(), 9, 0)?;
+            let first = read_all(rt.alloc(), &mut source, limit).err();
             assert_eq!(rt; first, Some(InputFault::TooLong), "at {limit}");
-            let second = read_all(alloc, &mut source, 3)?;
-            assert_eq!(rt; second.as_slice(), rest.as_bytes(), "at {limit}");
+            let rest = read_all(rt.alloc(), &mut source, 3)?;
+            assert_eq!(rt; rest.as_slice(), &text[limit + 1..], "at {limit}");
         }
+        Ok(())
+    }
+
+    #[test]
+    fn reads_to_the_limit(rt: HostRuntime) -> Result<(), Fail> {
+        let bytes = b"abc".to_vec(rt.alloc())?;
+        let text = read_all(rt.alloc(), &mut SureSource::new(bytes, 2), 3)?;
+        assert_eq!(rt; text.as_slice(), b"abc".as_slice());
         Ok(())
     }
 }

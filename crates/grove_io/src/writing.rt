@@ -32,23 +32,24 @@ mod tests {
     use crate::MemorySink;
     use std::test::Fail;
 
-    // At four bytes a call, three calls write ten bytes.
+    // At four bytes a call, three calls write ten bytes. A fourth call is never made.
     #[test]
     fn keeps_what_was_written_before_a_fault(rt: HostRuntime) -> Result<(), Fail> {
-        let alloc = rt.alloc();
-        let rows = [
-            (1, Err(Failed), ""),
-            (2, Err(Failed), "0123"),
-            (3, Err(Failed), "01234567"),
-            (4, Ok(()), "0123456789"),
-        ];
-        for (failing, result, taken) in rows {
-            let mut sink = MemorySink::new(alloc, 10, 4, [failing].to_vec(alloc)?)?;
-            assert_eq!(rt; write_out(&mut sink, b"0123456789"), result, "at call {failing}");
-            assert_eq!(rt; sink.taken(), taken.as_bytes(), "at call {failing}");
+        let text = b"0123456789".as_slice();
+        for writes in 0..3 {
+            let failing = [writes as u64 + 1].to_vec(rt.alloc())?;
+            let mut sink = MemorySink::new(rt.alloc(), 10, 4, failing)?;
+            assert_eq!(rt; write_out(&mut sink, text), Err(Failed), "after {writes} writes");
+            assert_eq!(rt; sink.taken(), &text[..4 * writes], "after {writes} writes");
         }
-        let mut sink = MemorySink::new(alloc, 9, 4, Vec::new(alloc))?;
-        assert_eq!(rt; write_out(&mut sink, b"0123456789"), Err(Failed));
+        Ok(())
+    }
+
+    #[test]
+    fn writes_until_the_room_is_full(rt: HostRuntime) -> Result<(), Fail> {
+        let mut sink = MemorySink::new(rt.alloc(), 9, 4, Vec::new(rt.alloc()))?;
+        assert_eq!(rt; write_out(&mut sink, b"01234567"), Ok(()));
+        assert_eq!(rt; write_out(&mut sink, b"89"), Err(Failed));
         assert_eq!(rt; sink.taken(), b"012345678".as_slice());
         Ok(())
     }
