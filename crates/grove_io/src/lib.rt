@@ -1,8 +1,6 @@
-//! The outside of the program: where its bytes come from and where they go.
-//!
-//! A `Source` gives bytes and a `Sink` takes them. Each may fail at any call, and counts its faults.
-//! There are sources and sinks in memory, and adapters over std's readers and writers. `read_all` reads
-//! a whole source, and `write_out` writes all of some bytes.
+//! The outside of the program: a `Source` gives bytes and a `Sink` takes them, and each counts its faults.
+//! There are sources and sinks in memory, and adapters over std's readers and writers.
+//! `read_all` reads a source to its end, and `write_out` writes all of some bytes.
 #![tactic(auto)]
 
 mod calls;

@@ -26,12 +26,13 @@ impl Model for MemorySink {
     ghost Value = { SinkState };
 
     ghost view = { λ s. record {
-        taken = s.bytes.items;
-        room = s.room;
-        piece = s.piece;
-        failing = s.calls.failing.items;
-        calls = s.calls.made;
-        faults = s.calls.faults } };
+      taken = s.bytes.items;
+      room = s.room;
+      piece = s.piece;
+      failing = s.calls.failing.items;
+      calls = s.calls.made;
+      faults = s.calls.faults;
+    } };
 
     ghost invariant = { λ s. (length s.bytes.items ≤ s.room) × (s.room ≤ vec_capacity s.bytes) × (1 ≤ s.piece) };
 }

@@ -20,11 +20,12 @@ impl Model for MemorySource {
     ghost Value = { SourceState };
 
     ghost view = { λ s. record {
-        left = s.source.left;
-        piece = s.source.piece;
-        failing = s.calls.failing.items;
-        calls = s.calls.made;
-        faults = s.calls.faults } };
+      left = s.source.left;
+      piece = s.source.piece;
+      failing = s.calls.failing.items;
+      calls = s.calls.made;
+      faults = s.calls.faults;
+    } };
 }
 
 impl MemorySource {

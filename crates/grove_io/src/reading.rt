@@ -10,7 +10,11 @@ const FIRST_ROOM: usize = 64 * 1024;
 /// Reads a source to its end. It never takes more than `limit + 1` bytes.
 ///
 /// `TooLong` comes where the source gave one byte more than `limit`, and `ReadFault` where a read failed.
-pub fn read_all<S: Source>(alloc: Global, source: &mut S, limit: usize) -> Result<Vec<u8>, InputFault>
+pub fn read_all<S: Source>(
+    alloc: Global,
+    source: &mut S,
+    limit: usize,
+) -> Result<Vec<u8>, InputFault>
     requires { limit < 2 ^ 32 }
 
     ensures whole { IfOk result (λ text. IfSome (S.left source.old) (λ left. text.items ≡ left)) }

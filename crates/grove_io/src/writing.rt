@@ -39,7 +39,11 @@ mod tests {
         for writes in 0..3 {
             let failing = [writes as u64 + 1].to_vec(rt.alloc())?;
             let mut sink = MemorySink::new(rt.alloc(), 10, 4, failing)?;
-            assert_eq!(rt; write_out(&mut sink, text), Err(Failed), "after {writes} writes");
+            assert_eq!(rt;
+                write_out(&mut sink, text),
+                Err(Failed),
+                "after {writes} writes"
+            );
             assert_eq!(rt; sink.taken(), &text[..4 * writes], "after {writes} writes");
         }
         Ok(())

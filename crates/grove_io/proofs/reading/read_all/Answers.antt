@@ -15,4 +15,5 @@ loop-filled-preserved g c =
       gave = rw text (Gave-take _ _ _ c.loop-filled.text.items c.read_behind.new.text c.loop-filled.filled c.in_ok-count.count before.gave front read.gave);
       never_falls = search rules;
       stays_sure = λ sure. c.read_behind.ensures.stays_sure (before.stays_sure sure);
-      no_fault = λ sure. c.read_behind.ensures.no_fault (before.stays_sure sure) ∙ before.no_fault sure }
+      no_fault = λ sure. c.read_behind.ensures.no_fault (before.stays_sure sure) ∙ before.no_fault sure;
+    }

@@ -10,7 +10,8 @@ invariant-loop-filled g l = record {
   gave : Gave (g.S.Source.left l.initial.source) (take l.filled (vec_items l.text)) (g.S.Source.left l.source);
   never_falls : g.S.Source.faults l.initial.source ≤ g.S.Source.faults l.source;
   stays_sure : g.S.Source.never_fails l.initial.source → g.S.Source.never_fails l.source;
-  no_fault : g.S.Source.never_fails l.initial.source → g.S.Source.faults l.source ≡ g.S.Source.faults l.initial.source }
+  no_fault : g.S.Source.never_fails l.initial.source → g.S.Source.faults l.source ≡ g.S.Source.faults l.initial.source;
+}
 
 abbrev pub decreases-loop-filled : goal.decreases-loop-filled
 decreases-loop-filled g l = l.limit + 1 - l.filled

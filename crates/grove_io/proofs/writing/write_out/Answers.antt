@@ -11,6 +11,7 @@ loop-written-preserved g c =
       took = Took-take _ _ _ c.args.bytes.now c.loop-written.written c.in_ok-written.field-0 before.took written.took;
       never_falls = search rules;
       stays_sure = λ room sure fits.
-        let rest : room - (c.loop-written.written + c.in_ok-written.field-0) ≡ room - c.loop-written.written - c.in_ok-written.field-0 = omega arith in
-        rw rest (written.stays_sure (room - c.loop-written.written) (before.stays_sure room sure fits) (search rules));
-      no_fault = λ room sure fits. c.write.ensures.no_fault (room - c.loop-written.written) (before.stays_sure room sure fits) (search rules) ∙ before.no_fault room sure fits }
+          let rest : room - (c.loop-written.written + c.in_ok-written.field-0) ≡ room - c.loop-written.written - c.in_ok-written.field-0 = omega arith in
+          rw rest (written.stays_sure (room - c.loop-written.written) (before.stays_sure room sure fits) (search rules));
+      no_fault = λ room sure fits. c.write.ensures.no_fault (room - c.loop-written.written) (before.stays_sure room sure fits) (search rules) ∙ before.no_fault room sure fits;
+    }

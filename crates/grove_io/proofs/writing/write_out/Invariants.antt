@@ -9,7 +9,8 @@ invariant-loop-written g l = record {
   took : Took (g.K.Sink.taken l.initial.sink) (take l.written l.bytes) (g.K.Sink.taken l.sink);
   never_falls : g.K.Sink.faults l.initial.sink ≤ g.K.Sink.faults l.sink;
   stays_sure : (room : ℕ) → g.K.Sink.never_fails l.initial.sink room → length l.bytes ≤ room → g.K.Sink.never_fails l.sink (room - l.written);
-  no_fault : (room : ℕ) → g.K.Sink.never_fails l.initial.sink room → length l.bytes ≤ room → g.K.Sink.faults l.sink ≡ g.K.Sink.faults l.initial.sink }
+  no_fault : (room : ℕ) → g.K.Sink.never_fails l.initial.sink room → length l.bytes ≤ room → g.K.Sink.faults l.sink ≡ g.K.Sink.faults l.initial.sink;
+}
 
 abbrev pub decreases-loop-written : goal.decreases-loop-written
 decreases-loop-written g l = length l.bytes - l.written

@@ -6,4 +6,5 @@ use Rattle.grove_io.proofs.writer_sink.WriterSinkSink.write.Given as goal
 abbrev pub invariant-loop-tries : goal.invariant-loop-tries
 invariant-loop-tries g l = record {
   never_falls : l.initial.self-inside.faults ≤ l.self-inside.faults;
-  risen : 0 < l._tries → HasRisen l.initial.self-inside.faults l.self-inside.faults }
+  risen : 0 < l._tries → HasRisen l.initial.self-inside.faults l.self-inside.faults;
+}
