@@ -1,5 +1,5 @@
 -- One call after another: what both moved, and that the count of faults has risen since the first.
-use Rattle.std.proofs.Common.{◌≡◌, ◌<◌, ◌≤◌, ◌+◌, ◌-◌, ℕ, List, ◌++◌, Option, None, Some, arith, refl, ap, ◌∙◌, sym, inl, inr, length, take, drop, append_assoc}
+use Rattle.std.proofs.Common.{◌≡◌, ◌≤◌, ◌+◌, ◌-◌, ℕ, List, ◌++◌, Option, None, Some, arith, inl, inr, length, take, drop, append_assoc}
 use Rattle.std.proofs.Math.Seq.{take-add}
 use Rattle.std.proofs.lemmas.List.{take_rest}
 use Rattle.grove_io.specs.Outside.{Gave, Took, HasRisen}

@@ -1,12 +1,14 @@
 // A source over a reader of std.
-ghost use Rattle.std.specs.Prelude.{◌≡◌, None};
+ghost use Rattle.std.specs.Prelude.{◌≡◌, ◌≤◌, None, length, IfOk, OnErr};
+ghost use Rattle.std.specs.Io.KnownBytes.{ReadConsumes};
+ghost use Rattle.grove_io.specs.Outside.{HasRisen};
+ghost use Rattle.grove_io.specs.ReaderSource.{errors_of, reader_of};
 
 use crate::{Failed, Source};
 use std::io::{ErrorKind, Read};
-use std::marker::Model;
 
-/// Reads through a reader of std, as standard input. It tells no bytes, and is seen as its count of faults:
-/// how often the reader has answered an error.
+/// Reads through a reader of std, as standard input. It tells no bytes. Its count of faults is how often the
+/// reader has answered an error.
 ///
 /// An error of the kind `Interrupted` is no end of the reading, as in std: it is counted, and the read is tried
 /// again in the same call.
@@ -16,18 +18,11 @@ pub struct ReaderSource<R> {
     faults: u64,
 }
 
-impl<R> Model for ReaderSource<R> {
-    ghost use Rattle.std.specs.Prelude.{ℕ};
-
-    ghost Value = { ℕ };
-
-    ghost view = { λ s. s.faults };
-}
-
 impl<R: Read> ReaderSource<R> {
     /// The count of faults begins at 0.
     pub fn new(reader: R) -> Self
-        ensures no_faults { result ≡ 0 }
+        ensures reader { reader_of result ≡ reader }
+        ensures no_error { errors_of result ≡ 0 }
     {
         ReaderSource { reader, faults: 0 }
     }
@@ -36,9 +31,16 @@ impl<R: Read> ReaderSource<R> {
 impl<R: Read> Source for ReaderSource<R> {
     ghost left = { λ _. None };
 
-    ghost faults = { λ s. s };
+    ghost faults = { errors_of };
 
-    fn read(&mut self, out: &mut [u8]) -> Result<usize, Failed> {
+    // What the reader knows of its bytes holds through the source too.
+    fn read(&mut self, out: &mut [u8]) -> Result<usize, Failed>
+        ensures within { IfOk result (λ count. count ≤ length out.new) }
+        ensures bytes { ReadConsumes (R.remaining (reader_of self.old)) (R.remaining (reader_of self.new))
+            result out.new }
+        ensures never_falls { errors_of self.old ≤ errors_of self.new }
+        ensures cause { OnErr result (HasRisen (errors_of self.old) (errors_of self.new)) }
+    {
         for _tries in 0..u64::MAX {
             match self.reader.read(out) {
                 Ok(count) => return Ok(count),

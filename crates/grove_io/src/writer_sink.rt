@@ -1,12 +1,14 @@
 // A sink over a writer of std.
-ghost use Rattle.std.specs.Prelude.{◌≡◌, None};
+ghost use Rattle.std.specs.Prelude.{◌≡◌, ◌<◌, ◌≤◌, None, length, IfOk, OnErr};
+ghost use Rattle.std.specs.Io.KnownBytes.{WriteAppends};
+ghost use Rattle.grove_io.specs.Outside.{HasRisen};
+ghost use Rattle.grove_io.specs.WriterSink.{errors_of, writer_of};
 
 use crate::{Failed, Sink};
 use std::io::{ErrorKind, Write};
-use std::marker::Model;
 
-/// Writes through a writer of std, as standard output. It tells no bytes, and is seen as its count of faults:
-/// how often the writer has answered an error, or has taken nothing of a piece that was not empty.
+/// Writes through a writer of std, as standard output. It tells no bytes. Its count of faults is how often the
+/// writer has answered an error, or has taken nothing of a piece that was not empty.
 ///
 /// An error of the kind `Interrupted` is no end of the writing, as in std: it is counted, and the write is tried
 /// again in the same call. It flushes nothing, so the writer is to keep no bytes back.
@@ -16,18 +18,11 @@ pub struct WriterSink<W> {
     faults: u64,
 }
 
-impl<W> Model for WriterSink<W> {
-    ghost use Rattle.std.specs.Prelude.{ℕ};
-
-    ghost Value = { ℕ };
-
-    ghost view = { λ s. s.faults };
-}
-
 impl<W: Write> WriterSink<W> {
     /// The count of faults begins at 0.
     pub fn new(writer: W) -> Self
-        ensures no_faults { result ≡ 0 }
+        ensures writer { writer_of result ≡ writer }
+        ensures no_error { errors_of result ≡ 0 }
     {
         WriterSink { writer, faults: 0 }
     }
@@ -36,9 +31,17 @@ impl<W: Write> WriterSink<W> {
 impl<W: Write> Sink for WriterSink<W> {
     ghost taken = { λ _. None };
 
-    ghost faults = { λ s. s };
+    ghost faults = { errors_of };
 
-    fn write(&mut self, piece: &[u8]) -> Result<usize, Failed> {
+    // What the writer knows of its bytes holds through the sink too.
+    fn write(&mut self, piece: &[u8]) -> Result<usize, Failed>
+        ensures within { IfOk result (λ count. count ≤ length piece.now) }
+        ensures bytes { WriteAppends (W.contents (writer_of self.old)) (W.contents (writer_of self.new))
+            result piece.now }
+        ensures progress { IfOk result (λ count. 0 < length piece.now → 0 < count) }
+        ensures never_falls { errors_of self.old ≤ errors_of self.new }
+        ensures cause { OnErr result (HasRisen (errors_of self.old) (errors_of self.new)) }
+    {
         for _tries in 0..u64::MAX {
             match self.writer.write(piece) {
                 Ok(count) if count > 0 || piece.is_empty() => return Ok(count),
