@@ -24,9 +24,9 @@ pub fn read_all<S: Source>(
 
     ensures too_long { IsErrOf result InputFault.TooLong
         → (given : List ℕ) × (length given ≡ limit + 1) × Gave (S.left source.old) given (S.left source.new) }
-    ensures beyond_the_limit { IsErrOf result InputFault.TooLong
+    ensures too_long_where_told { IsErrOf result InputFault.TooLong
         → IfSome (S.left source.old) (λ left. limit < length left) }
-    ensures otherwise_within_it { result ≢ Err InputFault.TooLong
+    ensures else_within_limit { result ≢ Err InputFault.TooLong
         → (given : List ℕ) × (length given ≤ limit) × Gave (S.left source.old) given (S.left source.new) }
 
     ensures cause { IsErrOf result InputFault.ReadFault → HasRisen (S.faults source.old) (S.faults source.new) }
