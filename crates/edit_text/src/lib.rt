@@ -17,3 +17,6 @@ pub use no_memory::NoMemory;
 pub use text::read_edits;
 pub use text_fault::TextFault;
 pub use write::{write_edits, write_line};
+
+#[cfg(test)]
+mod tests;
