@@ -1,3 +1,3 @@
 pub mod OneDue
-pub mod WordsAre
 pub mod Statuses
+pub mod WordsAre

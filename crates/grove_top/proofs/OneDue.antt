@@ -44,9 +44,11 @@ no_fault_by edits line fault (inl rest) = no_rest edits line rest.1
 no_fault_by edits line fault (inr bad) = not_malformed edits line bad.0 bad.2
 
 -- the text of edits has none
-no_fault : (text merged : List ℕ) (line : ℕ) (fault : Fault) → IsMerged text merged → IsFirstFault text line fault → ⊥
-no_fault text merged line fault is_merged h =
-    no_fault_by is_merged.edits line fault (fault_split (text_of is_merged.edits) line fault (subst (λ (t : List ℕ). IsFirstFault t line fault) is_merged.spelled h))
+pub no_fault : (edits : List Edit) (line : ℕ) (fault : Fault) → IsFirstFault (text_of edits) line fault → ⊥
+no_fault edits line fault h = no_fault_by edits line fault (fault_split (text_of edits) line fault h)
+
+merged_or_fault : (text merged : List ℕ) (line : ℕ) (fault : Fault) → IsMerged text merged → IsFirstFault text line fault → ⊥
+merged_or_fault text merged line fault is_merged h = no_fault is_merged.edits line fault (subst (λ (t : List ℕ). IsFirstFault t line fault) is_merged.spelled h)
 
 -- texts that spell the same edits merge to the same text
 pub merged_alike : (a b : List Edit) (x y : List ℕ) → HasSameEdits a b → IsMerged (text_of a) x → IsMerged (text_of b) y → x ≡ y
@@ -70,13 +72,13 @@ malformed_alike m n f g e d = (ap (λ k. Malformed k f) e ∙ ap (Malformed n) d
 
 one_merge_due : (text x y : List ℕ) (s t : Status) → IsMergeDue text s x → IsMergeDue text t y → (s ≡ t) × (x ≡ y)
 one_merge_due text x y Done Done a b = (refl, one_merged text x y a.1 b.1)
-one_merge_due text x y Done (Malformed n g) a b = absurd (no_fault text x n g a.1 b.1)
+one_merge_due text x y Done (Malformed n g) a b = absurd (merged_or_fault text x n g a.1 b.1)
 one_merge_due text x y Done TooLong a b = let short = a.0 in let long = b.0 in absurd (omega arith)
 one_merge_due text x y Done Usage a b = absurd b
 one_merge_due text x y Done ReadFault a b = absurd b
 one_merge_due text x y Done WriteFault a b = absurd b
 one_merge_due text x y Done NoMemory a b = absurd b
-one_merge_due text x y (Malformed m f) Done a b = absurd (no_fault text y m f b.1 a.1)
+one_merge_due text x y (Malformed m f) Done a b = absurd (merged_or_fault text y m f b.1 a.1)
 one_merge_due text x y (Malformed m f) (Malformed n g) a b =
     let both = one_fault text m n f g a.1 b.1 in
     let alike = malformed_alike m n f g both.0 both.1 in
