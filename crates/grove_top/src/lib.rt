@@ -13,3 +13,6 @@ pub use laws::{one_text_is_due, same_edits_same_text};
 pub use limit::MOST_BYTES;
 pub use outcome::{Fault, Outcome, Status};
 pub use top::run;
+
+#[cfg(test)]
+mod tests;
