@@ -1,0 +1,117 @@
+ghost use Rattle.std.specs.Prelude.{◌≡◌, [], ◌∷◌, ◌++◌, Some, None, IsOk, ◌↔◌, IfOk, IfErr, OnOk, OnErr, Err};
+ghost use Rattle.text_parts.specs.Separated.{Lacks};
+ghost use Rattle.edit_text.specs.declared.line_fault.LineFault.{LineFault};
+ghost use Rattle.edit_stream.specs.declared.feed_fault.FeedFault.TheVariants.{Malformed};
+ghost use Rattle.edit_stream.specs.Stream.{fresh, next_line, HasFed};
+ghost use Rattle.edit_stream.specs.Fault.{IsFeedFault, IfMalformed, IfNoMemory, IsFinishFault};
+
+use crate::feed_fault::FeedFault;
+use crate::finish_fault::FinishFault;
+use crate::reading::read_lines;
+use edit_text::LineFault;
+use grove_edits::EditList;
+use std::alloc::Global;
+use std::marker::Model;
+use text_parts::split_at_first;
+
+/// The text of edits as it comes in pieces: the bytes behind the last LF, how many lines were ended, and the first fault.
+#[derive(Drop)]
+pub struct EditStream {
+    alloc: Global,
+    kept: Vec<u8>,
+    lines: u64,
+    fault: Option<LineFault>,
+}
+
+impl Model for EditStream {
+    ghost use Rattle.text_parts.specs.Separated.{Lacks};
+    ghost use Rattle.edit_stream.specs.Stream.{StreamState};
+
+    ghost Value = { StreamState };
+
+    ghost view = { λ stream. record { kept = stream.kept.items; lines = stream.lines; fault = stream.fault } };
+
+    ghost invariant = { λ stream. Lacks 10 stream.kept.items };
+}
+
+impl EditStream {
+    /// A stream that has taken nothing. It takes no memory.
+    pub fn new(alloc: Global) -> EditStream
+        ensures fresh { result ≡ fresh }
+    {
+        EditStream {
+            alloc,
+            kept: Vec::new(alloc),
+            lines: 0,
+            fault: None,
+        }
+    }
+
+    /// Appends the edits of the lines that the piece ends, up to the first bad one. That line is answered again by each later feed, which then appends nothing.
+    pub fn feed(&mut self, piece: &[u8], out: &mut EditList) -> Result<(), FeedFault>
+        ensures fed { OnOk result (HasFed self.old piece.now self.new out.old out.new) }
+        ensures good { OnOk result (self.new.fault ≡ None) }
+        ensures fed_up_to_fault { IfErr result (λ fault. IfMalformed fault (HasFed self.old piece.now self.new out.old out.new)) }
+        ensures first_fault { IfErr result (IsFeedFault self.new) }
+        ensures unchanged { IfErr result (λ fault. IfNoMemory fault ((self.new ≡ self.old) × (out.new ≡ out.old))) }
+        ensures again { (fault : LineFault) → self.old.fault ≡ Some fault
+            → (result ≡ Err (Malformed (next_line self.old) fault)) × (self.new ≡ self.old) × (out.new ≡ out.old) }
+    {
+        if let Some(fault) = self.fault {
+            let line = self.lines.saturating_add(1);
+            return Err(FeedFault::Malformed { line, fault });
+        }
+        match split_at_first(piece, b'\n') {
+            Some((end, rest)) => self.end_line(end, rest, out),
+            None => {
+                self.kept.extend_from_slice(piece)?;
+                Ok(())
+            }
+        }
+    }
+
+    // Feeds a piece that has an LF, which `end` stands before and `rest` behind.
+    fn end_line(
+        &mut self,
+        end: &[u8],
+        rest: &[u8],
+        out: &mut EditList,
+    ) -> Result<(), FeedFault>
+        requires good { self.old.fault ≡ None }
+        requires one_line { Lacks 10 end.now }
+        ensures fed { OnOk result (HasFed self.old (end.now ++ 10 ∷ rest.now) self.new out.old out.new) }
+        ensures good { OnOk result (self.new.fault ≡ None) }
+        ensures fed_up_to_fault { IfErr result (λ fault. IfMalformed fault (HasFed self.old (end.now ++ 10 ∷ rest.now) self.new out.old out.new)) }
+        ensures first_fault { IfErr result (IsFeedFault self.new) }
+        ensures unchanged { IfErr result (λ fault. IfNoMemory fault ((self.new ≡ self.old) × (out.new ≡ out.old))) }
+    {
+        let reading = read_lines(self.alloc, &self.kept, end, rest)?;
+        out.extend_from_slice(reading.edits.as_slice())?;
+        self.lines = self.lines.saturating_add(reading.edits.len() as u64);
+        self.kept = reading.kept;
+        self.fault = reading.fault;
+        match self.fault {
+            None => Ok(()),
+            Some(fault) => {
+                let line = self.lines.saturating_add(1);
+                Err(FeedFault::Malformed { line, fault })
+            }
+        }
+    }
+
+    /// Whether the whole text was lines of edits, each ended by an LF.
+    pub fn finish(self) -> Result<(), FinishFault>
+        ensures whole { IsOk result ↔ ((self.fault ≡ None) × (self.kept ≡ [])) }
+        ensures first_fault { IfErr result (IsFinishFault self) }
+    {
+        let line = self.lines.saturating_add(1);
+        if let Some(fault) = self.fault {
+            return Err(FinishFault::Malformed { line, fault });
+        }
+        if self.kept.is_empty() {
+            Ok(())
+        } else {
+            Err(FinishFault::Rest { line })
+        }
+    }
+}

@@ -1,0 +1,95 @@
+ghost use Rattle.std.specs.Prelude.{◌≡◌, [], ◌∷◌, ◌++◌, Some, IfOk, IfErr};
+ghost use Rattle.text_parts.specs.Separated.{Lacks};
+ghost use Rattle.edit_text.specs.Line.{Spells, HasFault};
+ghost use Rattle.edit_text.specs.Text.{text_of};
+ghost use Rattle.edit_stream.specs.Stream.{Reads};
+
+use crate::no_memory::NoMemory;
+use edit_text::{LineFault, read_line};
+use grove_edits::{Edit, EditList};
+use std::alloc::Global;
+use text_parts::split_at_first;
+
+/// What the ended lines of a text give: their edits up to the first bad line, its fault if there is one, and else the bytes behind the last LF.
+#[derive(Drop)]
+pub(crate) struct Reading {
+    pub(crate) edits: EditList,
+    pub(crate) kept: Vec<u8>,
+    pub(crate) fault: Option<LineFault>,
+}
+
+impl Reading {
+    // The reading of a text that goes wrong behind the lines of these edits.
+    fn stopped(alloc: Global, edits: EditList, fault: LineFault) -> Reading
+        ensures edits { result.edits ≡ edits }
+        ensures nothing { result.kept.items ≡ [] }
+        ensures fault { result.fault ≡ Some fault }
+    {
+        Reading {
+            edits,
+            kept: Vec::new(alloc),
+            fault: Some(fault),
+        }
+    }
+}
+
+/// Reads a text whose first line ends with `end` and begins with kept bytes; `rest` stands behind its LF.
+pub(crate) fn read_lines(
+    alloc: Global,
+    kept: &[u8],
+    end: &[u8],
+    rest: &[u8],
+) -> Result<Reading, NoMemory>
+    requires one_line { Lacks 10 (kept.now ++ end.now) }
+    ensures reads { IfOk result (λ reading. Reads (kept.now ++ (end.now ++ 10 ∷ rest.now)) reading.edits reading.kept.items reading.fault) }
+{
+    let mut edits = EditList::new(alloc);
+    match read_joined_line(alloc, kept, end)? {
+        Err(fault) => Ok(Reading::stopped(alloc, edits, fault)),
+        Ok(edit) => {
+            edits.push(edit)?;
+            read_more_lines(alloc, edits, rest)
+        }
+    }
+}
+
+// A line that no cut falls into is read where it stands.
+fn read_joined_line(
+    alloc: Global,
+    kept: &[u8],
+    end: &[u8],
+) -> Result<Result<Edit, LineFault>, NoMemory>
+    ensures edit { IfOk result (λ read. IfOk read (Spells (kept.now ++ end.now))) }
+    ensures first_fault { IfOk result (λ read. IfErr read (HasFault (kept.now ++ end.now))) }
+{
+    if kept.is_empty() {
+        return Ok(read_line(end));
+    }
+    let mut line = Vec::from_slice(alloc, kept)?;
+    line.extend_from_slice(end)?;
+    Ok(read_line(&line))
+}
+
+// The reading of the lines of edits with a text behind them.
+fn read_more_lines(
+    alloc: Global,
+    mut edits: EditList,
+    text: &[u8],
+) -> Result<Reading, NoMemory>
+    ensures reads { IfOk result (λ reading. Reads (text_of edits ++ text.now) reading.edits reading.kept.items reading.fault) }
+{
+    let mut rest = text;
+    while let Some((line, after)) = split_at_first(rest, b'\n') {
+        match read_line(line) {
+            Err(fault) => return Ok(Reading::stopped(alloc, edits, fault)),
+            Ok(edit) => edits.push(edit)?,
+        }
+        rest = after;
+    }
+    let kept = Vec::from_slice(alloc, rest)?;
+    Ok(Reading {
+        edits,
+        kept,
+        fault: None,
+    })
+}
