@@ -1,16 +1,16 @@
 -- What the pieces of a text give one after the other: where they are cut does not matter.
-use Rattle.std.proofs.Common.{◌≡◌, ◌≢◌, ℕ, ◌+◌, ◌-◌, ◌^◌, ◌≤◌, ◌<◌, min, List, [], ◌∷◌, ◌++◌, length, Option, Some, None, refl, sym, ap, subst, ◌∙◌, append_assoc, append-nil, arith, length-append}
+use Rattle.std.proofs.Common.{◌≡◌, ℕ, ◌+◌, List, [], ◌∷◌, ◌++◌, length, Option, Some, None, refl, sym, ap, subst, ◌∙◌, append_assoc, append-nil, arith, length-append}
 use Rattle.std.proofs.lemmas.Grind.{flat_map-append}
 use Rattle.std.specs.List.{flat_map}
 use Rattle.text_parts.specs.Separated.{Lacks}
-use Rattle.text_parts.proofs.Parts.{Lacks-append, Lacks-separated, first_part}
+use Rattle.text_parts.proofs.Parts.{Lacks-separated, first_part}
 use Rattle.grove_edits.specs.declared.edit.Edit.{Edit}
 use Rattle.edit_text.specs.declared.line_fault.LineFault.{LineFault}
 use Rattle.edit_text.specs.Line.{HasFault}
-use Rattle.edit_text.specs.Text.{line_of, text_of, IsMalformed, HasRest}
+use Rattle.edit_text.specs.Text.{line_of, text_of}
 use Rattle.edit_text.proofs.Lines.{one_fault}
 use Rattle.edit_text.proofs.TextsOfEdits.{BeginsNoLine-unended, BeginsNoLine-bad, same_edits}
-use Rattle.edit_stream.specs.Stream.{StreamState, fresh, line_count, next_line, Leaves, StopsAt, Reads, FeedsBy, Feeds, HasFed, FeedsAll}
+use Rattle.edit_stream.specs.Stream.{StreamState, fresh, line_count, Leaves, StopsAt, Reads, FeedsBy, Feeds, FeedsAll}
 
 -- ---- streams
 
@@ -73,19 +73,19 @@ left_then text more xs ys kept rest left then =
 read_on : (text more : List ℕ) (xs ys : List Edit) (kept k : List ℕ) (f : Option LineFault) → Leaves text xs kept → Reads (kept ++ more) ys k f → Reads (text ++ more) (xs ++ ys) k f
 read_on text more xs ys kept k None a b = record { parts = left_then text more xs ys kept k a.parts b.parts; unended = b.unended }
 read_on text more xs ys kept k (Some f) a b = (
-    record { bad = b.0.bad; after = b.0.after; parts = left_then text more xs ys kept (b.0.bad ++ 10 ∷ b.0.after) a.parts b.0.parts; one_line = b.0.one_line; has_fault = b.0.has_fault },
-    b.1,
-  )
+  record { bad = b.0.bad; after = b.0.after; parts = left_then text more xs ys kept (b.0.bad ++ 10 ∷ b.0.after) a.parts b.0.parts; one_line = b.0.one_line; has_fault = b.0.has_fault },
+  b.1,
+)
 
 stopped : (text more : List ℕ) (xs : List Edit) (f : LineFault) → StopsAt text xs f → StopsAt (text ++ more) xs f
 stopped text more xs f a = record {
-    bad = a.bad;
-    after = a.after ++ more;
-    parts = ap (λ (t : List ℕ). t ++ more) a.parts ∙ append_assoc (text_of xs) (a.bad ++ 10 ∷ a.after) more
-        ∙ ap (λ (t : List ℕ). text_of xs ++ t) (append_assoc a.bad (10 ∷ a.after) more);
-    one_line = a.one_line;
-    has_fault = a.has_fault;
-  }
+  bad = a.bad;
+  after = a.after ++ more;
+  parts = ap (λ (t : List ℕ). t ++ more) a.parts ∙ append_assoc (text_of xs) (a.bad ++ 10 ∷ a.after) more
+      ∙ ap (λ (t : List ℕ). text_of xs ++ t) (append_assoc a.bad (10 ∷ a.after) more);
+  one_line = a.one_line;
+  has_fault = a.has_fault;
+}
 
 counted_on : (lines middle new : ℕ) (xs ys : List Edit) → middle ≡ line_count (lines + length xs) → new ≡ line_count (middle + length ys) → new ≡ line_count (lines + length (xs ++ ys))
 counted_on lines middle new xs ys a b = omega (arith, length-append xs ys)
@@ -95,7 +95,7 @@ goes_on : (old middle new : StreamState) (first second : List ℕ) (some more : 
 goes_on old middle new first second some more good a b =
     let left : Leaves (old.kept ++ first) some middle.kept = subst (Reads (old.kept ++ first) some middle.kept) good a.0 in (
       subst (λ text. Reads text (some ++ more) new.kept new.fault) (append_assoc old.kept first second)
-      (read_on (old.kept ++ first) second some more middle.kept new.kept new.fault left b.0),
+          (read_on (old.kept ++ first) second some more middle.kept new.kept new.fault left b.0),
       counted_on old.lines middle.lines new.lines some more a.1 b.1,
     )
 
@@ -105,7 +105,7 @@ stays old middle first second some fault bad a =
     let stop : Reads (old.kept ++ first) some middle.kept (Some fault) = subst (Reads (old.kept ++ first) some middle.kept) bad a.0 in
     let whole : Reads ((old.kept ++ first) ++ second) some middle.kept (Some fault) = (stopped (old.kept ++ first) second some fault stop.0, stop.1) in (
       subst (λ text. Reads text some middle.kept middle.fault) (append_assoc old.kept first second)
-      (subst (Reads ((old.kept ++ first) ++ second) some middle.kept) (sym bad) whole),
+          (subst (Reads ((old.kept ++ first) ++ second) some middle.kept) (sym bad) whole),
       a.1,
     )
 
@@ -136,7 +136,7 @@ joined_behind start old new before [] some more a b =
     (subst (λ t. Feeds start t (some ++ more) old) text (subst (λ es. Feeds start before es old) edits a))
 joined_behind start old new before (piece ∷ pieces) some more a b =
     let tail : Feeds start ((before ++ piece) ++ flat_map (λ p. p) pieces) ((some ++ b.1) ++ b.2) new =
-        joined_behind start b.0 new (before ++ piece) pieces (some ++ b.1) b.2 (joined start old b.0 before piece some b.1 a b.3) b.4 in
+    joined_behind start b.0 new (before ++ piece) pieces (some ++ b.1) b.2 (joined start old b.0 before piece some b.1 a b.3) b.4 in
     let text = append_assoc before piece (flat_map (λ p. p) pieces) in
     let edits : (some ++ b.1) ++ b.2 ≡ some ++ more = append_assoc some b.1 b.2 ∙ ap (λ (es : List Edit). some ++ es) (sym b.5) in
     subst (λ t. Feeds start t (some ++ more) new) text (subst (λ es. Feeds start ((before ++ piece) ++ flat_map (λ p. p) pieces) es new) edits tail)

@@ -1,5 +1,5 @@
 -- A piece behind the bytes that a stream keeps.
-use Rattle.std.proofs.Common.{◌≡◌, ℕ, ◌+◌, ◌-◌, ◌^◌, ◌<◌, List, [], ◌∷◌, ◌++◌, length, Option, Some, None, refl, sym, ap, subst, ◌∙◌, append_assoc, append-nil, arith}
+use Rattle.std.proofs.Common.{◌≡◌, ℕ, ◌+◌, ◌^◌, ◌<◌, List, [], ◌∷◌, ◌++◌, length, Option, Some, None, refl, sym, ap, subst, ◌∙◌, append_assoc, append-nil, arith}
 use Rattle.text_parts.specs.Separated.{Lacks}
 use Rattle.text_parts.proofs.Parts.{Lacks-append}
 use Rattle.grove_edits.specs.declared.edit.Edit.{Edit}
@@ -7,7 +7,7 @@ use Rattle.edit_text.specs.declared.line_fault.LineFault.{LineFault}
 use Rattle.edit_text.specs.Line.{Spells, HasFault}
 use Rattle.edit_text.specs.Text.{text_of}
 use Rattle.edit_text.proofs.MoreLines.{line_read}
-use Rattle.edit_stream.specs.Stream.{StreamState, line_count, StopsAt, Reads, FeedsBy, Feeds, HasFed}
+use Rattle.edit_stream.specs.Stream.{StreamState, line_count, StopsAt, Reads, FeedsBy, HasFed}
 
 -- the line that the kept bytes begin has a fault
 pub stops_first : (kept end rest k : List ℕ) (edits : List Edit) (f : Option LineFault) (fault : LineFault) → Lacks 10 (kept ++ end) → HasFault (kept ++ end) fault
@@ -16,7 +16,7 @@ stops_first kept end rest k edits f fault one_line has no_edits nothing is =
     let parts : kept ++ (end ++ 10 ∷ rest) ≡ text_of [] ++ ((kept ++ end) ++ 10 ∷ rest) = sym (append_assoc kept end (10 ∷ rest)) in
     subst (Reads (kept ++ (end ++ 10 ∷ rest)) edits k) (sym is) (
       subst (λ es. StopsAt (kept ++ (end ++ 10 ∷ rest)) es fault) (sym no_edits)
-      (record { bad = kept ++ end; after = rest; parts = parts; one_line = one_line; has_fault = has }),
+          (record { bad = kept ++ end; after = rest; parts = parts; one_line = one_line; has_fault = has }),
       nothing,
     )
 
@@ -33,9 +33,9 @@ no_lines lines fits = omega arith
 fed_by : (fault : Option LineFault) (old new : StreamState) (piece : List ℕ) → fault ≡ None → old.lines < 2 ^ 64 → new.kept ≡ old.kept ++ piece → new.lines ≡ old.lines
     → new.fault ≡ None → Lacks 10 (old.kept ++ piece) → FeedsBy fault old piece [] new
 fed_by None old new piece good fits kept lines still unended = (
-    subst (Reads (old.kept ++ piece) [] new.kept) (sym still) (record { parts = sym kept; unended = subst (Lacks 10) (sym kept) unended }),
-    lines ∙ no_lines old.lines fits,
-  )
+  subst (Reads (old.kept ++ piece) [] new.kept) (sym still) (record { parts = sym kept; unended = subst (Lacks 10) (sym kept) unended }),
+  lines ∙ no_lines old.lines fits,
+)
 fed_by (Some fault) old new piece good fits kept lines still unended = absurd (cc)
 
 -- a piece with no LF is kept

@@ -58,7 +58,7 @@ impl EditStream {
             → (result ≡ Err (Malformed (next_line self.old) fault)) × (self.new ≡ self.old) × (out.new ≡ out.old) }
     {
         if let Some(fault) = self.fault {
-            let line = self.lines.saturating_add(1);
+            let line = self.next_line();
             return Err(FeedFault::Malformed { line, fault });
         }
         match split_at_first(piece, b'\n') {
@@ -71,12 +71,7 @@ impl EditStream {
     }
 
     // Feeds a piece that has an LF, which `end` stands before and `rest` behind.
-    fn end_line(
-        &mut self,
-        end: &[u8],
-        rest: &[u8],
-        out: &mut EditList,
-    ) -> Result<(), FeedFault>
+    fn end_line(&mut self, end: &[u8], rest: &[u8], out: &mut EditList) -> Result<(), FeedFault>
         requires good { self.old.fault ≡ None }
         requires one_line { Lacks 10 end.now }
         ensures fed { OnOk result (HasFed self.old (end.now ++ 10 ∷ rest.now) self.new out.old out.new) }
@@ -93,10 +88,17 @@ impl EditStream {
         match self.fault {
             None => Ok(()),
             Some(fault) => {
-                let line = self.lines.saturating_add(1);
+                let line = self.next_line();
                 Err(FeedFault::Malformed { line, fault })
             }
         }
+    }
+
+    // The number of the line behind those that were read.
+    fn next_line(&self) -> u64
+        ensures { result ≡ next_line self.now }
+    {
+        self.lines.saturating_add(1)
     }
 
     /// Whether the whole text was lines of edits, each ended by an LF.
@@ -104,7 +106,7 @@ impl EditStream {
         ensures whole { IsOk result ↔ ((self.fault ≡ None) × (self.kept ≡ [])) }
         ensures first_fault { IfErr result (IsFinishFault self) }
     {
-        let line = self.lines.saturating_add(1);
+        let line = self.next_line();
         if let Some(fault) = self.fault {
             return Err(FinishFault::Malformed { line, fault });
         }

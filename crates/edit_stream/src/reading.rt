@@ -71,11 +71,7 @@ fn read_joined_line(
 }
 
 // The reading of the lines of edits with a text behind them.
-fn read_more_lines(
-    alloc: Global,
-    mut edits: EditList,
-    text: &[u8],
-) -> Result<Reading, NoMemory>
+fn read_more_lines(alloc: Global, mut edits: EditList, text: &[u8]) -> Result<Reading, NoMemory>
     ensures reads { IfOk result (λ reading. Reads (text_of edits ++ text.now) reading.edits reading.kept.items reading.fault) }
 {
     let mut rest = text;

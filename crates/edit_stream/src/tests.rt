@@ -5,7 +5,8 @@ use std::test::Fail;
 
 #[test]
 fn a_byte_at_a_time(rt: HostRuntime) -> Result<(), Fail> {
-    let text = b"-1.2 0.0 root main 1.1 num:7\n+1.2 0.0 root main 1.1 num:7\n+1.2 0.0 root main 1.1 num:7\n+1.2 0.0 root main 1.1 num:7\n".as_slice();
+    let text =
+        b"-1.2 0.0 root main 1.1 num:7\n+1.2 0.0 root main 1.1 num:7\n+1.2 0.0 root main 1.1 num:7\n+1.2 0.0 root main 1.1 num:7\n".as_slice();
     let mut stream = EditStream::new(rt.alloc());
     let mut edits = EditList::new(rt.alloc());
     for byte in text {
@@ -24,7 +25,10 @@ fn a_bad_second_line_is_answered_again(rt: HostRuntime) {
     let mut edits = EditList::new(rt.alloc());
     assert!(rt;
         stream
-            .feed(b"+1.2 0.0 root main 1.1 num:7\n+1.3 0.0 root le", &mut edits)
+            .feed(
+                b"+1.2 0.0 root main 1.1 num:7\n+1.3 0.0 root le",
+                &mut edits
+            )
             .is_ok()
     );
     for piece in [
