@@ -1,0 +1,2 @@
+pub mod NodeEq
+pub mod NodeLemmas

@@ -1,0 +1,5 @@
+pub mod Heads
+pub mod Nodes
+pub mod Typ
+pub mod TypeTable
+pub mod TypCode

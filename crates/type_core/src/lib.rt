@@ -1,0 +1,16 @@
+//! Types by number: each type stands once in a table, keyed by the numbers of its parts, so that two numbers of one table are
+//! equal exactly where their types are. Contracts see a table as the list of its types, each a finite tree, and a type's number as
+//! its index there. Contexts, marks and everything above hold types as such numbers.
+#![tactic(auto)]
+
+mod former;
+mod heads;
+mod no_memory;
+mod node;
+mod table;
+mod type_id;
+
+pub use former::Former;
+pub use no_memory::NoMemory;
+pub use table::TypeTable;
+pub use type_id::TypeId;
