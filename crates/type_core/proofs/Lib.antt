@@ -1,2 +1,6 @@
 pub mod NodeEq
 pub mod NodeLemmas
+pub mod TypLemmas
+pub mod HeadLemmas
+pub mod PairingEq
+pub mod PairingLemmas

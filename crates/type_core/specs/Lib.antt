@@ -1,5 +1,7 @@
 pub mod Heads
+pub mod Meets
 pub mod Nodes
+pub mod Pairings
 pub mod Typ
 pub mod TypeTable
 pub mod TypCode

@@ -9,6 +9,11 @@ pub data Typ : Type 0 where
   Boolean : Typ
   Pair : (former : Former) (first second : Typ) → Typ
 
+-- a type without parts
+abbrev pub IsAtom : Typ → Type 0
+IsAtom (Pair f a b) = ⊥
+IsAtom _ = Unit {0}
+
 abbrev pub is_same_former : Former → Former → Bool
 is_same_former Arrow Arrow = true
 is_same_former Product Product = true
@@ -43,13 +48,13 @@ meet Boolean Boolean = Some Boolean
 meet (Pair f a b) (Pair g c d) = if is_same_former f g then pair_both f (meet a c) (meet b d) else None
 meet _ _ = None
 
--- s is t with unknown types in place of some of its parts, or t itself: s says no more than t
-abbrev pub is_less_precise : Typ → Typ → Bool
-is_less_precise Unknown t = true
-is_less_precise Num Num = true
-is_less_precise Boolean Boolean = true
-is_less_precise (Pair f a b) (Pair g c d) = is_same_former f g && is_less_precise a c && is_less_precise b d
-is_less_precise _ _ = false
+-- s is at least as precise as t: it is t, with types in place of some of its unknown parts
+abbrev pub is_below : Typ → Typ → Bool
+is_below s Unknown = true
+is_below Num Num = true
+is_below Boolean Boolean = true
+is_below (Pair f a b) (Pair g c d) = is_same_former f g && is_below a c && is_below b d
+is_below _ _ = false
 
 -- the sign between the parts
 abbrev pub sign : Former → List ℕ

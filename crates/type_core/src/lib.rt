@@ -3,8 +3,10 @@
 //! its index there. Contexts, marks and everything above hold types as such numbers.
 #![tactic(auto)]
 
+mod consistency;
 mod former;
 mod heads;
+mod meeting;
 mod no_memory;
 mod node;
 mod table;
