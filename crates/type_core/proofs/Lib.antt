@@ -4,3 +4,4 @@ pub mod TypLemmas
 pub mod HeadLemmas
 pub mod PairingEq
 pub mod PairingLemmas
+pub mod MeetLemmas

@@ -1,5 +1,5 @@
 -- Laws of consistency, meet and precision.
-use Rattle.std.proofs.Common.{◌≡◌, Bool, true, false, ◌&&◌, Option, None, Some, is_some, refl, sym, ap, ◌∙◌, arith, if◌then◌else◌, option_and_then}
+use Rattle.std.proofs.Common.{◌≡◌, Bool, true, false, ◌&&◌, Option, None, Some, is_some, refl, sym, ap, ◌∙◌, true≢false, if◌then◌else◌, option_and_then}
 use Rattle.std.proofs.lemmas.Bool.{false≢true}
 use Rattle.type_core.specs.declared.former.Former.{Former}
 use Rattle.type_core.specs.declared.former.Former.TheVariants.{Arrow, Product}
@@ -79,3 +79,10 @@ is_some-meet s Unknown = by s
     by Boolean = refl
     by (Pair f a b) = refl
 is_some-meet _ _ = refl
+
+none_from_is_some : (o : Option Typ) → is_some o ≡ false → o ≡ None
+none_from_is_some None h = refl
+none_from_is_some (Some t) h = absurd (true≢false h)
+
+pub meet-inconsistent : (s t : Typ) → is_consistent s t ≡ false → meet s t ≡ None
+meet-inconsistent s t h = none_from_is_some (meet s t) (is_some-meet s t ∙ h)

@@ -1,4 +1,4 @@
-ghost use Rattle.std.specs.Prelude.{◌≡◌, ◌<◌, None, Some, IfOk, IfSome, OnErr};
+ghost use Rattle.std.specs.Prelude.{◌≡◌, ◌<◌, ◌^◌, true, length, None, Some, Ok, IfOk, IfSome, OnOk};
 ghost use Rattle.std.specs.Option.{option_map};
 ghost use Rattle.type_core.specs.Typ as typ;
 ghost use Rattle.type_core.specs.TypeTable.{IsTypeOf, type_at, KeepsTypes};
@@ -108,8 +108,10 @@ fn find(met: &IndexMap<Pairing, TypeId>, pairing: Pairing) -> Option<TypeId>
 // Notes the meet of a pairing that has none.
 fn remember(met: &mut IndexMap<Pairing, TypeId>, pairing: Pairing, meet: TypeId) -> Result<(), NoMemory>
     requires { meet_in met.old.entries pairing ≡ None }
-    ensures { IfOk result (λ _. HasMeet met.old.entries pairing meet met.new.entries) }
+    ensures noted { IfOk result (λ _. HasMeet met.old.entries pairing meet met.new.entries) }
+    ensures small { OnOk result (length met.new.entries < 2 ^ 63) }
 {
     met.insert(pairing, meet)?;
+    let _count = met.len();
     Ok(())
 }
