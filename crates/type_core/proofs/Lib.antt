@@ -5,3 +5,4 @@ pub mod HeadLemmas
 pub mod PairingEq
 pub mod PairingLemmas
 pub mod MeetLemmas
+pub mod TextLemmas

@@ -10,6 +10,7 @@ mod meeting;
 mod no_memory;
 mod node;
 mod table;
+mod text;
 mod type_id;
 
 pub use former::Former;
