@@ -163,3 +163,66 @@ module _ (old new : List Node) (table : List Typ) (n : Node) (view : types_of ol
   placed_type i h here =
       type_at-types_of new placed_nodes i h ∙ ap (type_of_node (types_of new)) here
       ∙ type_of_node-same table (types_of new) n (length table) parts (λ k lt. placed_kept.types (record { 0 = k }) lt)
+
+-- a node has the form of its type
+unknown_node : (table : List Typ) (n : Node) → type_of_node table n ≡ typ.Unknown → n ≡ Unknown
+unknown_node table Unknown e = refl
+unknown_node table Num e = cc
+unknown_node table Boolean e = cc
+unknown_node table (Pair f a b) e = cc
+
+num_node : (table : List Typ) (n : Node) → type_of_node table n ≡ typ.Num → n ≡ Num
+num_node table Unknown e = cc
+num_node table Num e = refl
+num_node table Boolean e = cc
+num_node table (Pair f a b) e = cc
+
+boolean_node : (table : List Typ) (n : Node) → type_of_node table n ≡ typ.Boolean → n ≡ Boolean
+boolean_node table Unknown e = cc
+boolean_node table Num e = cc
+boolean_node table Boolean e = refl
+boolean_node table (Pair f a b) e = cc
+
+-- n has this form, and the types of its parts are these
+record HasPartTypes (table : List Typ) (n : Node) (f : Former) (s t : Typ) : Type 0 where
+  first : TypeId
+  second : TypeId
+  node : n ≡ Pair f first second
+  first_type : type_at table first ≡ s
+  second_type : type_at table second ≡ t
+
+pair_node : (table : List Typ) (n : Node) (f : Former) (s t : Typ) → type_of_node table n ≡ typ.Pair f s t → HasPartTypes table n f s t
+pair_node table Unknown f s t e = absurd (cc)
+pair_node table Num f s t e = absurd (cc)
+pair_node table Boolean f s t e = absurd (cc)
+pair_node table (Pair g a b) f s t e = record { first = a; second = b; node = cc; first_type = cc; second_type = cc }
+
+pair_nodes : (f : Former) (a b c d : TypeId) → a.0 ≡ c.0 → b.0 ≡ d.0 → Pair f a b ≡ Pair f c d
+pair_nodes f a b c d p q =
+    ap (λ k. Pair f (record { 0 = k }) b) p ∙ ap (λ k. Pair f c (record { 0 = k })) q
+
+module _ (ns : List Node) (nodes : IsTable ns) where
+  abbrev typ_at : ℕ → Typ
+  typ_at i = get_or (types_of ns) i typ.Unknown
+
+  same_place : (t : Typ) (i j : ℕ) → i < length ns → j < length ns → typ_at i ≡ t → typ_at j ≡ t → i ≡ j
+  same_place typ.Unknown i j hi hj p q =
+      nodes.once i j hi hj (unknown_node (types_of ns) (node_at ns i) (sym (type_at-types_of ns nodes i hi) ∙ p) ∙ sym (unknown_node (types_of ns) (node_at ns j) (sym (type_at-types_of ns nodes j hj) ∙ q)))
+  same_place typ.Num i j hi hj p q =
+      nodes.once i j hi hj (num_node (types_of ns) (node_at ns i) (sym (type_at-types_of ns nodes i hi) ∙ p) ∙ sym (num_node (types_of ns) (node_at ns j) (sym (type_at-types_of ns nodes j hj) ∙ q)))
+  same_place typ.Boolean i j hi hj p q =
+      nodes.once i j hi hj (boolean_node (types_of ns) (node_at ns i) (sym (type_at-types_of ns nodes i hi) ∙ p) ∙ sym (boolean_node (types_of ns) (node_at ns j) (sym (type_at-types_of ns nodes j hj) ∙ q)))
+  same_place (typ.Pair f s t) i j hi hj p q =
+      let x = pair_node (types_of ns) (node_at ns i) f s t (sym (type_at-types_of ns nodes i hi) ∙ p) in
+      let y = pair_node (types_of ns) (node_at ns j) f s t (sym (type_at-types_of ns nodes j hj) ∙ q) in
+      let bx = subst (λ n. PartsAreBelow n i) x.node (nodes.parts i) in
+      let by = subst (λ n. PartsAreBelow n j) y.node (nodes.parts j) in
+      let first = same_place s x.first.0 y.first.0 (let h = bx.0 in omega (arith, h, hi)) (let h = by.0 in omega (arith, h, hj)) x.first_type y.first_type in
+      let second = same_place t x.second.0 y.second.0 (let h = bx.1 in omega (arith, h, hi)) (let h = by.1 in omega (arith, h, hj)) x.second_type y.second_type in
+      nodes.once i j hi hj (x.node ∙ pair_nodes f x.first x.second y.first y.second first second ∙ sym y.node)
+
+  -- a type stands at one place
+  pub AreDistinct-types_of : (table : List Typ) → types_of ns ≡ table → AreDistinct table
+  AreDistinct-types_of table view = subst AreDistinct view (λ a b ha hb e.
+      let place = same_place (type_at (types_of ns) b) a.0 b.0 (omega (arith, ha, length-types_of ns)) (omega (arith, hb, length-types_of ns)) e refl in
+      ap (λ k. record { 0 = k }) place)

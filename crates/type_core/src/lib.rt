@@ -6,6 +6,7 @@
 mod consistency;
 mod former;
 mod heads;
+pub mod laws;
 mod meeting;
 mod no_memory;
 mod node;

@@ -1,7 +1,7 @@
 ghost use Rattle.std.specs.Prelude.{◌≡◌, ℕ, ◌+◌, ◌<◌, ◌≤◌, [], ◌∷◌, length, IfOk, IfSome, OnOk, OnErr};
 ghost use Rattle.std.specs.Option.{option_map};
 ghost use Rattle.type_core.specs.Typ as typ;
-ghost use Rattle.type_core.specs.TypeTable.{IsTypeOf, type_at, base_types, KeepsTypes, HasAdded};
+ghost use Rattle.type_core.specs.TypeTable.{IsTypeOf, type_at, base_types, KeepsTypes, HasAdded, AreDistinct};
 ghost use Rattle.type_core.specs.Nodes.{type_of_node, node_at, PartsAreBelow, StandOnce, HasAddedNode};
 
 use crate::former::Former;
@@ -70,6 +70,13 @@ impl TypeTable {
     {
         let nodes = base_nodes(alloc)?;
         Ok(TypeTable { nodes })
+    }
+
+    /// Two numbers of one table are equal exactly where their types are: a law, which runs no code.
+    pub fn numbers_are_distinct(&self)
+        ensures { AreDistinct self.now }
+    {
+        let _nodes = &self.nodes;
     }
 
     /// The number of the unknown type.
