@@ -11,7 +11,7 @@ use Rattle.type_core.specs.TypeTable.{IsTypeOf, type_at, KeepsTypes}
 use Rattle.type_core.specs.Heads.{IsPairingOf, meet_of, HaveParts}
 use Rattle.type_core.specs.Pairings.{is_consistent_pairing}
 use Rattle.type_core.specs.Meets.{meet_in, IsMeetOf, AreMeets, HasMeet, StepOf}
-use Rattle.type_core.proofs.NodeLemmas.{KeepsTypes-refl, KeepsTypes-trans}
+use Rattle.type_core.proofs.NodeLemmas.{IsTypeOf-kept, KeepsTypes-refl, KeepsTypes-trans}
 use Rattle.type_core.proofs.PairingEq.{reflexive, sound}
 use Rattle.type_core.proofs.PairingLemmas.{inconsistent_from_clash}
 use Rattle.type_core.proofs.TypLemmas.{is_same_former-same}
@@ -33,7 +33,7 @@ meet_of-parts table p f first second s t h x y =
 -- a table that has grown tells the same of the pairings that it had
 module _ (old new : List Typ) (kept : KeepsTypes old new) (p : Pairing) (within : IsPairingOf old p) where
   pub IsPairingOf-kept : IsPairingOf new p
-  IsPairingOf-kept = (kept.numbers p.left within.0, kept.numbers p.right within.1)
+  IsPairingOf-kept = (IsTypeOf-kept old new kept p.left within.0, IsTypeOf-kept old new kept p.right within.1)
 
   pub meet_of-kept : meet_of new p ≡ meet_of old p
   meet_of-kept = ap (λ l. meet l (type_at new p.right)) (kept.types p.left within.0) ∙ ap (meet (type_at old p.left)) (kept.types p.right within.1)
@@ -45,7 +45,7 @@ module _ (old new : List Typ) (kept : KeepsTypes old new) (p : Pairing) (within 
 IsMeetOf-kept : (old new : List Typ) → KeepsTypes old new → (p : Pairing) (m : TypeId) → IsMeetOf old p m → IsMeetOf new p m
 IsMeetOf-kept old new kept p m h = record {
   within = IsPairingOf-kept old new kept p h.within;
-  number = kept.numbers m h.number;
+  number = IsTypeOf-kept old new kept m h.number;
   meet = meet_of-kept old new kept p h.within ∙ h.meet ∙ ap Some (sym (kept.types m h.number));
 }
 

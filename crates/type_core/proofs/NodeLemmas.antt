@@ -11,7 +11,7 @@ use Rattle.type_core.specs.declared.node.Node.TheVariants.{Unknown, Num, Boolean
 use Rattle.type_core.specs.declared.type_id.TypeId.{TypeId}
 use Rattle.type_core.specs.Typ.{Typ}
 use Rattle.type_core.specs.Typ as typ
-use Rattle.type_core.specs.TypeTable.{type_at, base_types, KeepsTypes, HasAdded, AreDistinct}
+use Rattle.type_core.specs.TypeTable.{IsTypeOf, type_at, base_types, KeepsTypes, HasAdded, AreDistinct}
 use Rattle.type_core.specs.Nodes.{type_of_node, types_of, node_at, PartsAreBelow, StandOnce, HasAddedNode, IsTable}
 
 -- one more node
@@ -67,17 +67,20 @@ type_at-types_of ns table i h =
 -- a type stands where its number is, also after more types
 pub KeepsTypes-push : (ts : List Typ) (t : Typ) → KeepsTypes ts (ts ++ t ∷ [])
 KeepsTypes-push ts t = record {
-  numbers = λ id h. (let p = length_push ts t in omega (arith, p, h));
+  longer = (let p = length_push ts t in omega (arith, p));
   types = λ id h. get_or_append_left ts (t ∷ []) typ.Unknown id.0 h;
 }
 
 pub KeepsTypes-refl : (ts : List Typ) → KeepsTypes ts ts
-KeepsTypes-refl ts = record { numbers = λ id h. h; types = λ id h. refl }
+KeepsTypes-refl ts = record { longer = omega arith; types = λ id h. refl }
+
+pub IsTypeOf-kept : (old new : List Typ) → KeepsTypes old new → (id : TypeId) → IsTypeOf old id → IsTypeOf new id
+IsTypeOf-kept old new kept id h = let l = kept.longer in omega (arith, l, h)
 
 pub KeepsTypes-trans : (ts us vs : List Typ) → KeepsTypes ts us → KeepsTypes us vs → KeepsTypes ts vs
 KeepsTypes-trans ts us vs p q = record {
-  numbers = λ id h. q.numbers id (p.numbers id h);
-  types = λ id h. q.types id (p.numbers id h) ∙ p.types id h;
+  longer = (let a = p.longer in let b = q.longer in omega (arith, a, b));
+  types = λ id h. q.types id (IsTypeOf-kept ts us p id h) ∙ p.types id h;
 }
 
 pub KeepsTypes-added : (t : Typ) (old new : List Typ) → HasAdded t old new → KeepsTypes old new

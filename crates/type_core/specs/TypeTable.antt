@@ -1,5 +1,5 @@
 -- What the contracts of a table say: it is the list of its types, and a type's number is its index there.
-use Rattle.std.specs.Prelude.{◌≡◌, ◌<◌, ◌⊎◌, List, [], ◌∷◌, ◌++◌, length}
+use Rattle.std.specs.Prelude.{◌≡◌, ◌<◌, ◌≤◌, ◌⊎◌, List, [], ◌∷◌, ◌++◌, length}
 use Rattle.std.specs.List.{slice_index_or}
 use Rattle.type_core.specs.declared.type_id.TypeId.{TypeId}
 use Rattle.type_core.specs.Typ.{Typ, Unknown, Num, Boolean}
@@ -16,9 +16,9 @@ type_at table id = slice_index_or table id.0 Unknown
 abbrev pub base_types : List Typ
 base_types = Unknown ∷ Num ∷ Boolean ∷ []
 
--- each number of old keeps its type in new
+-- each number of old is one of new, with the type that it had
 pub record KeepsTypes (old new : List Typ) : Type 0 where
-  pub numbers : (id : TypeId) → IsTypeOf old id → IsTypeOf new id
+  pub longer : length old ≤ length new
   pub types : (id : TypeId) → IsTypeOf old id → type_at new id ≡ type_at old id
 
 -- new is old, or old with t as its last type

@@ -18,3 +18,6 @@ pub use former::Former;
 pub use no_memory::NoMemory;
 pub use table::TypeTable;
 pub use type_id::TypeId;
+
+#[cfg(test)]
+mod tests;

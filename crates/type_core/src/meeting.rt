@@ -1,4 +1,4 @@
-ghost use Rattle.std.specs.Prelude.{◌≡◌, ◌<◌, ◌^◌, true, length, None, Some, Ok, IfOk, IfSome, OnOk};
+ghost use Rattle.std.specs.Prelude.{◌≡◌, ◌<◌, ◌^◌, true, length, is_some, None, Some, Ok, IfOk, IfSome, OnOk};
 ghost use Rattle.std.specs.Option.{option_map};
 ghost use Rattle.type_core.specs.Typ as typ;
 ghost use Rattle.type_core.specs.TypeTable.{IsTypeOf, type_at, KeepsTypes};
@@ -29,6 +29,7 @@ impl TypeTable {
         requires left { IsTypeOf self.old a }
         requires right { IsTypeOf self.old b }
         ensures meet { IfOk result (λ m. option_map (type_at self.new) m ≡ typ.meet (type_at self.old a) (type_at self.old b)) }
+        ensures defined { IfOk result (λ m. is_some m ≡ typ.is_consistent (type_at self.old a) (type_at self.old b)) }
         ensures number { IfOk result (λ m. IfSome m (IsTypeOf self.new)) }
         ensures kept { KeepsTypes self.old self.new }
         ensures none_unchanged { result ≡ Ok None → self.new ≡ self.old }
