@@ -1,5 +1,5 @@
 -- What pairings of types tell.
-use Rattle.std.proofs.Common.{◌≡◌, ℕ, Bool, true, false, ◌&&◌, Option, None, Some, List, is_some, refl, sym, ap, subst, ◌∙◌, arith, get_or}
+use Rattle.std.proofs.Common.{◌≡◌, Some, List, subst, get_or}
 use Rattle.type_core.specs.declared.heads.Pairing.{Pairing}
 use Rattle.type_core.specs.Typ.{Typ, Unknown, meet}
 use Rattle.type_core.specs.TypeTable.{type_at}

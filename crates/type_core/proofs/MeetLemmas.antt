@@ -1,34 +1,21 @@
 -- The walk that meets two types, part by part.
-use Rattle.std.proofs.Common.{◌≡◌, ◌≢◌, ℕ, ◌+◌, ◌<◌, ◌≤◌, ◌⊎◌, Bool, true, false, Option, None, Some, List, [], ◌∷◌, ◌++◌, length, refl, sym, ap, subst, ◌∙◌, inl, inr, arith, true≢false, if◌then◌else◌}
+use Rattle.std.proofs.Common.{◌≡◌, ◌≢◌, ℕ, ◌<◌, ◌≤◌, ◌⊎◌, true, false, None, Some, List, [], ◌∷◌, ◌++◌, refl, sym, ap, subst, ◌∙◌, inl, inr, arith, true≢false}
 use Rattle.std.proofs.lemmas.Bool.{cases_Bool}
-use Rattle.type_core.specs.declared.former.Former.{Former}
 use Rattle.type_core.specs.declared.heads.Pairing.{Pairing}
 use Rattle.type_core.specs.declared.meeting.Step.TheVariants.{Done, Waits}
 use Rattle.type_core.specs.declared.type_id.TypeId.{TypeId}
 use Rattle.type_core.specs.contracts.heads.PairingPartialEq.TheImpl as pairing_eq
-use Rattle.type_core.specs.Typ.{Typ, Pair, is_same_former, is_consistent, pair_both, meet}
-use Rattle.type_core.specs.TypeTable.{IsTypeOf, type_at, KeepsTypes}
-use Rattle.type_core.specs.Heads.{IsPairingOf, meet_of, HaveParts}
+use Rattle.type_core.specs.Typ.{Typ, is_consistent, meet}
+use Rattle.type_core.specs.TypeTable.{type_at, KeepsTypes}
+use Rattle.type_core.specs.Heads.{IsPairingOf, meet_of}
 use Rattle.type_core.specs.Pairings.{is_consistent_pairing}
 use Rattle.type_core.specs.Meets.{meet_in, IsMeetOf, AreMeets, HasMeet, StepOf}
-use Rattle.type_core.proofs.NodeLemmas.{IsTypeOf-kept, KeepsTypes-refl, KeepsTypes-trans}
+use Rattle.type_core.proofs.NodeLemmas.{IsTypeOf-kept, KeepsTypes-trans}
 use Rattle.type_core.proofs.PairingEq.{reflexive, sound}
 use Rattle.type_core.proofs.PairingLemmas.{inconsistent_from_clash}
-use Rattle.type_core.proofs.TypLemmas.{is_same_former-same}
 
 pub consistent_not_clash : (table : List Typ) (p : Pairing) → is_consistent_pairing table p ≡ true → meet_of table p ≡ None → ⊥
 consistent_not_clash table p c e = true≢false (sym c ∙ inconsistent_from_clash table p e)
-
-meet-pairs : (f : Former) (a b c d s t : Typ) → meet a c ≡ Some s → meet b d ≡ Some t → meet (Pair f a b) (Pair f c d) ≡ Some (Pair f s t)
-meet-pairs f a b c d s t x y =
-    ap (λ same. if same then pair_both f (meet a c) (meet b d) else None) (is_same_former-same f) ∙ ap (λ o. pair_both f o (meet b d)) x ∙ ap (pair_both f (Some s)) y
-
--- the meet of types of one form is made of the meets of their parts
-pub meet_of-parts : (table : List Typ) (p : Pairing) (f : Former) (first second : Pairing) (s t : Typ) → HaveParts table p f first second
-    → meet_of table first ≡ Some s → meet_of table second ≡ Some t → meet_of table p ≡ Some (Pair f s t)
-meet_of-parts table p f first second s t h x y =
-    ap (λ l. meet l (type_at table p.right)) h.left ∙ ap (meet (Pair f (type_at table first.left) (type_at table second.left))) h.right
-    ∙ meet-pairs f (type_at table first.left) (type_at table second.left) (type_at table first.right) (type_at table second.right) s t x y
 
 -- a table that has grown tells the same of the pairings that it had
 module _ (old new : List Typ) (kept : KeepsTypes old new) (p : Pairing) (within : IsPairingOf old p) where
@@ -108,6 +95,7 @@ AreMeets-more old new met more p m kept meets here has = record { each = λ q n 
   where
     some : (x y : TypeId) → Some x ≡ Some y → x ≡ y
     some x y e = cc
+
     by : (q : Pairing) (n : TypeId) → meet_in more q ≡ Some n → (pairing_eq.eq-value.it q p ≡ true) ⊎ (pairing_eq.eq-value.it q p ≡ false) → IsMeetOf new q n
     by q n e (inl same) =
         let q_is : q ≡ p = sound q p same in
@@ -118,22 +106,6 @@ AreMeets-more old new met more p m kept meets here has = record { each = λ q n 
         IsMeetOf-kept old new kept q n (meets.each q n (sym (has.others q q_is_not) ∙ e))
 
 module _ (start : List Typ) (root : Pairing) where
-  pub IsMeeting-start : (met : List (Pairing × TypeId)) (waiting : List Pairing) → met ≡ [] → waiting ≡ [] → IsPairingOf start root → is_consistent_pairing start root ≡ true
-      → IsMeeting start root start met waiting root
-  IsMeeting-start met waiting none empty within consistent = record {
-    first = ap (λ w. bottom w root) empty;
-    path = subst (λ w. IsPath (IsPending start met) w root) (sym empty) (record {
-      within = within;
-      consistent = consistent;
-      unmet = ap (λ m. meet_in m root) none;
-    });
-    meets = record { each = λ p m e. absurd (nothing p m (sym (ap (λ l. meet_in l p) none) ∙ e)) };
-    kept = KeepsTypes-refl start;
-  }
-    where
-      nothing : (p : Pairing) (m : TypeId) → None ≡ Some m → ⊥
-      nothing p m e = cc
-
   module _ (table new : List Typ) (met : List (Pairing × TypeId)) (waiting : List Pairing) (current : Pairing)
       (walk : IsMeeting start root table met waiting current) (kept : KeepsTypes table new) where
     pub IsMeeting-waits : (part : Pairing) → StepOf table new met current (Waits part) → IsMeeting start root new met (waiting ++ current ∷ []) part
@@ -167,9 +139,3 @@ module _ (start : List Typ) (root : Pairing) where
           consistent = is_consistent-kept table new kept q pending.within ∙ pending.consistent;
           unmet = has.others q (λ same. absurd (let e = ap (λ p. p.left.0) same in omega (arith, e, lt))) ∙ pending.unmet;
         }
-
-    -- where none waits, the current pairing is root
-    pub IsMeeting-end : (m : TypeId) → StepOf table new met current (Done m) → waiting ≡ [] → IsPairingOf start root → meet_of start root ≡ Some (type_at new m)
-    IsMeeting-end m step none within =
-        let current_is : current ≡ root = sym (ap (λ w. bottom w current) none) ∙ walk.first in
-        sym (meet_of-kept start table walk.kept root within) ∙ subst (λ p. meet_of table p ≡ Some (type_at new m)) current_is step.1

@@ -1,7 +1,5 @@
 -- The comparison of nodes is equality.
-use Rattle.std.proofs.Common.{◌≡◌, true, refl, rules, arith, ap, ◌∙◌, sym}
-use Rattle.std.proofs.lemmas.Grind.{common_steps}
-use Rattle.type_core.specs.declared.former.Former.{Former}
+use Rattle.std.proofs.Common.{◌≡◌, true, rules}
 use Rattle.type_core.specs.declared.former.Former.TheVariants.{Arrow, Product}
 use Rattle.type_core.specs.declared.node.Node.{Node}
 use Rattle.type_core.specs.declared.node.Node.TheVariants.{Unknown, Num, Boolean, Pair}

@@ -1,17 +1,17 @@
 -- Nodes, and the types that they stand for.
-use Rattle.std.proofs.Common.{◌≡◌, ℕ, ◌+◌, ◌<◌, ◌≤◌, ◌⊎◌, Bool, true, false, List, [], ◌∷◌, ◌++◌, length, get_or, fold, slice_get, Some, refl, sym, ap, subst, ◌∙◌, inl, inr, arith, true≢false, if◌then◌else◌, zero, suc}
+use Rattle.std.proofs.Common.{◌≡◌, ℕ, ◌+◌, ◌<◌, ◌⊎◌, Bool, true, List, [], ◌∷◌, ◌++◌, length, get_or, fold, refl, sym, ap, subst, ◌∙◌, inl, inr, arith, true≢false, zero, suc}
 use Rattle.std.proofs.lemmas.List.{length_push, get_or_append_left, get_or_push, get_or_past}
 use Rattle.std.proofs.lemmas.Bool.{cases_order}
 use Rattle.std.proofs.lemmas.List.Sums.{fold-append}
 use Rattle.std.proofs.lemmas.Map.Keys.{apart_from_distinct}
-use Rattle.std.specs.List.{IsDistinct, list_any}
+use Rattle.std.specs.List.{IsDistinct}
 use Rattle.type_core.specs.declared.former.Former.{Former}
 use Rattle.type_core.specs.declared.node.Node.{Node}
 use Rattle.type_core.specs.declared.node.Node.TheVariants.{Unknown, Num, Boolean, Pair}
 use Rattle.type_core.specs.declared.type_id.TypeId.{TypeId}
 use Rattle.type_core.specs.Typ.{Typ}
 use Rattle.type_core.specs.Typ as typ
-use Rattle.type_core.specs.TypeTable.{IsTypeOf, type_at, base_types, KeepsTypes, HasAdded, AreDistinct}
+use Rattle.type_core.specs.TypeTable.{IsTypeOf, type_at, KeepsTypes, HasAdded, AreDistinct}
 use Rattle.type_core.specs.Nodes.{type_of_node, types_of, node_at, PartsAreBelow, StandOnce, HasAddedNode, IsTable}
 
 -- one more node
@@ -51,18 +51,18 @@ type_at-fold_here ts (n ∷ ns) zero h parts =
     let e : length ts + 0 ≡ length ts = omega arith in
     let below : PartsAreBelow n (length ts) = subst (PartsAreBelow n) e parts in
     subst (λ k. get_or (fold add_type (add_type ts n) ns) k typ.Unknown ≡ type_of_node (fold add_type (add_type ts n) ns) n) (sym e)
-        (here ∙ sym (type_of_node-same ts (fold add_type (add_type ts n) ns) n (length ts) below
-            (λ k lt. type_at-fold (add_type ts n) ns k (omega (arith, p, lt)) ∙ get_or_append_left ts (type_of_node ts n ∷ []) typ.Unknown k lt)))
+    (here ∙ sym (type_of_node-same ts (fold add_type (add_type ts n) ns) n (length ts) below
+    (λ k lt. type_at-fold (add_type ts n) ns k (omega (arith, p, lt)) ∙ get_or_append_left ts (type_of_node ts n ∷ []) typ.Unknown k lt)))
 type_at-fold_here ts (n ∷ ns) (suc i) h parts =
     let e : length (add_type ts n) + i ≡ length ts + suc i = (let p = length_push ts (type_of_node ts n) in omega (arith, p)) in
     subst (λ k. get_or (fold add_type (add_type ts n) ns) k typ.Unknown ≡ type_of_node (fold add_type (add_type ts n) ns) (node_at ns i)) e
-        (type_at-fold_here (add_type ts n) ns i (omega (arith, h)) (subst (PartsAreBelow (node_at ns i)) (sym e) parts))
+    (type_at-fold_here (add_type ts n) ns i (omega (arith, h)) (subst (PartsAreBelow (node_at ns i)) (sym e) parts))
 
 pub type_at-types_of : (ns : List Node) → IsTable ns → (i : ℕ) → i < length ns → get_or (types_of ns) i typ.Unknown ≡ type_of_node (types_of ns) (node_at ns i)
 type_at-types_of ns table i h =
     let e : 0 + i ≡ i = omega arith in
     subst (λ k. get_or (types_of ns) k typ.Unknown ≡ type_of_node (types_of ns) (node_at ns i)) e
-        (type_at-fold_here [] ns i h (subst (PartsAreBelow (node_at ns i)) (sym e) (table.parts i)))
+    (type_at-fold_here [] ns i h (subst (PartsAreBelow (node_at ns i)) (sym e) (table.parts i)))
 
 -- a type stands where its number is, also after more types
 pub KeepsTypes-push : (ts : List Typ) (t : Typ) → KeepsTypes ts (ts ++ t ∷ [])
@@ -93,7 +93,7 @@ pub type_at-read : (ns ws : List Node) (table : List Typ) → types_of ns ≡ ta
 type_at-read ns ws table view same nodes i h =
     let within : i < length ns = omega (arith, h, ap length view, length-types_of ns) in
     subst (λ t. get_or t i typ.Unknown ≡ type_of_node t (get_or ws i Unknown)) view
-        (subst (λ xs. get_or (types_of ns) i typ.Unknown ≡ type_of_node (types_of ns) (get_or xs i Unknown)) (sym same) (type_at-types_of ns nodes i within))
+    (subst (λ xs. get_or (types_of ns) i typ.Unknown ≡ type_of_node (types_of ns) (get_or xs i Unknown)) (sym same) (type_at-types_of ns nodes i within))
 
 -- the base types stand at the first numbers
 pub base_within : (ns : List Node) (table : List Typ) → types_of ns ≡ table → IsTable ns → (i : ℕ) → i < 3 → i < length table
@@ -112,6 +112,7 @@ module _ (eq : Node → Node → Bool) (reflexive : (n : Node) → eq n n ≡ tr
       clash : (k l : ℕ) → k < l → l < length ns → node_at ns k ≡ node_at ns l → ⊥
       clash k l h hl same =
           true≢false (sym (reflexive (node_at ns l)) ∙ ap (λ n. eq n (node_at ns l)) (sym same) ∙ apart_from_distinct eq ns k l Unknown apart h hl)
+
       by : (i ≡ j) ⊎ ((i < j) ⊎ (j < i)) → i ≡ j
       by (inl same) = same
       by (inr (inl lt)) = absurd (clash i j lt hj e)
@@ -129,6 +130,7 @@ IsTable-push ns n nodes once parts = record {
   where
     before : (i : ℕ) → i < 3 → node_at (ns ++ n ∷ []) i ≡ node_at ns i
     before i h = get_or_append_left ns (n ∷ []) Unknown i (let b = nodes.base_count in omega arith)
+
     by : (i : ℕ) → (i ≡ length ns) ⊎ ((i < length ns) ⊎ (length ns < i)) → PartsAreBelow (node_at (ns ++ n ∷ []) i) i
     by i (inl e) =
         subst (λ k. PartsAreBelow (node_at (ns ++ n ∷ []) k) k) (sym e) (subst (λ m. PartsAreBelow m (length ns)) (sym (get_or_push ns n Unknown (length ns) refl)) parts)

@@ -1,14 +1,14 @@
 -- The walk over the pairings of two types' parts.
-use Rattle.std.proofs.Common.{◌≡◌, ℕ, ◌+◌, ◌<◌, ◌≤◌, ◌⊎◌, Bool, true, false, ◌&&◌, Option, None, Some, List, [], ◌∷◌, ◌++◌, length, get_or, All, Contains, refl, sym, ap, subst, ◌∙◌, inl, inr, arith, is_some, true≢false, append_assoc}
-use Rattle.std.proofs.lemmas.Bool.{cases_order, cases_Bool}
+use Rattle.std.proofs.Common.{◌≡◌, ℕ, ◌+◌, ◌<◌, ◌≤◌, ◌⊎◌, Bool, true, false, ◌&&◌, None, Some, List, [], ◌∷◌, ◌++◌, length, get_or, All, Contains, refl, sym, ap, subst, ◌∙◌, inl, inr, arith, is_some, true≢false, append_assoc}
+use Rattle.std.proofs.lemmas.Bool.{cases_order}
 use Rattle.std.proofs.lemmas.List.{length-append, get_or_append_left, get_or_default, append-nil}
-use Rattle.std.proofs.lemmas.List.Elements.{All-nil, All-push, All-append, All-contains, Contains-append_left, Contains-get_or}
+use Rattle.std.proofs.lemmas.List.Elements.{All-nil, All-push, All-append, Contains-append_left}
 use Rattle.type_core.specs.declared.former.Former.{Former}
 use Rattle.type_core.specs.declared.heads.Pairing.{Pairing}
-use Rattle.type_core.specs.Typ.{Typ, Unknown, Num, Boolean, Pair, is_same_former, is_consistent, meet}
+use Rattle.type_core.specs.Typ.{Typ, Unknown, Num, Boolean, Pair, is_consistent}
 use Rattle.type_core.specs.TypeTable.{type_at}
 use Rattle.type_core.specs.Heads.{IsPairingOf, meet_of, HaveParts}
-use Rattle.type_core.specs.Pairings.{HasAddedPairing, is_consistent_pairing, Grows, HasPartsIn, IsSettled, Visits}
+use Rattle.type_core.specs.Pairings.{HasAddedPairing, is_consistent_pairing, Grows, IsSettled, Visits}
 use Rattle.type_core.proofs.TypLemmas.{is_same_former-same, is_some-meet}
 
 pub consistent_from_met : (table : List Typ) (p : Pairing) (t : Typ) → meet_of table p ≡ Some t → is_consistent_pairing table p ≡ true
@@ -90,15 +90,17 @@ module _ (table : List Typ) (p : Pairing) where
       → Contains mid first → HasAddedPairing second mid new → Contains new second → Grows table p old new × IsSettled table new p
   visited_parts f first second old mid new h added1 seen1 added2 seen2 =
       let g1 = Grows-added first old mid h.first_within (first_consistent table p f first second h) added1 in
-      let g2 = Grows-added second mid new h.second_within (second_consistent table p f first second h) added2 in
-      (Grows-trans old mid new g1 g2, inr (record {
-        former = f;
-        first = first;
-        second = second;
-        parts = h;
-        first_seen = Contains-grown mid new first g2 seen1;
-        second_seen = seen2;
-      }))
+      let g2 = Grows-added second mid new h.second_within (second_consistent table p f first second h) added2 in (
+        Grows-trans old mid new g1 g2,
+        inr (record {
+          former = f;
+          first = first;
+          second = second;
+          parts = h;
+          first_seen = Contains-grown mid new first g2 seen1;
+          second_seen = seen2;
+        }),
+      )
 
 -- the walk from root has met `seen`, and visited those before `next`
 pub record IsWalk (table : List Typ) (root : Pairing) (seen : List Pairing) (next : ℕ) : Type 0 where
@@ -137,18 +139,6 @@ all_consistent table seen settled (Pair f a b) q h e =
         is_consistent-parts table q w.former w.first w.second w.parts ∙ ap (λ c. c && is_consistent_pairing table w.second) x ∙ y
 
 module _ (table : List Typ) (root : Pairing) where
-  pub IsWalk-start : (none seen : List Pairing) → none ≡ [] → IsPairingOf table root → HasAddedPairing root none seen → Contains seen root → IsWalk table root seen 0
-  IsWalk-start none seen empty within added contained = by (Grows-added table root root none seen within (λ c. c) added)
-    where
-      by : Grows table root none seen → IsWalk table root seen 0
-      by g = (let e : seen ≡ g.more = g.grown ∙ ap (λ l. l ++ g.more) empty in record {
-        reached = omega arith;
-        within = subst (All (IsPairingOf table)) (sym e) g.within;
-        root_seen = contained;
-        implied = λ c. subst (All (λ q. is_consistent_pairing table q ≡ true)) (sym e) (g.implied c);
-        settled = λ i d h. absurd (omega (arith, h));
-      })
-
   pub IsWalk-step : (seen new : List Pairing) (next : ℕ) (current : Pairing) → IsWalk table root seen next → next < length seen → current ≡ get_or seen next current
       → Grows table current seen new → IsSettled table new current → IsWalk table root new (next + 1)
   IsWalk-step seen new next current walk lt read g settled = record {
@@ -157,18 +147,19 @@ module _ (table : List Typ) (root : Pairing) where
     root_seen = Contains-grown table current seen new root g walk.root_seen;
     implied = λ c. subst (All (λ q. is_consistent_pairing table q ≡ true)) (sym g.grown)
         (All-append (λ q. is_consistent_pairing table q ≡ true) seen g.more (walk.implied c)
-            (g.implied (subst (λ q. is_consistent_pairing table q ≡ true) (sym read) (walk.implied c next current lt))));
+        (g.implied (subst (λ q. is_consistent_pairing table q ≡ true) (sym read) (walk.implied c next current lt))));
     settled = λ i d h. by i d h (cases_order i next);
   }
     where
       same : (i : ℕ) (d : Pairing) → i < length seen → get_or new i d ≡ get_or seen i d
       same i d h = ap (λ l. get_or l i d) g.grown ∙ get_or_append_left seen g.more d i h
+
       by : (i : ℕ) (d : Pairing) → i < next + 1 → (i ≡ next) ⊎ ((i < next) ⊎ (next < i)) → IsSettled table new (get_or new i d)
       by i d h (inl e) =
           subst (IsSettled table new) (read ∙ get_or_default seen next current d lt ∙ ap (λ k. get_or seen k d) (sym e) ∙ sym (same i d (subst (λ k. k < length seen) (sym e) lt))) settled
       by i d h (inr (inl before)) =
           subst (IsSettled table new) (sym (same i d (let r = walk.reached in omega (arith, r, before, lt))))
-              (IsSettled-grown table current seen new (get_or seen i d) g (walk.settled i d before))
+          (IsSettled-grown table current seen new (get_or seen i d) g (walk.settled i d before))
       by i d h (inr (inr after)) = absurd (omega (arith, h, after))
 
   -- the same, as the loop reads the pairing and its visit's answer
@@ -182,4 +173,4 @@ module _ (table : List Typ) (root : Pairing) where
   pub IsWalk-end : (seen : List Pairing) (next : ℕ) → IsWalk table root seen next → length seen ≤ next → is_consistent_pairing table root ≡ true
   IsWalk-end seen next walk le =
       all_consistent table seen (λ q h. subst (IsSettled table seen) h.2 (walk.settled h.0 q (let lt = h.1 in omega (arith, lt, le))))
-          (type_at table root.left) root walk.root_seen refl
+      (type_at table root.left) root walk.root_seen refl

@@ -1,5 +1,5 @@
 -- The text of a type, piece by piece.
-use Rattle.std.proofs.Common.{◌≡◌, ℕ, ◌+◌, ◌<◌, List, [], ◌∷◌, ◌++◌, All, sum_by, Some, refl, sym, ap, subst, ◌∙◌, arith, append_assoc}
+use Rattle.std.proofs.Common.{◌≡◌, ℕ, List, [], ◌∷◌, ◌++◌, All, Some, sym, ap, subst, ◌∙◌, arith, append_assoc}
 use Rattle.std.proofs.lemmas.List.{append-nil}
 use Rattle.std.proofs.lemmas.List.Elements.{All-nil, All-push, All-pop, All-append}
 use Rattle.std.proofs.lemmas.List.Sums.{sum_by-append}
@@ -9,8 +9,8 @@ use Rattle.type_core.specs.declared.text.Piece.TheVariants.{Whole, Sign, Close}
 use Rattle.type_core.specs.declared.text.Form.TheVariants.{Parts}
 use Rattle.type_core.specs.declared.type_id.TypeId.{TypeId}
 use Rattle.type_core.specs.Typ.{Typ, sign, type_text}
-use Rattle.type_core.specs.TypeTable.{IsTypeOf, type_at}
-use Rattle.type_core.specs.Pieces.{IsPieceOf, piece_text, pending_text, piece_cost, total_cost, type_cost, FormOf, Lengthens, Writes}
+use Rattle.type_core.specs.TypeTable.{type_at}
+use Rattle.type_core.specs.Pieces.{IsPieceOf, piece_text, pending_text, piece_cost, total_cost, FormOf, Lengthens, Writes}
 
 pub pending_text-append : (table : List Typ) (xs ys : List Piece) → pending_text table (xs ++ ys) ≡ pending_text table ys ++ pending_text table xs
 pending_text-append table [] ys = sym (append-nil (pending_text table ys))
@@ -39,7 +39,7 @@ Writes-parts table p f a b k rest rest_new out out_new form waits wrote = record
     four : All (IsPieceOf table) (Close ∷ Whole b k ∷ Sign f ∷ Whole a k ∷ [])
     four = All-push (IsPieceOf table) (Close ∷ Whole b k ∷ Sign f ∷ []) (Whole a k)
         (All-push (IsPieceOf table) (Close ∷ Whole b k ∷ []) (Sign f)
-            (All-push (IsPieceOf table) (Close ∷ []) (Whole b k) (All-push (IsPieceOf table) [] Close (All-nil (IsPieceOf table)) tt) form.1) tt) form.0
+        (All-push (IsPieceOf table) (Close ∷ []) (Whole b k) (All-push (IsPieceOf table) [] Close (All-nil (IsPieceOf table)) tt) form.1) tt) form.0
 
 pub Lengthens-trans : (xs ys zs : List ℕ) → Lengthens xs ys → Lengthens ys zs → Lengthens xs zs
 Lengthens-trans xs ys zs a b = record {

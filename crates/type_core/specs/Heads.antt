@@ -4,7 +4,6 @@ use Rattle.type_core.specs.declared.former.Former.{Former}
 use Rattle.type_core.specs.declared.heads.Heads.{Heads}
 use Rattle.type_core.specs.declared.heads.Heads.TheVariants.{Met, Clash, Parts}
 use Rattle.type_core.specs.declared.heads.Pairing.{Pairing}
-use Rattle.type_core.specs.declared.type_id.TypeId.{TypeId}
 use Rattle.type_core.specs.Typ.{Typ, Pair, meet}
 use Rattle.type_core.specs.TypeTable.{IsTypeOf, type_at}
 

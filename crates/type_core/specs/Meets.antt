@@ -1,5 +1,5 @@
 -- The meets that are known so far, and one step towards the meet of two types.
-use Rattle.std.specs.Prelude.{◌≡◌, ◌≢◌, ◌+◌, ◌<◌, Bool, true, List, length, Option, None, Some}
+use Rattle.std.specs.Prelude.{◌≡◌, ◌≢◌, ◌+◌, ◌<◌, true, List, length, Option, None, Some}
 use Rattle.std.specs.Map.{lookup}
 use Rattle.type_core.specs.declared.heads.Pairing.{Pairing}
 use Rattle.type_core.specs.declared.meeting.Step.{Step}

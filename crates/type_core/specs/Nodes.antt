@@ -1,10 +1,8 @@
 -- How a table keeps its types: as nodes that name their parts by number.
 use Rattle.std.specs.Prelude.{◌≡◌, ℕ, ◌<◌, ◌≤◌, ◌⊎◌, List, [], ◌∷◌, ◌++◌, length, fold}
 use Rattle.std.specs.List.{slice_index_or}
-use Rattle.type_core.specs.declared.former.Former.{Former}
 use Rattle.type_core.specs.declared.node.Node.{Node}
 use Rattle.type_core.specs.declared.node.Node.TheVariants.{Unknown, Num, Boolean, Pair}
-use Rattle.type_core.specs.declared.type_id.TypeId.{TypeId}
 use Rattle.type_core.specs.Typ.{Typ}
 use Rattle.type_core.specs.Typ as typ
 use Rattle.type_core.specs.TypeTable.{type_at}

@@ -4,7 +4,7 @@ use Rattle.type_core.specs.declared.text.Piece.{Piece}
 use Rattle.type_core.specs.declared.text.Piece.TheVariants.{Whole, Sign, Close}
 use Rattle.type_core.specs.declared.text.Form.{Form}
 use Rattle.type_core.specs.declared.text.Form.TheVariants.{Fixed, Parts}
-use Rattle.type_core.specs.Typ.{Typ, Unknown, Num, Boolean, Pair, sign, type_text}
+use Rattle.type_core.specs.Typ.{Typ, Pair, sign, type_text}
 use Rattle.type_core.specs.TypeTable.{IsTypeOf, type_at}
 
 abbrev pub IsPieceOf : List Typ → Piece → Type 0

@@ -76,7 +76,11 @@ impl TypeTable {
     }
 
     // Meets two types whose parts have been met, or says which parts have not.
-    fn meet_step(&mut self, met: &IndexMap<Pairing, TypeId>, pairing: Pairing) -> Result<Step, NoMemory>
+    fn meet_step(
+        &mut self,
+        met: &IndexMap<Pairing, TypeId>,
+        pairing: Pairing,
+    ) -> Result<Step, NoMemory>
         requires within { IsPairingOf self.old pairing }
         requires consistent { is_consistent_pairing self.old pairing ≡ true }
         requires meets { AreMeets self.old met.now.entries }
@@ -107,7 +111,11 @@ fn find(met: &IndexMap<Pairing, TypeId>, pairing: Pairing) -> Option<TypeId>
 }
 
 // Notes the meet of a pairing that has none.
-fn remember(met: &mut IndexMap<Pairing, TypeId>, pairing: Pairing, meet: TypeId) -> Result<(), NoMemory>
+fn remember(
+    met: &mut IndexMap<Pairing, TypeId>,
+    pairing: Pairing,
+    meet: TypeId,
+) -> Result<(), NoMemory>
     requires { meet_in met.old.entries pairing ≡ None }
     ensures noted { IfOk result (λ _. HasMeet met.old.entries pairing meet met.new.entries) }
     ensures small { OnOk result (length met.new.entries < 2 ^ 63) }

@@ -14,7 +14,9 @@ use std::marker::Model;
 
 // The places of the base types in every table.
 const UNKNOWN: u64 = 0;
+
 const NUM: u64 = 1;
+
 const BOOLEAN: u64 = 2;
 
 /// A table of types, each of which stands once. Its numbers keep their types for as long as the table lives.
@@ -172,7 +174,12 @@ impl TypeTable {
     }
 
     // The number of the type of this form from two parts.
-    pub(crate) fn pair(&mut self, former: Former, first: TypeId, second: TypeId) -> Result<TypeId, NoMemory>
+    pub(crate) fn pair(
+        &mut self,
+        former: Former,
+        first: TypeId,
+        second: TypeId,
+    ) -> Result<TypeId, NoMemory>
         requires first { IsTypeOf self.old first }
         requires second { IsTypeOf self.old second }
         ensures number { IfOk result (IsTypeOf self.new) }

@@ -57,7 +57,12 @@ impl TypeTable {
     }
 
     // Appends what a piece begins with. What is left of it stands at the end of `rest`, the next piece last.
-    fn append_piece(&self, piece: Piece, rest: &mut Vec<Piece>, out: &mut Vec<u8>) -> Result<(), NoMemory>
+    fn append_piece(
+        &self,
+        piece: Piece,
+        rest: &mut Vec<Piece>,
+        out: &mut Vec<u8>,
+    ) -> Result<(), NoMemory>
         requires { IsPieceOf self.now piece }
         ensures written { OnOk result (Writes self.now piece rest.old.items out.old.items rest.new.items out.new.items) }
         ensures longer { Lengthens out.old.items out.new.items }

@@ -1,4 +1,3 @@
-use Rattle.std.proofs.Common.{arith}
 use Rattle.type_core.proofs.NodeLemmas.{KeepsTypes-trans}
 use Rattle.type_core.proofs.tests.chain.Goals as goal
 

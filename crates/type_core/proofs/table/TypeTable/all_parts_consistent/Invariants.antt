@@ -1,4 +1,4 @@
-use Rattle.std.proofs.Common.{◌-◌, ◌^◌, ◌≡◌}
+use Rattle.std.proofs.Common.{◌-◌, ◌^◌}
 use Rattle.type_core.proofs.PairingLemmas.{IsWalk}
 use Rattle.type_core.proofs.table.TypeTable.all_parts_consistent.Given as goal
 

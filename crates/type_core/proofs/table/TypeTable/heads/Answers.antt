@@ -1,7 +1,5 @@
-use Rattle.std.proofs.Common.{ap, sym, subst, ◌∙◌}
+use Rattle.std.proofs.Common.{sym}
 use borrow.Author.Tests.{eqb-true}
-use Rattle.type_core.specs.Typ.{meet}
-use Rattle.type_core.specs.TypeTable.{type_at}
 use Rattle.type_core.proofs.HeadLemmas.{meet_of-same}
 use Rattle.type_core.proofs.table.TypeTable.heads.Goals as goal
 

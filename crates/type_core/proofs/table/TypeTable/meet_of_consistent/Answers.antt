@@ -1,7 +1,7 @@
 use Rattle.std.proofs.Common.{subst, sym}
 use Rattle.type_core.specs.Meets.{StepOf}
 use Rattle.type_core.proofs.NodeLemmas.{KeepsTypes-trans}
-use Rattle.type_core.proofs.MeetLemmas.{IsPending, IsPath-current, IsMeeting, IsMeeting-waits, IsMeeting-done, IsMeeting-end}
+use Rattle.type_core.proofs.MeetLemmas.{IsPending, IsPath-current, IsMeeting, IsMeeting-waits, IsMeeting-done}
 use Rattle.type_core.proofs.table.TypeTable.meet_of_consistent.Goals as goal
 
 pub meet_step-requires-clause-within : goal.meet_step-requires-clause-within

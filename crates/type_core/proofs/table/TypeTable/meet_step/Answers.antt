@@ -1,5 +1,5 @@
 use Rattle.std.proofs.Common.{sym}
-use Rattle.type_core.proofs.MeetLemmas.{consistent_not_clash, meet_of-parts}
+use Rattle.type_core.proofs.MeetLemmas.{consistent_not_clash}
 use Rattle.type_core.proofs.table.TypeTable.meet_step.Goals as goal
 
 pub unreachable-requires : goal.unreachable-requires
