@@ -1,0 +1,4 @@
+pub mod Orders
+pub mod Graphs
+pub mod CanonicalLists
+pub mod Unique

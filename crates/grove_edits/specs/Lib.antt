@@ -1,0 +1,4 @@
+pub mod Vertex
+pub mod Edge
+pub mod Edit
+pub mod Graph

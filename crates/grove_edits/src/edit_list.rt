@@ -1,0 +1,77 @@
+ghost use Rattle.std.specs.Prelude.{◌≡◌, ◌∷◌, [], ◌++◌, List, length, slice_get, IfOk, IsTrue, ◌↔◌, OnOk, OnErr};
+ghost use Rattle.grove_edits.specs.Graph.{graph, IsCanonical};
+
+use crate::canonical::last_of_each_edge;
+use crate::edit::Edit;
+use crate::no_memory::NoMemory;
+use std::alloc::Global;
+use std::marker::Model;
+
+/// Edits in order.
+#[derive(Debug, Drop)]
+pub struct EditList {
+    edits: Vec<Edit>,
+}
+
+impl Model for EditList {
+    ghost use Rattle.std.specs.Prelude.{List};
+    ghost use Rattle.grove_edits.specs.declared.edit.Edit.{Edit};
+
+    ghost Value = { List Edit };
+
+    ghost view = { λ list. list.edits.items };
+}
+
+impl EditList {
+    pub fn new(alloc: Global) -> EditList
+        ensures empty { result ≡ [] }
+    {
+        EditList {
+            edits: Vec::new(alloc),
+        }
+    }
+
+    /// Appends an edit.
+    pub fn push(&mut self, edit: Edit) -> Result<(), NoMemory>
+        ensures appended { OnOk result (self.new ≡ self.old ++ edit ∷ []) }
+        ensures unchanged { OnErr result (self.new ≡ self.old) }
+    {
+        self.edits.push(edit)?;
+        Ok(())
+    }
+
+    pub fn len(&self) -> usize
+        ensures { result ≡ length self.now }
+    {
+        self.edits.len()
+    }
+
+    pub fn is_empty(&self) -> bool
+        ensures { IsTrue result ↔ (self.now ≡ []) }
+    {
+        self.edits.is_empty()
+    }
+
+    /// The edit at an index, or None past the end.
+    pub fn get(&self, index: usize) -> Option<Edit>
+        ensures { result ≡ slice_get self.now index }
+    {
+        self.edits.get(index).copied()
+    }
+
+    pub fn as_slice(&self) -> &[Edit]
+        ensures { result.now ≡ self.now }
+    {
+        &self.edits
+    }
+
+    /// The canonical list of the graph that the edits make: one edit for each edge that they name, in edge order.
+    pub fn into_canonical(self, alloc: Global) -> Result<EditList, NoMemory>
+        ensures canonical { IfOk result (λ list. IsCanonical (graph self) list) }
+    {
+        let EditList { mut edits } = self;
+        edits.sort()?;
+        let edits = last_of_each_edge(alloc, &edits)?;
+        Ok(EditList { edits })
+    }
+}

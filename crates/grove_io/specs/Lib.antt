@@ -1,0 +1,5 @@
+pub mod MemorySink
+pub mod MemorySource
+pub mod Outside
+pub mod ReaderSource
+pub mod WriterSink

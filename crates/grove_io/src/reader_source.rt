@@ -1,0 +1,96 @@
+// A source over a reader of std.
+ghost use Rattle.std.specs.Prelude.{◌≡◌, ◌≤◌, None, length, IfOk, OnErr};
+ghost use Rattle.std.specs.Io.KnownBytes.{ReadConsumes};
+ghost use Rattle.grove_io.specs.Outside.{HasRisen};
+ghost use Rattle.grove_io.specs.ReaderSource.{errors_of, reader_of};
+
+use crate::{Failed, Source};
+use std::io::{ErrorKind, Read};
+
+/// Reads through a reader of std, as standard input. It tells no bytes. Its count of faults is how often the
+/// reader has answered an error.
+///
+/// An error of the kind `Interrupted` is no end of the reading, as in std: it is counted, and the read is tried
+/// again in the same call.
+#[derive(Drop)]
+pub struct ReaderSource<R> {
+    reader: R,
+    faults: u64,
+}
+
+impl<R: Read> ReaderSource<R> {
+    /// The count of faults begins at 0.
+    pub fn new(reader: R) -> Self
+        ensures reader { reader_of result ≡ reader }
+        ensures no_error { errors_of result ≡ 0 }
+    {
+        ReaderSource { reader, faults: 0 }
+    }
+}
+
+impl<R: Read> Source for ReaderSource<R> {
+    ghost left = { λ _. None };
+
+    ghost faults = { errors_of };
+
+    // What the reader knows of its bytes holds through the source too.
+    fn read(&mut self, out: &mut [u8]) -> Result<usize, Failed>
+        ensures within { IfOk result (λ count. count ≤ length out.new) }
+        ensures bytes { ReadConsumes (R.remaining (reader_of self.old)) (R.remaining (reader_of self.new))
+            result out.new }
+        ensures never_falls { errors_of self.old ≤ errors_of self.new }
+        ensures cause { OnErr result (HasRisen (errors_of self.old) (errors_of self.new)) }
+    {
+        for _tries in 0..u64::MAX {
+            match self.reader.read(out) {
+                Ok(count) => return Ok(count),
+                Err(error) => {
+                    self.faults = self.faults.saturating_add(1);
+                    if error.kind() != ErrorKind::Interrupted {
+                        return Err(Failed);
+                    }
+                }
+            }
+        }
+        Err(Failed)
+    }
+}
+
+#[cfg(test)]
+mod tests {
+    use super::*;
+    use crate::{InputFault, read_all};
+    use std::io;
+    use std::test::Fail;
+
+    // Gives a byte at each odd call. The second call is interrupted, and the fourth fails.
+    #[derive(Drop)]
+    struct Halting {
+        calls: u8,
+    }
+
+    impl Read for Halting {
+        fn read(&mut self, buf: &mut [u8]) -> io::Result<usize> {
+            self.calls = self.calls.saturating_add(1);
+            match self.calls {
+                2 => Err(io::Error::from(ErrorKind::Interrupted)),
+                4 => Err(io::Error::from(ErrorKind::Other)),
+                1 | 3 | 5 if !buf.is_empty() => {
+                    buf[0] = b'0' + self.calls;
+                    Ok(1)
+                }
+                _ => Ok(0),
+            }
+        }
+    }
+
+    #[test]
+    fn tries_an_interrupted_read_again(rt: HostRuntime) -> Result<(), Fail> {
+        let mut source = ReaderSource::new(Halting { calls: 0 });
+        let first = read_all(rt.alloc(), &mut source, 8).err();
+        assert_eq!(rt; (first, source.faults), (Some(InputFault::ReadFault), 2));
+        let rest = read_all(rt.alloc(), &mut source, 8)?;
+        assert_eq!(rt; rest.as_slice(), b"5".as_slice());
+        Ok(())
+    }
+}

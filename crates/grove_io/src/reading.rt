@@ -1,0 +1,134 @@
+// The reading of a whole source.
+ghost use Rattle.std.specs.Prelude.{◌≡◌, ◌≢◌, ◌<◌, ◌≤◌, ◌+◌, ◌^◌, ℕ, List, length, take, drop, vec_len, IfOk, OnOk, OnErr, IsOk, IfSome, IsErrOf};
+ghost use Rattle.grove_io.specs.Outside.{Gave, HasRisen, IsAtEnd, moved};
+
+use crate::{Failed, InputFault, Source};
+use std::alloc::{AllocError, Global};
+
+const FIRST_ROOM: usize = 64 * 1024;
+
+/// Reads a source to its end. It never takes more than `limit + 1` bytes.
+///
+/// `TooLong` comes where the source gave one byte more than `limit`, and `ReadFault` where a read failed.
+pub fn read_all<S: Source>(
+    alloc: Global,
+    source: &mut S,
+    limit: usize,
+) -> Result<Vec<u8>, InputFault>
+    requires { limit < 2 ^ 32 }
+
+    ensures whole { IfOk result (λ text. IfSome (S.left source.old) (λ left. text.items ≡ left)) }
+    ensures at_end { OnOk result (IsAtEnd (S.left source.new)) }
+    ensures short { IfOk result (λ text. vec_len text ≤ limit) }
+    ensures gave { IfOk result (λ text. Gave (S.left source.old) text.items (S.left source.new)) }
+
+    ensures too_long { IsErrOf result InputFault.TooLong
+        → (given : List ℕ) × (length given ≡ limit + 1) × Gave (S.left source.old) given (S.left source.new) }
+    ensures too_long_where_told { IsErrOf result InputFault.TooLong
+        → IfSome (S.left source.old) (λ left. limit < length left) }
+    ensures else_within_limit { result ≢ Err InputFault.TooLong
+        → (given : List ℕ) × (length given ≤ limit) × Gave (S.left source.old) given (S.left source.new) }
+
+    ensures cause { IsErrOf result InputFault.ReadFault → HasRisen (S.faults source.old) (S.faults source.new) }
+    ensures never_falls { S.faults source.old ≤ S.faults source.new }
+
+    ensures sure { S.never_fails source.old → result ≢ Err InputFault.ReadFault }
+    ensures stays_sure { S.never_fails source.old → S.never_fails source.new }
+    ensures no_fault { S.never_fails source.old → S.faults source.new ≡ S.faults source.old }
+{
+    let mut text = Vec::new(alloc);
+    let mut filled = 0;
+    while filled <= limit {
+        make_room(&mut text, filled, limit + 1)?;
+        let count = read_behind(source, &mut text, filled)?;
+        if count == 0 {
+            text.truncate(filled);
+            return Ok(text);
+        }
+        filled += count;
+    }
+    Err(InputFault::TooLong)
+}
+
+/// Makes the text longer than `filled`, by zeros, and at most `most` long. It grows to twice its length, so that
+/// all the growths together take linear time.
+fn make_room(text: &mut Vec<u8>, filled: usize, most: usize) -> Result<(), AllocError>
+    requires filled { filled ≤ vec_len text.old }
+    requires short { filled < most }
+    requires within { vec_len text.old ≤ most }
+    requires small { most ≤ 2 ^ 32 }
+    ensures room { OnOk result (filled < vec_len text.new) }
+    ensures within { vec_len text.new ≤ most }
+    ensures front { take filled text.new.items ≡ take filled text.old.items }
+{
+    if filled < text.len() {
+        return Ok(());
+    }
+    let longer = (2 * text.len()).max(FIRST_ROOM).min(most);
+    text.resize(longer, 0)
+}
+
+/// One read, to behind the first `filled` bytes of the text.
+fn read_behind<S: Source>(source: &mut S, text: &mut [u8], filled: usize) -> Result<usize, Failed>
+    requires { filled < length text.old }
+    ensures within { IfOk result (λ count. filled + count ≤ length text.new) }
+    ensures front { take filled text.new ≡ take filled text.old }
+    ensures gave { Gave (S.left source.old) (moved result (drop filled text.new)) (S.left source.new) }
+    ensures at_end { IfOk result (λ count. count ≡ 0 → IsAtEnd (S.left source.new)) }
+    ensures never_falls { S.faults source.old ≤ S.faults source.new }
+    ensures cause { OnErr result (HasRisen (S.faults source.old) (S.faults source.new)) }
+    ensures sure { S.never_fails source.old → IsOk result }
+    ensures stays_sure { S.never_fails source.old → S.never_fails source.new }
+    ensures no_fault { S.never_fails source.old → S.faults source.new ≡ S.faults source.old }
+{
+    source.read(&mut text[filled..])
+}
+
+#[cfg(test)]
+mod tests {
+    use super::*;
+    use crate::{MemorySource, SureSource};
+    use std::test::Fail;
+
+    fn source(alloc: Global, piece: usize, failing: u64) -> Result<MemorySource, AllocError>
+        requires { 1 ≤ piece }
+    {
+        let bytes = b"abc".to_vec(alloc)?;
+        Ok(MemorySource::new(bytes, piece, [failing].to_vec(alloc)?))
+    }
+
+    // At one byte a read, the fourth read finds the end.
+    #[test]
+    fn goes_on_after_a_fault_at_each_read(rt: HostRuntime) -> Result<(), Fail> {
+        let text = b"abc".as_slice();
+        for read in 0..4 {
+            let mut source = source(rt.alloc(), 1, read as u64 + 1)?;
+            let first = read_all(rt.alloc(), &mut source, 3).err();
+            assert_eq!(rt; first, Some(InputFault::ReadFault), "after {read} reads");
+            let rest = read_all(rt.alloc(), &mut source, 3)?;
+            assert_eq!(rt; rest.as_slice(), &text[read..], "after {read} reads");
+        }
+        Ok(())
+    }
+
+    #[test]
+    fn takes_one_byte_beyond_the_limit(rt: HostRuntime) -> Result<(), Fail> {
+        let text = b"abc".as_slice();
+        for limit in 0..3 {
+            let mut source = source(rt.alloc(), 9, 0)?;
+            let first = read_all(rt.alloc(), &mut source, limit).err();
+            assert_eq!(rt; first, Some(InputFault::TooLong), "at {limit}");
+            let rest = read_all(rt.alloc(), &mut source, 3)?;
+            assert_eq!(rt; rest.as_slice(), &text[limit + 1..], "at {limit}");
+        }
+        Ok(())
+    }
+
+    #[test]
+    fn reads_to_the_limit(rt: HostRuntime) -> Result<(), Fail> {
+        let bytes = b"abc".to_vec(rt.alloc())?;
+        let text = read_all(rt.alloc(), &mut SureSource::new(bytes, 2), 3)?;
+        assert_eq!(rt; text.as_slice(), b"abc".as_slice());
+        Ok(())
+    }
+}

@@ -1,0 +1,63 @@
+-- Identifiers: what their fields keep, and that an identifier is its bytes.
+use Rattle.std.proofs.Common.{◌≡◌, ℕ, ◌-◌, ◌≤◌, ◌++◌, List, [], ◌∷◌, length, take, drop, replicate, ap, sym, subst, ◌∙◌, arith}
+use Rattle.std.proofs.Props.{props}
+use Rattle.std.proofs.lemmas.List.{take-append-drop, length-take, length-append, length-drop, drop-replicate}
+use Rattle.std.proofs.Math.Seq.{take-append_seam, drop-append_seam}
+use Rattle.std.proofs.lemmas.Bool.Decides.{nat_tests}
+use Rattle.grove_sorts.specs.Identifier.{IsIdentifier}
+use Rattle.grove_sorts.specs.Ident.{ident_bytes}
+use Rattle.grove_sorts.specs.declared.ident.Ident.{Ident}
+
+-- what the fields of an identifier keep
+abbrev pub Kept : List ℕ → ℕ → Type 0
+Kept bytes len = (length bytes ≡ 32) × (len ≤ 32) × IsIdentifier (take len bytes) × (drop len bytes ≡ replicate (32 - len) 0)
+
+Kept-prop : (bytes : List ℕ) (len : ℕ) → IsProp (Kept bytes len)
+Kept-prop bytes len = hlevel props
+
+abbrev made : (bytes : List ℕ) (len : ℕ) → Kept bytes len → Ident
+made bytes len kept = record { bytes = bytes; len = len; whole = kept.0; short = kept.1; spelled = kept.2; padded = kept.3 }
+
+-- identifiers with the same bytes and length are one, whatever proofs they hold
+made_same : (bytes : List ℕ) (len : ℕ) (kept : Kept bytes len) (others : List ℕ) (n : ℕ) → bytes ≡ others → len ≡ n → (held : Kept others n) → made bytes len kept ≡ made others n held
+made_same bytes len kept others n same_bytes same_len =
+    subst (λ xs. (held : Kept xs n) → made bytes len kept ≡ made xs n held) same_bytes
+    (subst (λ k. (held : Kept bytes k) → made bytes len kept ≡ made bytes k held) same_len
+    (λ held. ap (made bytes len) (Kept-prop bytes len kept held)))
+
+same_length : (xs ys : List ℕ) (m n : ℕ) → length xs ≡ 32 → length ys ≡ 32 → m ≤ 32 → n ≤ 32 → take m xs ≡ take n ys → m ≡ n
+same_length xs ys m n p q r s e =
+    omega (arith, simp length-take at (ap length e))
+
+same_padded : (xs ys : List ℕ) (m n : ℕ) → m ≡ n → take m xs ≡ take n ys → drop m xs ≡ replicate (32 - m) 0 → drop n ys ≡ replicate (32 - n) 0 → xs ≡ ys
+same_padded xs ys m n e t p q =
+    sym (take-append-drop m xs) ∙ (let d : drop m xs ≡ drop n ys = p ∙ ap (λ k. replicate (32 - k) 0) e ∙ sym q in
+    ap (λ zs. zs ++ drop m xs) t ∙ ap (λ zs. take n ys ++ zs) d) ∙ take-append-drop n ys
+
+pub identifier_spelled : (x : Ident) → IsIdentifier (ident_bytes x)
+identifier_spelled x = x.spelled
+
+-- an identifier is its bytes
+pub ident_exact : (a b : Ident) → ident_bytes a ≡ ident_bytes b → a ≡ b
+ident_exact a b e =
+    let same_len : a.len ≡ b.len = same_length a.bytes b.bytes a.len b.len a.whole b.whole a.short b.short e in
+    made_same a.bytes a.len (a.whole, a.short, a.spelled, a.padded) b.bytes b.len
+    (same_padded a.bytes b.bytes a.len b.len same_len e a.padded b.padded)
+    same_len
+    (b.whole, b.short, b.spelled, b.padded)
+
+-- an identifier has at most 32 bytes
+pub identifier_short : (xs : List ℕ) → IsIdentifier xs → length xs ≤ 32
+identifier_short [] h = omega arith
+identifier_short (x ∷ xs) h = grind (arith, nat_tests)
+
+-- a spelling and zeros after it
+pub padded_kept : (ys xs zeros : List ℕ) → ys ≡ xs → zeros ≡ replicate 32 0 → IsIdentifier xs → Kept (ys ++ drop (length xs) zeros) (length xs)
+padded_kept ys xs zeros e z h =
+    let short : length xs ≤ 32 = identifier_short xs h in
+    subst (λ ys. Kept (ys ++ drop (length xs) zeros) (length xs)) (sym e) (
+      simp (length-append, length-drop) (omega (arith, ap length z)),
+      short,
+      rw take-append_seam h,
+      rw drop-append_seam (ap (drop (length xs)) z ∙ drop-replicate (length xs) 32 0),
+    )

@@ -1,0 +1,5 @@
+pub mod Identifier
+pub mod Ident
+pub mod Sort
+pub mod Ctor
+pub mod Position

@@ -1,0 +1,46 @@
+-- The table of positions: their words and their order.
+use Rattle.std.specs.Prelude.{ℕ, List, codes}
+use Rattle.std.specs.declared.cmp.Ordering.{Ordering}
+use Rattle.std.specs.Ordering.{nat_cmp}
+use Rattle.grove_sorts.specs.declared.position.Position.{Position}
+use Rattle.grove_sorts.specs.declared.position.Position.TheVariants.{Main, Param, Annot, Body, Fun, Arg, Left, Right, Test, WhenTrue, WhenFalse, First, Second, Operand, Dom, Cod}
+
+abbrev pub position_text : Position → List ℕ
+position_text Main = codes "main"
+position_text Param = codes "param"
+position_text Annot = codes "type"
+position_text Body = codes "body"
+position_text Fun = codes "fun"
+position_text Arg = codes "arg"
+position_text Left = codes "left"
+position_text Right = codes "right"
+position_text Test = codes "cond"
+position_text WhenTrue = codes "then"
+position_text WhenFalse = codes "else"
+position_text First = codes "first"
+position_text Second = codes "second"
+position_text Operand = codes "of"
+position_text Dom = codes "from"
+position_text Cod = codes "to"
+
+-- positions are ordered as they stand in the table
+abbrev pub position_number : Position → ℕ
+position_number Main = 0
+position_number Param = 1
+position_number Annot = 2
+position_number Body = 3
+position_number Fun = 4
+position_number Arg = 5
+position_number Left = 6
+position_number Right = 7
+position_number Test = 8
+position_number WhenTrue = 9
+position_number WhenFalse = 10
+position_number First = 11
+position_number Second = 12
+position_number Operand = 13
+position_number Dom = 14
+position_number Cod = 15
+
+abbrev pub position_cmp : Position → Position → Ordering
+position_cmp a b = nat_cmp (position_number a) (position_number b)

@@ -1,0 +1,111 @@
+ghost use Rattle.std.specs.Prelude.{◌≡◌, ◌-◌, ◌≤◌, length, take, drop, replicate};
+ghost use Rattle.grove_sorts.specs.Identifier.{IsIdentifier};
+
+use std::cmp::Ordering;
+
+/// How many bytes an identifier may have.
+pub const LONGEST: usize = 32;
+
+/// Why bytes are no identifier.
+#[derive(Clone, Copy, Debug, PartialEq, Eq)]
+pub enum IdentFault {
+    /// There are none or more than 32, the first is no lower-case letter, or another is neither such a letter nor a digit nor an underscore.
+    NotAnIdent,
+}
+
+/// An identifier of 1 to 32 bytes, held inline.
+#[derive(Clone, Copy, Debug)]
+pub struct Ident {
+    // Zero past the end, so that equal identifiers are equal values.
+    bytes: [u8; 32],
+    len: usize,
+    ghost whole: { length bytes ≡ 32 },
+    ghost short: { len ≤ 32 },
+    ghost spelled: { IsIdentifier (take len bytes) },
+    ghost padded: { drop len bytes ≡ replicate (32 - len) 0 },
+}
+
+impl Ident {
+    ghost use Rattle.grove_sorts.specs.Ident.{ident_bytes};
+
+    // The identifier of these bytes.
+    pub(crate) fn new(spelling: &[u8]) -> Ident
+        requires { IsIdentifier spelling.now }
+        ensures { ident_bytes result ≡ spelling.now }
+    {
+        let mut bytes = [0; LONGEST];
+        bytes[..spelling.len()].copy_from_slice(spelling);
+        Ident {
+            bytes,
+            len: spelling.len(),
+        }
+    }
+
+    /// Its bytes.
+    pub fn as_slice(&self) -> &[u8]
+        ensures bytes { result.now ≡ ident_bytes self.now }
+    {
+        &self.bytes[..self.len]
+    }
+}
+
+impl PartialEq for Ident {
+    ghost use Rattle.std.specs.Prelude.{◌==◌};
+    ghost use Rattle.std.specs.Ordering.{on};
+    ghost use lib.Pointwise.{pointwise};
+    ghost use Rattle.std.proofs.Common.{rules};
+    ghost use Rattle.std.specs.Cmp.Rules.{comparing};
+    ghost use Rattle.grove_sorts.specs.Ident.{ident_bytes};
+
+    ghost eq = { on ident_bytes (pointwise ◌==◌) };
+
+    ghost laws = { Prim.search (comparing, rules) };
+
+    fn eq(&self, other: &Ident) -> bool {
+        self.as_slice() == other.as_slice()
+    }
+}
+
+impl Eq for Ident {
+    ghost use Rattle.std.proofs.Common.{rules};
+    ghost use Rattle.std.specs.Cmp.Rules.{comparing};
+
+    ghost laws = { Prim.search (comparing, rules) };
+}
+
+impl PartialOrd for Ident {
+    ghost use Rattle.std.specs.Ordering.{nat_cmp, on, as_partial_cmp};
+    ghost use Rattle.std.specs.Cmp.Lexicographic.{slice_cmp};
+    ghost use Rattle.std.specs.Cmp.{partial_order_from_own_ties};
+    ghost use Rattle.std.proofs.Common.{rules};
+    ghost use Rattle.std.specs.Cmp.Rules.{comparing};
+    ghost use Rattle.grove_sorts.specs.Ident.{ident_bytes};
+
+    ghost partial_cmp = { as_partial_cmp (on ident_bytes (slice_cmp nat_cmp)) };
+
+    ghost laws = { partial_order_from_own_ties (Prim.search (comparing, rules)) (Prim.search (comparing, rules)) };
+
+    fn partial_cmp(&self, other: &Ident) -> Option<Ordering> {
+        Some(self.cmp(other))
+    }
+}
+
+impl Ord for Ident {
+    ghost use Rattle.std.specs.Ordering.{nat_cmp, on};
+    ghost use Rattle.std.specs.Cmp.Lexicographic.{slice_cmp};
+    ghost use Rattle.std.proofs.Common.{rules};
+    ghost use Rattle.std.specs.Cmp.Rules.{comparing};
+    ghost use Rattle.grove_sorts.specs.Ident.{ident_bytes};
+
+    ghost cmp = { on ident_bytes (slice_cmp nat_cmp) };
+
+    ghost total = { Prim.search (comparing, rules) };
+
+    ghost matches_partial_cmp = { Prim.search (comparing, rules) };
+
+    ghost matches_eq = { Prim.search (comparing, rules) };
+
+    fn cmp(&self, other: &Ident) -> Ordering {
+        self.as_slice().cmp(other.as_slice())
+    }
+}

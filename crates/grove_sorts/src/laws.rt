@@ -1,0 +1,51 @@
+ghost use Rattle.std.specs.Prelude.{◌≡◌, ℕ, ◌<◌};
+ghost use Rattle.std.specs.Cmp.{IsTotalOrder};
+ghost use Rattle.std.specs.declared.cmp.Ordering.TheVariants.{Equal};
+ghost use Rattle.text_parts.specs.Separated.{Lacks};
+ghost use Rattle.grove_sorts.specs.declared.ident.Ident.{Ident};
+ghost use Rattle.grove_sorts.specs.declared.ctor.Ctor.{Ctor};
+ghost use Rattle.grove_sorts.specs.declared.position.Position.{Position};
+ghost use Rattle.grove_sorts.specs.Identifier.{IsIdentifier};
+ghost use Rattle.grove_sorts.specs.Ident.{ident_bytes, ident_cmp};
+ghost use Rattle.grove_sorts.specs.Ctor.{InRange, ctor_text, ctor_cmp};
+ghost use Rattle.grove_sorts.specs.Position.{position_text, position_cmp};
+
+use crate::ctor::Ctor;
+use crate::ident::Ident;
+use crate::position::Position;
+
+/// An identifier is its bytes, in which none stands below the digits; identifiers are ordered by them, and only equal ones tie.
+pub fn identifiers_are_ordered()
+    ensures spelled { (a : Ident) → IsIdentifier (ident_bytes a) }
+    ensures unbroken { (c : ℕ) (a : Ident) → c < 48 → Lacks c (ident_bytes a) }
+    ensures exact { (a b : Ident) → ident_bytes a ≡ ident_bytes b → a ≡ b }
+    ensures total { IsTotalOrder ident_cmp }
+    ensures ties { (a b : Ident) → ident_cmp a b ≡ Equal → a ≡ b }
+    ensures compared { (a b : Ident) → ⟦<Ident as Ord>⟧.cmp a b ≡ ident_cmp a b }
+{}
+
+/// Constructors are ordered by the table, and only equal ones tie.
+pub fn constructors_are_ordered()
+    ensures total { IsTotalOrder ctor_cmp }
+    ensures ties { (a b : Ctor) → ctor_cmp a b ≡ Equal → a ≡ b }
+    ensures compared { (a b : Ctor) → ⟦<Ctor as Ord>⟧.cmp a b ≡ ctor_cmp a b }
+{}
+
+/// Positions are ordered by the table, and only equal ones tie.
+pub fn positions_are_ordered()
+    ensures total { IsTotalOrder position_cmp }
+    ensures ties { (a b : Position) → position_cmp a b ≡ Equal → a ≡ b }
+    ensures compared { (a b : Position) → ⟦<Position as Ord>⟧.cmp a b ≡ position_cmp a b }
+{}
+
+/// A constructor is its text, in which no byte stands below the digits.
+pub fn constructors_are_their_texts()
+    ensures one { (a b : Ctor) → InRange a → InRange b → ctor_text a ≡ ctor_text b → a ≡ b }
+    ensures unbroken { (c : ℕ) (ctor : Ctor) → c < 48 → InRange ctor → Lacks c (ctor_text ctor) }
+{}
+
+/// A position is its word, in which no byte stands below the digits.
+pub fn positions_are_their_words()
+    ensures one { (a b : Position) → position_text a ≡ position_text b → a ≡ b }
+    ensures unbroken { (c : ℕ) (position : Position) → c < 48 → Lacks c (position_text position) }
+{}

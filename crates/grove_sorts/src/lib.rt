@@ -1,0 +1,29 @@
+//! What a vertex may be and where its children stand: identifiers, sorts, constructors and positions, with their texts and their orders.
+//! The table of constructors and positions is the one definition that every other crate cites.
+#![tactic(auto)]
+
+mod ctor;
+mod ident;
+mod laws;
+mod no_memory;
+mod position;
+mod read;
+mod sort;
+mod table;
+mod write;
+
+pub use ctor::Ctor;
+pub use ident::{Ident, IdentFault};
+pub use laws::{
+    constructors_are_ordered, constructors_are_their_texts, identifiers_are_ordered,
+    positions_are_ordered, positions_are_their_words,
+};
+pub use no_memory::NoMemory;
+pub use position::Position;
+pub use read::{read_ctor, read_ident, read_position};
+pub use sort::Sort;
+pub use table::{first_position_of_sort, position_at, position_count, position_sort, sort_of};
+pub use write::{write_ctor, write_ident, write_position, write_sort};
+
+#[cfg(test)]
+mod tests;

@@ -1,0 +1,8 @@
+-- The spelling of numbers.
+use Rattle.std.specs.Prelude.{◌≡◌, ℕ, ◌≤◌, ◌⊎◌, List, [], ◌∷◌}
+use Rattle.std.specs.Str.Parse.{AllDigits}
+
+-- `0`, or a digit from 1 to 9 followed by digits
+abbrev pub IsNumberText : List ℕ → Type 0
+IsNumberText [] = ⊥
+IsNumberText (first ∷ rest) = ((first ≡ 48) × (rest ≡ [])) ⊎ ((49 ≤ first) × (first ≤ 57) × AllDigits 10 rest)

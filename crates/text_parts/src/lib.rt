@@ -1,0 +1,14 @@
+//! What the lines of every text format are made of: decimal numbers with one spelling each, and parts that a byte separates.
+//! A number's text is what `{}` writes of it. Names, constructors and edit lines stand on this crate.
+#![tactic(auto)]
+
+mod no_memory;
+mod number;
+mod separated;
+
+pub use no_memory::NoMemory;
+pub use number::{read_number, write_number};
+pub use separated::split_at_first;
+
+#[cfg(test)]
+mod tests;
