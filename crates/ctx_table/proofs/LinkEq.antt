@@ -1,6 +1,5 @@
 -- The comparison of links is equality.
-use Rattle.std.proofs.Common.{◌≡◌, ℕ, true, ◌==◌, rules, arith}
-use Rattle.std.proofs.lemmas.Bool.{eqb-true}
+use Rattle.std.proofs.Common.{◌≡◌, true, ◌==◌, rules}
 use Rattle.std.specs.Cmp.Lexicographic.{pointwise, bytes_decides}
 use Rattle.grove_sorts.specs.Ident.{ident_bytes}
 use Rattle.grove_sorts.proofs.Identifiers.{ident_exact}

@@ -1,5 +1,5 @@
 -- Links, and the contexts that they stand for.
-use Rattle.std.proofs.Common.{◌≡◌, ℕ, ◌+◌, ◌-◌, ◌<◌, ◌≤◌, ◌⊎◌, Bool, true, false, List, [], ◌∷◌, ◌++◌, length, get_or, fold, refl, sym, ap, subst, ◌∙◌, inl, inr, arith, true≢false, zero, suc}
+use Rattle.std.proofs.Common.{◌≡◌, ℕ, ◌+◌, ◌-◌, ◌<◌, ◌⊎◌, Bool, true, List, [], ◌∷◌, ◌++◌, length, get_or, fold, refl, sym, ap, subst, ◌∙◌, inl, inr, arith, true≢false, zero, suc}
 use Rattle.std.proofs.lemmas.Bool.{cases_order}
 use Rattle.std.proofs.lemmas.List.{length_push, get_or_append_left, get_or_push, get_or_default}
 use Rattle.std.proofs.lemmas.List.Sums.{fold-append}
@@ -7,10 +7,9 @@ use Rattle.std.proofs.lemmas.Map.Keys.{apart_from_distinct}
 use Rattle.std.specs.List.{IsDistinct}
 use Rattle.grove_sorts.specs.declared.ident.Ident.{Ident}
 use Rattle.type_core.specs.declared.type_id.TypeId.{TypeId}
-use Rattle.ctx_table.specs.declared.ctx_id.CtxId.{CtxId}
 use Rattle.ctx_table.specs.declared.link.Link.{Link}
 use Rattle.ctx_table.specs.Context.{Context}
-use Rattle.ctx_table.specs.CtxTable.{IsContextOf, context_at, KeepsContexts, HasAdded, AreDistinct}
+use Rattle.ctx_table.specs.CtxTable.{context_at, KeepsContexts, HasAdded, AreDistinct}
 use Rattle.ctx_table.proofs.LinkEq.{link_same}
 use Rattle.ctx_table.specs.Links.{context_of, contexts_of, StandOnce, IsTable, HasAddedLink}
 
@@ -48,19 +47,19 @@ context_at-fold_here cs (l ∷ ls) zero d h before =
     let e : length cs + 0 ≡ length cs = omega arith in
     let below : l.outer.0 < length cs = omega (arith, before) in
     subst (λ k. get_or (fold add_context (add_context cs l) ls) k [] ≡ context_of (fold add_context (add_context cs l) ls) l) (sym e)
-        (here ∙ sym (context_of-same cs (fold add_context (add_context cs l) ls) l
-            (context_at-fold (add_context cs l) ls l.outer.0 (omega (arith, p, below)) ∙ get_or_append_left cs (context_of cs l ∷ []) [] l.outer.0 below)))
+    (here ∙ sym (context_of-same cs (fold add_context (add_context cs l) ls) l
+    (context_at-fold (add_context cs l) ls l.outer.0 (omega (arith, p, below)) ∙ get_or_append_left cs (context_of cs l ∷ []) [] l.outer.0 below)))
 context_at-fold_here cs (l ∷ ls) (suc i) d h before =
     let e : length (add_context cs l) + i ≡ length cs + suc i = (let p = length_push cs (context_of cs l) in omega (arith, p)) in
     subst (λ k. get_or (fold add_context (add_context cs l) ls) k [] ≡ context_of (fold add_context (add_context cs l) ls) (get_or ls i d)) e
-        (context_at-fold_here (add_context cs l) ls i d (omega (arith, h)) (omega (arith, before, e)))
+    (context_at-fold_here (add_context cs l) ls i d (omega (arith, h)) (omega (arith, before, e)))
 
 pub context_at-contexts_of : (ls : List Link) → IsTable ls → (i : ℕ) (d : Link) → i < length ls → get_or (contexts_of ls) (i + 1) [] ≡ context_of (contexts_of ls) (get_or ls i d)
 context_at-contexts_of ls table i d h =
     let e : 1 + i ≡ i + 1 = omega arith in
     let b = table.outer_before i d h in
     subst (λ k. get_or (contexts_of ls) k [] ≡ context_of (contexts_of ls) (get_or ls i d)) e
-        (context_at-fold_here ([] ∷ []) ls i d h (omega (arith, b)))
+    (context_at-fold_here ([] ∷ []) ls i d h (omega (arith, b)))
 
 -- the empty context stands first
 pub empty_context : (ls : List Link) (table : List Context) → contexts_of ls ≡ table → get_or table 0 [] ≡ []
@@ -74,10 +73,11 @@ context_at-read ls ws table view same links n l positive h read =
     let within : n - 1 < length ls = omega (arith, h, positive, ap length view, length-contexts_of ls) in
     let read_ls : get_or ls (n - 1) l ≡ l = sym (read ∙ ap (λ xs. get_or xs (n - 1) l) same) in
     let back : n - 1 + 1 ≡ n = omega (arith, positive) in
-    let before = links.outer_before (n - 1) l within in
-    (subst (λ t. get_or t n [] ≡ context_of t l) view
-        (ap (λ k. get_or (contexts_of ls) k []) (sym back) ∙ context_at-contexts_of ls links (n - 1) l within ∙ ap (context_of (contexts_of ls)) read_ls),
-     omega (arith, subst (λ x. x.outer.0 < n - 1 + 1) read_ls before, back))
+    let before = links.outer_before (n - 1) l within in (
+      subst (λ t. get_or t n [] ≡ context_of t l) view
+          (ap (λ k. get_or (contexts_of ls) k []) (sym back) ∙ context_at-contexts_of ls links (n - 1) l within ∙ ap (context_of (contexts_of ls)) read_ls),
+      omega (arith, subst (λ x. x.outer.0 < n - 1 + 1) read_ls before, back),
+    )
 
 pub KeepsContexts-push : (cs : List Context) (c : Context) → KeepsContexts cs (cs ++ c ∷ [])
 KeepsContexts-push cs c = record {
@@ -100,6 +100,7 @@ module _ (eq : Link → Link → Bool) (reflexive : (l : Link) → eq l l ≡ tr
       clash : (k m : ℕ) → k < m → m < length ls → get_or ls k d ≡ get_or ls m d → ⊥
       clash k m h hm same =
           true≢false (sym (reflexive (get_or ls m d)) ∙ ap (λ l. eq l (get_or ls m d)) (sym same) ∙ apart_from_distinct eq ls k m d apart h hm)
+
       by : (i ≡ j) ⊎ ((i < j) ⊎ (j < i)) → i ≡ j
       by (inl same) = same
       by (inr (inl lt)) = absurd (clash i j lt hj e)

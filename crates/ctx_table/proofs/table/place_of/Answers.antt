@@ -1,4 +1,4 @@
-use Rattle.std.proofs.Common.{sym, ap, ◌∙◌}
+use Rattle.std.proofs.Common.{sym, ◌∙◌}
 use Rattle.std.proofs.lemmas.Option.{get_or_from_slice_get}
 use Rattle.ctx_table.proofs.LinkEq.{reflexive, sound}
 use Rattle.ctx_table.proofs.LinkLemmas.{StandOnce-from_distinct}
