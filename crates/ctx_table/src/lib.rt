@@ -4,12 +4,13 @@
 #![tactic(auto)]
 
 mod ctx_id;
-pub mod laws;
+mod laws;
 mod link;
 mod no_memory;
 mod table;
 
 pub use ctx_id::CtxId;
+pub use laws::look_up_finds_the_innermost;
 pub use no_memory::NoMemory;
 pub use table::CtxTable;
 

@@ -42,6 +42,7 @@ fn place_of(links: &mut IndexSet<Link>, link: Link) -> Result<usize, NoMemory>
     ensures unchanged { OnErr result (links.new.keys ≡ links.old.keys) }
 {
     let (place, _) = links.insert_full(link)?;
+    // A set's length fits its type, so the number after a place does too.
     prove!(place < links.len());
     Ok(place)
 }

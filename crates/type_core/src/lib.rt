@@ -6,7 +6,7 @@
 mod consistency;
 mod former;
 mod heads;
-pub mod laws;
+mod laws;
 mod meeting;
 mod no_memory;
 mod node;
@@ -15,6 +15,11 @@ mod text;
 mod type_id;
 
 pub use former::Former;
+pub use laws::{
+    consistency_is_not_transitive, consistency_is_reflexive, consistency_is_symmetric,
+    meet_is_a_semilattice, meet_is_greatest_below_both, meet_is_where_consistent,
+    precision_is_an_order,
+};
 pub use no_memory::NoMemory;
 pub use table::TypeTable;
 pub use type_id::TypeId;
