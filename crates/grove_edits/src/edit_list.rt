@@ -40,6 +40,15 @@ impl EditList {
         Ok(())
     }
 
+    /// Appends edits, all of them or none.
+    pub fn extend_from_slice(&mut self, edits: &[Edit]) -> Result<(), NoMemory>
+        ensures appended { OnOk result (self.new ≡ self.old ++ edits.now) }
+        ensures unchanged { OnErr result (self.new ≡ self.old) }
+    {
+        self.edits.extend_from_slice(edits)?;
+        Ok(())
+    }
+
     pub fn len(&self) -> usize
         ensures { result ≡ length self.now }
     {

@@ -57,7 +57,7 @@ fn a_deletion_wins(rt: HostRuntime) -> Result<(), Fail> {
     let mut edits = EditList::new(rt.alloc());
     edits.push(other)?;
     edits.push(deleted)?;
-    edits.push(inserted)?;
+    edits.extend_from_slice(&[inserted])?;
     let canonical = edits.into_canonical(rt.alloc())?;
     assert_eq!(rt; canonical.len(), 2);
     assert_eq!(rt; canonical.get(0), Some(deleted));
