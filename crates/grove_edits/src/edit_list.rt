@@ -79,7 +79,7 @@ impl EditList {
         ensures canonical { IfOk result (λ list. IsCanonical (graph self) list) }
     {
         let EditList { mut edits } = self;
-        edits.sort()?;
+        edits.sort_unstable();
         let edits = last_of_each_edge(alloc, &edits)?;
         Ok(EditList { edits })
     }
