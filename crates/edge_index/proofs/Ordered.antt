@@ -1,7 +1,7 @@
 -- Lists in edge order that hold the same edges are one, and what they hold with one edge more or fewer.
 use Rattle.std.proofs.Common.{◌≡◌, Bool, true, false, cond, List, [], ◌∷◌, refl, sym, ap, subst, ◌∙◌}
 use Rattle.std.specs.Prelude.{◌&&◌, ◌||◌, not, filter}
-use Rattle.std.specs.List.{AllByRecursion, list_any}
+use Rattle.std.specs.List.{AllByRecursion}
 use Rattle.std.specs.declared.cmp.Ordering.{Ordering}
 use Rattle.std.specs.declared.cmp.Ordering.TheVariants.{Less, Equal, Greater}
 use Rattle.std.specs.Ordering.{is_eq, ordering_reverse}
@@ -35,10 +35,10 @@ pub not_same_from_less : (a b : Edge) → edge_cmp a b ≡ Less → is_same_edge
 not_same_from_less a b e =
     elim (is_same_edge b a) as (λ t. is_same_edge b a ≡ t → t ≡ false) [
       | true ↦ λ same.
-        let one = same_edge_exact b a same in
-        let itself : edge_cmp a a ≡ Less = ap (edge_cmp a) (sym one) ∙ e in
-        let equal = tied_itself edge_cmp_total a in
-        absurd cc
+          let one = same_edge_exact b a same in
+          let itself : edge_cmp a a ≡ Less = ap (edge_cmp a) (sym one) ∙ e in
+          let equal = tied_itself edge_cmp_total a in
+          absurd cc
       | false ↦ λ _. refl
     ] refl
 
@@ -46,10 +46,10 @@ pub not_same_from_greater : (x e : Edge) → edge_cmp e x ≡ Greater → is_sam
 not_same_from_greater x e gt =
     elim (is_same_edge x e) as (λ t. is_same_edge x e ≡ t → t ≡ false) [
       | true ↦ λ same.
-        let one = same_edge_exact x e same in
-        let itself : edge_cmp x x ≡ Greater = ap (λ z. edge_cmp z x) one ∙ gt in
-        let equal = tied_itself edge_cmp_total x in
-        absurd cc
+          let one = same_edge_exact x e same in
+          let itself : edge_cmp x x ≡ Greater = ap (λ z. edge_cmp z x) one ∙ gt in
+          let equal = tied_itself edge_cmp_total x in
+          absurd cc
       | false ↦ λ _. refl
     ] refl
 
@@ -74,9 +74,9 @@ holds-with_edge e x (y ∷ ys) =
     elim (edge_cmp x y) as (λ o. edge_cmp x y ≡ o → holds_edge e (put_before o x y ys (with_edge x ys)) ≡ (is_same_edge x e || (is_same_edge y e || holds_edge e ys))) [
       | Less ↦ λ _. refl
       | Equal ↦ λ tie.
-        let one : y ≡ x = sym (edge_cmp_exact x y tie) in
-        let again : (is_same_edge x e || holds_edge e ys) ≡ (is_same_edge x e || (is_same_edge x e || holds_edge e ys)) = or_again (is_same_edge x e) (holds_edge e ys) in
-        subst (λ z. (is_same_edge z e || holds_edge e ys) ≡ (is_same_edge x e || (is_same_edge z e || holds_edge e ys))) (sym one) again
+          let one : y ≡ x = sym (edge_cmp_exact x y tie) in
+          let again : (is_same_edge x e || holds_edge e ys) ≡ (is_same_edge x e || (is_same_edge x e || holds_edge e ys)) = or_again (is_same_edge x e) (holds_edge e ys) in
+          subst (λ z. (is_same_edge z e || holds_edge e ys) ≡ (is_same_edge x e || (is_same_edge z e || holds_edge e ys))) (sym one) again
       | Greater ↦ λ _. ap (λ b. is_same_edge y e || b) (holds-with_edge e x ys) ∙ or_swap (is_same_edge y e) (is_same_edge x e) (holds_edge e ys)
     ] refl
 
@@ -96,16 +96,16 @@ holds-filter p e [] = elim (p e) as (λ b. false ≡ (b && false)) [ true ↦ re
 holds-filter p e (x ∷ xs) =
     elim (is_same_edge x e) as (λ s. is_same_edge x e ≡ s → holds_edge e (cond (p x) (x ∷ filter p xs) (filter p xs)) ≡ (p e && (s || holds_edge e xs))) [
       | true ↦ λ same.
-        let one = same_edge_exact x e same in
-        elim (p x) as (λ b. p x ≡ b → holds_edge e (cond b (x ∷ filter p xs) (filter p xs)) ≡ (p e && true)) [
-          | true ↦ λ passes. ap (λ s. s || holds_edge e (filter p xs)) same ∙ sym (ap (λ b. b && true) (ap p (sym one) ∙ passes))
-          | false ↦ λ fails. let no : p e ≡ false = ap p (sym one) ∙ fails in holds-filter p e xs ∙ ap (λ b. b && holds_edge e xs) no ∙ sym (ap (λ b. b && true) no)
-        ] refl
+          let one = same_edge_exact x e same in
+          elim (p x) as (λ b. p x ≡ b → holds_edge e (cond b (x ∷ filter p xs) (filter p xs)) ≡ (p e && true)) [
+            | true ↦ λ passes. ap (λ s. s || holds_edge e (filter p xs)) same ∙ sym (ap (λ b. b && true) (ap p (sym one) ∙ passes))
+            | false ↦ λ fails. let no : p e ≡ false = ap p (sym one) ∙ fails in holds-filter p e xs ∙ ap (λ b. b && holds_edge e xs) no ∙ sym (ap (λ b. b && true) no)
+          ] refl
       | false ↦ λ other.
-        elim (p x) as (λ b. holds_edge e (cond b (x ∷ filter p xs) (filter p xs)) ≡ (p e && holds_edge e xs)) [
-          | true ↦ ap (λ s. s || holds_edge e (filter p xs)) other ∙ holds-filter p e xs
-          | false ↦ holds-filter p e xs
-        ]
+          elim (p x) as (λ b. holds_edge e (cond b (x ∷ filter p xs) (filter p xs)) ≡ (p e && holds_edge e xs)) [
+            | true ↦ ap (λ s. s || holds_edge e (filter p xs)) other ∙ holds-filter p e xs
+            | false ↦ holds-filter p e xs
+          ]
     ] refl
 
 -- ---- edge order
@@ -178,18 +178,18 @@ same_lists (x ∷ xs) (y ∷ ys) xo yo same =
     elim (edge_cmp x y) as (λ o. edge_cmp x y ≡ o → (x ∷ xs) ≡ (y ∷ ys)) [
       | Less ↦ λ lt. absurd (first_less x y xs ys lt yo.0 (same x))
       | Equal ↦ λ tie.
-        let one : x ≡ y = edge_cmp_exact x y tie in
-        let moved : (e : Edge) → (is_same_edge x e || holds_edge e xs) ≡ (is_same_edge x e || holds_edge e ys) =
-            λ e. same e ∙ ap (λ z. is_same_edge z e || holds_edge e ys) (sym one) in
-        let yo_x : AllByRecursion (λ later. edge_cmp x later ≡ Less) ys = subst (λ z. AllByRecursion (λ later. edge_cmp z later ≡ Less) ys) (sym one) yo.0 in
-        let rest : (e : Edge) → holds_edge e xs ≡ holds_edge e ys = λ e.
-            elim (is_same_edge x e) as (λ b. is_same_edge x e ≡ b → (b || holds_edge e xs) ≡ (b || holds_edge e ys) → holds_edge e xs ≡ holds_edge e ys) [
-              | true ↦ λ is _.
+          let one : x ≡ y = edge_cmp_exact x y tie in
+          let moved : (e : Edge) → (is_same_edge x e || holds_edge e xs) ≡ (is_same_edge x e || holds_edge e ys) =
+          λ e. same e ∙ ap (λ z. is_same_edge z e || holds_edge e ys) (sym one) in
+          let yo_x : AllByRecursion (λ later. edge_cmp x later ≡ Less) ys = subst (λ z. AllByRecursion (λ later. edge_cmp z later ≡ Less) ys) (sym one) yo.0 in
+          let rest : (e : Edge) → holds_edge e xs ≡ holds_edge e ys = λ e.
+          elim (is_same_edge x e) as (λ b. is_same_edge x e ≡ b → (b || holds_edge e xs) ≡ (b || holds_edge e ys) → holds_edge e xs ≡ holds_edge e ys) [
+            | true ↦ λ is _.
                 let z = same_edge_exact x e is in
                 subst (λ d. holds_edge d xs ≡ holds_edge d ys) z (not_held_before x xs xo.0 ∙ sym (not_held_before x ys yo_x))
-              | false ↦ λ _ h. h
-            ] refl (moved e) in
-        ap (λ zs. x ∷ zs) (same_lists xs ys xo.1 yo.1 rest) ∙ ap (λ z. z ∷ ys) one
+            | false ↦ λ _ h. h
+          ] refl (moved e) in
+          ap (λ zs. x ∷ zs) (same_lists xs ys xo.1 yo.1 rest) ∙ ap (λ z. z ∷ ys) one
       | Greater ↦ λ gt. absurd (first_less y x ys xs (less_from_greater x y gt) xo.0 (sym (same y)))
     ] refl
 

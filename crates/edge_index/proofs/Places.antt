@@ -1,16 +1,15 @@
 -- The place of an edge in a list in edge order.
-use Rattle.std.proofs.Common.{◌≡◌, ℕ, zero, suc, ◌+◌, ◌<◌, ◌≤◌, Bool, true, false, cond, List, [], ◌∷◌, ◌++◌, length, take, drop, get_or, refl, sym, ap, subst, ◌∙◌, arith, add-one, drop-cons}
-use Rattle.std.specs.Prelude.{◌||◌, not, insert, remove, filter}
+use Rattle.std.proofs.Common.{◌≡◌, ℕ, suc, ◌+◌, ◌<◌, ◌≤◌, true, false, cond, List, [], ◌∷◌, length, drop, get_or, refl, sym, ap, subst, ◌∙◌, arith, add-one, drop-cons}
+use Rattle.std.specs.Prelude.{◌||◌, not, insert, remove}
 use Rattle.std.specs.List.{AllByRecursion}
-use Rattle.std.specs.declared.cmp.Ordering.{Ordering}
 use Rattle.std.specs.declared.cmp.Ordering.TheVariants.{Less, Equal, Greater}
 use Rattle.grove_edits.specs.declared.edge.Edge.{Edge}
 use Rattle.grove_edits.specs.Edge.{edge_cmp}
 use Rattle.grove_edits.specs.Graph.{is_same_edge}
-use Rattle.grove_edits.proofs.Orders.{edge_cmp_total, edge_cmp_exact}
+use Rattle.grove_edits.proofs.Orders.{edge_cmp_exact}
 use Rattle.walks.specs.Live.{IsInEdgeOrder}
 use Rattle.edge_index.specs.Ordered.{holds_edge, put_before, with_edge, without_edge, place, place_by}
-use Rattle.edge_index.proofs.Ordered.{same_edge_exact, same_edge_itself, not_held_before, without_none, not_same_from_greater, all_after}
+use Rattle.edge_index.proofs.Ordered.{same_edge_itself, not_held_before, without_none, not_same_from_greater, all_after}
 
 pub place_le : (e : Edge) (xs : List Edge) → place e xs ≤ length xs
 place_le e [] = omega arith
@@ -27,14 +26,14 @@ insert-place e (x ∷ xs) new =
     elim (edge_cmp e x) as (λ o. edge_cmp e x ≡ o → insert (x ∷ xs) (place_by o (place e xs)) e ≡ put_before o e x xs (with_edge e xs)) [
       | Less ↦ λ _. refl
       | Equal ↦ λ tie.
-        let one = edge_cmp_exact e x tie in
-        let held : holds_edge e (x ∷ xs) ≡ true = ap (λ b. b || holds_edge e xs) (ap (λ z. is_same_edge z e) (sym one) ∙ same_edge_itself e) in
-        absurd cc
+          let one = edge_cmp_exact e x tie in
+          let held : holds_edge e (x ∷ xs) ≡ true = ap (λ b. b || holds_edge e xs) (ap (λ z. is_same_edge z e) (sym one) ∙ same_edge_itself e) in
+          absurd cc
       | Greater ↦ λ _.
-        elim (is_same_edge x e) as (λ b. (b || holds_edge e xs) ≡ false → insert (x ∷ xs) (suc (place e xs)) e ≡ x ∷ with_edge e xs) [
-          | true ↦ λ h. absurd cc
-          | false ↦ λ h. ap (λ zs. x ∷ zs) (insert-place e xs h)
-        ] new
+          elim (is_same_edge x e) as (λ b. (b || holds_edge e xs) ≡ false → insert (x ∷ xs) (suc (place e xs)) e ≡ x ∷ with_edge e xs) [
+            | true ↦ λ h. absurd cc
+            | false ↦ λ h. ap (λ zs. x ∷ zs) (insert-place e xs h)
+          ] new
     ] refl
 
 pub place_lt : (e : Edge) (xs : List Edge) → IsInEdgeOrder xs → holds_edge e xs ≡ true → place e xs < length xs
@@ -44,10 +43,10 @@ place_lt e (x ∷ xs) order held =
       | Less ↦ λ _. omega arith
       | Equal ↦ λ _. omega arith
       | Greater ↦ λ gt.
-        let other : is_same_edge x e ≡ false = not_same_from_greater x e gt in
-        let rest : holds_edge e xs ≡ true = sym (ap (λ b. b || holds_edge e xs) other) ∙ held in
-        let below = place_lt e xs order.1 rest in
-        omega arith
+          let other : is_same_edge x e ≡ false = not_same_from_greater x e gt in
+          let rest : holds_edge e xs ≡ true = sym (ap (λ b. b || holds_edge e xs) other) ∙ held in
+          let below = place_lt e xs order.1 rest in
+          omega arith
     ] refl
 
 pub remove-place : (e : Edge) (xs : List Edge) → IsInEdgeOrder xs → holds_edge e xs ≡ true → remove xs (place e xs) ≡ without_edge e xs
@@ -56,14 +55,14 @@ remove-place e (x ∷ xs) order held =
     elim (edge_cmp e x) as (λ o. edge_cmp e x ≡ o → remove (x ∷ xs) (place_by o (place e xs)) ≡ without_edge e (x ∷ xs)) [
       | Less ↦ λ lt. let none = not_held_before e (x ∷ xs) (lt, all_after e x xs lt order.0) in absurd cc
       | Equal ↦ λ tie.
-        let one : e ≡ x = edge_cmp_exact e x tie in
-        let same : is_same_edge x e ≡ true = ap (λ z. is_same_edge z e) (sym one) ∙ same_edge_itself e in
-        let later : AllByRecursion (λ later. edge_cmp e later ≡ Less) xs = subst (λ z. AllByRecursion (λ later. edge_cmp z later ≡ Less) xs) (sym one) order.0 in
-        sym (ap (λ b. cond (not b) (x ∷ without_edge e xs) (without_edge e xs)) same ∙ without_none e xs later)
+          let one : e ≡ x = edge_cmp_exact e x tie in
+          let same : is_same_edge x e ≡ true = ap (λ z. is_same_edge z e) (sym one) ∙ same_edge_itself e in
+          let later : AllByRecursion (λ later. edge_cmp e later ≡ Less) xs = subst (λ z. AllByRecursion (λ later. edge_cmp z later ≡ Less) xs) (sym one) order.0 in
+          sym (ap (λ b. cond (not b) (x ∷ without_edge e xs) (without_edge e xs)) same ∙ without_none e xs later)
       | Greater ↦ λ gt.
-        let other = not_same_from_greater x e gt in
-        let rest : holds_edge e xs ≡ true = sym (ap (λ b. b || holds_edge e xs) other) ∙ held in
-        ap (λ zs. x ∷ zs) (remove-place e xs order.1 rest) ∙ sym (ap (λ b. cond (not b) (x ∷ without_edge e xs) (without_edge e xs)) other)
+          let other = not_same_from_greater x e gt in
+          let rest : holds_edge e xs ≡ true = sym (ap (λ b. b || holds_edge e xs) other) ∙ held in
+          ap (λ zs. x ∷ zs) (remove-place e xs order.1 rest) ∙ sym (ap (λ b. cond (not b) (x ∷ without_edge e xs) (without_edge e xs)) other)
     ] refl
 
 -- the places from an index on

@@ -1,8 +1,8 @@
 -- Lists of edges by key, and the edges of all of them.
-use Rattle.std.specs.Prelude.{◌≡◌, ℕ, true, List, [], ◌∷◌, Option, None, Some, filter}
+use Rattle.std.specs.Prelude.{◌≡◌, ℕ, ◌==◌, true, not, length, count_by, List, [], ◌∷◌, Option, None, Some, filter}
 use Rattle.std.specs.declared.cmp.Ordering.{Ordering}
 use Rattle.std.specs.Ordering.{is_eq}
-use Rattle.std.specs.Map.{lookup, keys_of}
+use Rattle.std.specs.Map.{lookup, keys_of, values_of}
 use Rattle.std.specs.BTreeMap.{is_at}
 use Rattle.std.specs.List.Sorted.{IsStrictlySortedBy}
 use Rattle.grove_edits.specs.declared.edge.Edge.{Edge}
@@ -50,3 +50,7 @@ with_key cmp key k edges = filter (λ e. is_eq (cmp (key e) k)) edges
 pub record IsByKey {K : Type 0} (cmp : K → K → Ordering) (key : Edge → K) (lists : Lists K) : Type 0 where
   pub keyed : (k : K) (e : Edge) → holds_edge e (edges_at cmp lists k) ≡ true → is_eq (cmp (key e) k) ≡ true
   pub ascends : IsStrictlySortedBy cmp (keys_of lists)
+
+-- how many keys have an edge
+abbrev pub used_keys : {K : Type 0} → Lists K → ℕ
+used_keys lists = count_by (λ kept. not (length kept.edges == 0)) (values_of lists)

@@ -1,5 +1,4 @@
-use Rattle.std.proofs.Common.{◌≡◌, [], sym, ap, subst, ◌∙◌}
-use Rattle.grove_edits.specs.declared.edge.Edge.{Edge}
+use Rattle.std.proofs.Common.{◌≡◌, [], ap, subst, ◌∙◌}
 use Rattle.walks.specs.Live.{IsInEdgeOrder}
 use Rattle.edge_index.specs.Lists.{edges_of, edges_at, live, with_key}
 use Rattle.edge_index.proofs.Lookups.{edges_at-with_key}

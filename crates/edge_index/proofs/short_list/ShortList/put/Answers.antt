@@ -1,6 +1,5 @@
-use Rattle.std.proofs.Common.{◌≡◌, ◌<◌, ◌≤◌, ◌-◌, List, true, false, cond, length, sym, ap, subst, ◌∙◌, arith}
+use Rattle.std.proofs.Common.{◌≡◌, ◌-◌, true, false, cond, sym, ap, subst, ◌∙◌, arith}
 use Rattle.std.specs.Prelude.{insert, vec_len, vec_capacity, is_ok}
-use Rattle.grove_edits.specs.declared.edge.Edge.{Edge}
 use Rattle.walks.specs.Live.{IsInEdgeOrder}
 use Rattle.edge_index.specs.Ordered.{place, with_edge, holds_edge}
 use Rattle.edge_index.specs.Lists.{Kept}

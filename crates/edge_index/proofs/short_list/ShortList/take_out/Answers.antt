@@ -1,6 +1,5 @@
-use Rattle.std.proofs.Common.{◌≡◌, ◌<◌, ◌≤◌, List, true, cond, length, sym, ap, subst, ◌∙◌, arith}
-use Rattle.std.specs.Prelude.{remove, vec_len, not}
-use Rattle.grove_edits.specs.declared.edge.Edge.{Edge}
+use Rattle.std.proofs.Common.{◌≡◌, true, length, sym, ap, subst, ◌∙◌, arith}
+use Rattle.std.specs.Prelude.{remove, not}
 use Rattle.grove_edits.specs.Graph.{is_same_edge}
 use Rattle.walks.specs.Live.{IsInEdgeOrder}
 use Rattle.edge_index.specs.Ordered.{place, holds_edge, without_edge}
