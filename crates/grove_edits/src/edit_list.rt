@@ -40,6 +40,15 @@ impl EditList {
         Ok(())
     }
 
+    /// Appends edits, all of them or none.
+    pub fn extend_from_slice(&mut self, edits: &[Edit]) -> Result<(), NoMemory>
+        ensures appended { OnOk result (self.new ≡ self.old ++ edits.now) }
+        ensures unchanged { OnErr result (self.new ≡ self.old) }
+    {
+        self.edits.extend_from_slice(edits)?;
+        Ok(())
+    }
+
     pub fn len(&self) -> usize
         ensures { result ≡ length self.now }
     {
@@ -70,7 +79,7 @@ impl EditList {
         ensures canonical { IfOk result (λ list. IsCanonical (graph self) list) }
     {
         let EditList { mut edits } = self;
-        edits.sort()?;
+        edits.sort_unstable();
         let edits = last_of_each_edge(alloc, &edits)?;
         Ok(EditList { edits })
     }

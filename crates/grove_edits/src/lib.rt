@@ -18,3 +18,6 @@ pub use laws::{
 };
 pub use no_memory::NoMemory;
 pub use vertex::Vertex;
+
+#[cfg(test)]
+mod tests;

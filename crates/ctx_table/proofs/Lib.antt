@@ -1,0 +1,3 @@
+pub mod ContextLemmas
+pub mod LinkEq
+pub mod LinkLemmas

@@ -1,0 +1,4 @@
+pub mod Lines
+pub mod MoreLines
+pub mod Pieces
+pub mod TextsOfEdits

@@ -1,0 +1,3 @@
+pub mod FaultOfEdge
+pub mod Line
+pub mod Text

@@ -1,0 +1,116 @@
+ghost use Rattle.std.specs.Prelude.{◌≡◌, ◌≢◌, ◌∷◌, ◌++◌, ℕ, List, IfOk, IfErr, IfSome, IfNone, IsSomeAnd, Some};
+ghost use Rattle.grove_names.specs.declared.name.Name.{Name};
+ghost use Rattle.grove_names.specs.Name.{name_text, InRange as NameInRange};
+ghost use Rattle.grove_sorts.specs.declared.ctor.Ctor.{Ctor};
+ghost use Rattle.grove_sorts.specs.declared.position.Position.{Position};
+ghost use Rattle.grove_sorts.specs.Ctor.{ctor_text, InRange as CtorInRange};
+ghost use Rattle.grove_sorts.specs.Position.{position_text};
+ghost use Rattle.grove_edits.specs.declared.edge.Edge.{Edge};
+ghost use Rattle.grove_edits.specs.declared.edit.EditKind.{EditKind};
+ghost use Rattle.grove_edits.specs.declared.vertex.Vertex.{Vertex};
+ghost use Rattle.grove_edits.specs.Edge.{EdgeInRange};
+ghost use Rattle.grove_edits.specs.Vertex.{VertexInRange};
+ghost use Rattle.edit_text.specs.Line.{Spells, HasFault, form, spaced, edge_parts};
+
+use crate::line_fault::LineFault;
+use grove_edits::{Edge, Edit, EditKind, Vertex};
+use grove_names::{Name, read_name};
+use grove_sorts::{Ctor, Position, read_ctor, read_position};
+use text_parts::split_at_first;
+
+/// Reads a line, given without its LF, or answers the first fault that applies. It takes no memory.
+pub fn read_line(line: &[u8]) -> Result<Edit, LineFault>
+    ensures edit { IfOk result (Spells line.now) }
+    ensures first_fault { IfErr result (HasFault line.now) }
+{
+    let Some((kind, edge)) = read_form(line) else {
+        return Err(LineFault::Syntax);
+    };
+    Ok(Edit::new(kind, edge)?)
+}
+
+// The edge of a line need not be well formed.
+fn read_form(line: &[u8]) -> Option<(EditKind, Edge)>
+    ensures found { IfSome result (λ read. line.now ≡ form read.0 read.1) }
+    ensures none { IfNone result ((kind : EditKind) (edge : Edge) → EdgeInRange edge → line.now ≢ form kind edge) }
+{
+    match line {
+        [b'+', text @ ..] => Some((EditKind::Insert, read_edge(text)?)),
+        [b'-', text @ ..] => Some((EditKind::Delete, read_edge(text)?)),
+        _ => None,
+    }
+}
+
+fn read_edge(text: &[u8]) -> Option<Edge>
+    ensures found { IfSome result (λ edge. text.now ≡ spaced (edge_parts edge)) }
+    ensures none { IfNone result ((edge : Edge) → EdgeInRange edge → text.now ≢ spaced (edge_parts edge)) }
+{
+    let (name, rest) = take_name(text)?;
+    let (source, rest) = take_vertex(rest)?;
+    let (position, rest) = take_position(rest)?;
+    let target = read_vertex(rest)?;
+    Some(Edge {
+        name,
+        source,
+        position,
+        target,
+    })
+}
+
+// A vertex: its name, a space and its constructor.
+fn read_vertex(text: &[u8]) -> Option<Vertex>
+    ensures found { IfSome result (λ vertex. text.now ≡ name_text vertex.name ++ 32 ∷ ctor_text vertex.ctor) }
+    ensures none { IfNone result ((vertex : Vertex) → NameInRange vertex.name → CtorInRange vertex.ctor
+        → text.now ≢ name_text vertex.name ++ 32 ∷ ctor_text vertex.ctor) }
+{
+    let (name, rest) = take_name(text)?;
+    let ctor = read_ctor(rest)?;
+    Some(Vertex { name, ctor })
+}
+
+// A vertex and the space behind it, and what stands after them.
+fn take_vertex(text: &[u8]) -> Option<(Vertex, &[u8])>
+    ensures found { IfSome result (λ read. text.now ≡ name_text read.0.name ++ 32 ∷ (ctor_text read.0.ctor ++ 32 ∷ read.1.now)) }
+    ensures only { (vertex : Vertex) (rest : List ℕ) → NameInRange vertex.name → CtorInRange vertex.ctor
+        → text.now ≡ name_text vertex.name ++ 32 ∷ (ctor_text vertex.ctor ++ 32 ∷ rest)
+        → IsSomeAnd result (λ read. (read.0.name ≡ vertex.name) × (read.0.ctor ≡ vertex.ctor) × (read.1.now ≡ rest)) }
+{
+    let (name, rest) = take_name(text)?;
+    let (ctor, rest) = take_ctor(rest)?;
+    Some((Vertex { name, ctor }, rest))
+}
+
+// A name and the space behind it, and what stands after them.
+fn take_name(text: &[u8]) -> Option<(Name, &[u8])>
+    ensures found { IfSome result (λ read. text.now ≡ name_text read.0 ++ 32 ∷ read.1.now) }
+    ensures only { (name : Name) (rest : List ℕ) → NameInRange name → text.now ≡ name_text name ++ 32 ∷ rest
+        → IsSomeAnd result (λ read. (read.0 ≡ name) × (read.1.now ≡ rest)) }
+{
+    let (part, rest) = split_at_first(text, b' ')?;
+    match read_name(part) {
+        Ok(name) => Some((name, rest)),
+        Err(_) => None,
+    }
+}
+
+// A constructor and the space behind it, and what stands after them.
+fn take_ctor(text: &[u8]) -> Option<(Ctor, &[u8])>
+    ensures found { IfSome result (λ read. text.now ≡ ctor_text read.0 ++ 32 ∷ read.1.now) }
+    ensures only { (ctor : Ctor) (rest : List ℕ) → CtorInRange ctor → text.now ≡ ctor_text ctor ++ 32 ∷ rest
+        → IsSomeAnd result (λ read. (read.0 ≡ ctor) × (read.1.now ≡ rest)) }
+{
+    let (part, rest) = split_at_first(text, b' ')?;
+    let ctor = read_ctor(part)?;
+    Some((ctor, rest))
+}
+
+// A position's word and the space behind it, and what stands after them.
+fn take_position(text: &[u8]) -> Option<(Position, &[u8])>
+    ensures found { IfSome result (λ read. text.now ≡ position_text read.0 ++ 32 ∷ read.1.now) }
+    ensures only { (position : Position) (rest : List ℕ) → text.now ≡ position_text position ++ 32 ∷ rest
+        → IsSomeAnd result (λ read. (read.0 ≡ position) × (read.1.now ≡ rest)) }
+{
+    let (part, rest) = split_at_first(text, b' ')?;
+    let position = read_position(part)?;
+    Some((position, rest))
+}

@@ -1,0 +1,23 @@
+ghost use Rattle.std.specs.Prelude.{◌≡◌};
+ghost use Rattle.edit_text.specs.declared.text_fault.TextFault.TheVariants.{NoMemory};
+
+use crate::line_fault::LineFault;
+
+/// Why a text was not read.
+#[derive(Clone, Copy, Debug, PartialEq, Eq)]
+pub enum TextFault {
+    /// The first line, counted from 1, that spells no edit, and its first fault.
+    Malformed { line: u64, fault: LineFault },
+    /// Bytes stand behind the last LF; `line` is the number of the line that they begin.
+    Rest { line: u64 },
+    /// Memory ran out.
+    NoMemory,
+}
+
+impl From<grove_edits::NoMemory> for TextFault {
+    ghost from_gives = { λ _ fault. fault ≡ NoMemory };
+
+    fn from(_error: grove_edits::NoMemory) -> TextFault {
+        TextFault::NoMemory
+    }
+}

@@ -1,0 +1,67 @@
+use super::*;
+use grove_names::Name;
+use grove_sorts::{Ctor, Position};
+use std::test::Fail;
+
+const ROOT: Vertex = Vertex {
+    name: Name {
+        author: 0,
+        counter: 0,
+    },
+    ctor: Ctor::Root,
+};
+
+fn edge(counter: u64, position: Position, ctor: Ctor) -> Edge {
+    Edge {
+        name: Name { author: 1, counter },
+        source: ROOT,
+        position,
+        target: Vertex {
+            name: Name {
+                author: 1,
+                counter: 1,
+            },
+            ctor,
+        },
+    }
+}
+
+#[test]
+fn the_first_fault_is_told(rt: HostRuntime) {
+    assert_eq!(rt; check_edge(&edge(2, Position::Main, Ctor::Num(7))), Ok(()));
+    assert_eq!(rt;
+        check_edge(&edge(0, Position::Left, Ctor::TNum)),
+        Err(EdgeFault::BadVertex)
+    );
+    assert_eq!(rt;
+        check_edge(&edge(2, Position::Left, Ctor::TNum)),
+        Err(EdgeFault::NoPosition)
+    );
+    assert_eq!(rt;
+        check_edge(&edge(2, Position::Main, Ctor::TNum)),
+        Err(EdgeFault::WrongSort)
+    );
+    assert_eq!(rt;
+        Edit::insert(edge(2, Position::Main, Ctor::Root)).err(),
+        Some(EdgeFault::BadVertex)
+    );
+}
+
+#[test]
+fn a_deletion_wins(rt: HostRuntime) -> Result<(), Fail> {
+    let first = edge(2, Position::Main, Ctor::Num(7));
+    let second = edge(3, Position::Main, Ctor::LitTrue);
+    let inserted = Edit::insert(first).ok().ok_or("a good edge")?;
+    let deleted = Edit::delete(first).ok().ok_or("a good edge")?;
+    let other = Edit::insert(second).ok().ok_or("a good edge")?;
+    let mut edits = EditList::new(rt.alloc());
+    edits.push(other)?;
+    edits.push(deleted)?;
+    edits.extend_from_slice(&[inserted])?;
+    let canonical = edits.into_canonical(rt.alloc())?;
+    assert_eq!(rt; canonical.len(), 2);
+    assert_eq!(rt; canonical.get(0), Some(deleted));
+    assert_eq!(rt; canonical.get(1), Some(other));
+    assert_eq!(rt; canonical.get(2), None);
+    Ok(())
+}

@@ -1,0 +1,40 @@
+//! The program `grove`: the words of the command line, standard input and standard output around the top call.
+#![tactic(auto)]
+
+use grove_io::{ReaderSource, WriterSink};
+use grove_top::{Status, run};
+use std::alloc::Global;
+use std::env;
+use std::process::ExitCode;
+use std::rt::Env;
+
+fn main(rt: HostRuntime) -> ExitCode {
+    let words = words(&rt, rt.alloc());
+    let mut source = ReaderSource::new(rt.stdin());
+    let mut sink = WriterSink::new(rt.stdout());
+    let outcome = run(rt.alloc(), &words, &mut source, &mut sink);
+    ExitCode::from(exit_status(outcome.status))
+}
+
+// The words after the program's name. There are none where they cannot be had or one is no text, and so the usage line comes.
+fn words<R: Env + AllocGlobal>(rt: &R, alloc: Global) -> Vec<String> {
+    match env::args(rt) {
+        Ok(args) => match args.skip(1).collect(alloc) {
+            Ok(words) => words,
+            Err(_) => Vec::new(alloc),
+        },
+        Err(_) => Vec::new(alloc),
+    }
+}
+
+fn exit_status(status: Status) -> u8 {
+    match status {
+        Status::Done => 0,
+        Status::Usage => 2,
+        Status::Malformed { .. } => 3,
+        Status::TooLong => 4,
+        Status::ReadFault => 5,
+        Status::WriteFault => 6,
+        Status::NoMemory => 7,
+    }
+}

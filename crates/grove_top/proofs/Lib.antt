@@ -1,0 +1,3 @@
+pub mod OneDue
+pub mod Statuses
+pub mod WordsAre

@@ -1,0 +1,63 @@
+-- What is due for words and the bytes of the input: a status and a text.
+use Rattle.std.specs.declared.alloc.Global.{Global}
+use Rattle.std.specs.Prelude.{String, ◌≡◌, ℕ, ◌<◌, ◌≤◌, List, [], ◌∷◌, ◌++◌, length, codes, decimal}
+use Rattle.grove_edits.specs.declared.edit.Edit.{Edit}
+use Rattle.grove_edits.specs.Graph.{graph, IsCanonical}
+use Rattle.edit_text.specs.declared.line_fault.LineFault.TheVariants as lines
+use Rattle.edit_text.specs.Text.{text_of, IsMalformed, HasRest}
+use Rattle.grove_top.specs.declared.limit.TheConstants.{MOST_BYTES}
+use Rattle.grove_top.specs.declared.outcome.Fault.{Fault}
+use Rattle.grove_top.specs.declared.outcome.Fault.TheVariants.{Syntax, BadVertex, NoPosition, WrongSort, Rest}
+use Rattle.grove_top.specs.declared.outcome.Status.{Status}
+use Rattle.grove_top.specs.declared.outcome.Status.TheVariants.{Done, Usage, Malformed, TooLong, ReadFault, WriteFault, NoMemory}
+use Rattle.grove_top.specs.Words.{AreMerge}
+
+-- what is written where the words are those of no command
+abbrev pub usage_text : List ℕ
+usage_text = codes "usage: grove merge | show | check | run | gen N" ++ 10 ∷ []
+
+-- and where the input is too long
+abbrev pub too_long_text : List ℕ
+too_long_text = codes "too long" ++ 10 ∷ []
+
+abbrev pub fault_word : Fault → List ℕ
+fault_word Syntax = codes "syntax"
+fault_word BadVertex = codes "bad-vertex"
+fault_word NoPosition = codes "no-position"
+fault_word WrongSort = codes "wrong-sort"
+fault_word Rest = codes "rest"
+
+-- and where a line has no reading
+abbrev pub malformed_text : ℕ → Fault → List ℕ
+malformed_text line fault = codes "malformed " ++ (decimal line ++ (codes " " ++ (fault_word fault ++ 10 ∷ [])))
+
+-- the first line without a reading, and its first fault
+abbrev pub IsFirstFault : List ℕ → ℕ → Fault → Type 0
+IsFirstFault text line Syntax = IsMalformed text line lines.Syntax
+IsFirstFault text line BadVertex = IsMalformed text line lines.BadVertex
+IsFirstFault text line NoPosition = IsMalformed text line lines.NoPosition
+IsFirstFault text line WrongSort = IsMalformed text line lines.WrongSort
+IsFirstFault text line Rest = HasRest text line
+
+-- the canonical text of the graph of the edits that a text spells
+pub record IsMerged (text merged : List ℕ) : Type 0 where
+  pub edits : List Edit
+  pub canonical : List Edit
+  pub spelled : text ≡ text_of edits
+  pub is_canonical : IsCanonical (graph edits) canonical
+  pub written : merged ≡ text_of canonical
+
+-- what is due for the words of `merge`
+abbrev pub IsMergeDue : List ℕ → Status → List ℕ → Type 0
+IsMergeDue text TooLong due = (MOST_BYTES < length text) × (due ≡ too_long_text)
+IsMergeDue text (Malformed line fault) due = (length text ≤ MOST_BYTES) × IsFirstFault text line fault × (due ≡ malformed_text line fault)
+IsMergeDue text Done due = (length text ≤ MOST_BYTES) × IsMerged text due
+IsMergeDue text Usage due = ⊥
+IsMergeDue text ReadFault due = ⊥
+IsMergeDue text WriteFault due = ⊥
+IsMergeDue text NoMemory due = ⊥
+
+-- what is due for any words: the usage line where they are those of no command
+abbrev pub IsDue : List (String Global) → List ℕ → Status → List ℕ → Type 0
+IsDue words text Usage due = ¬ AreMerge words × (due ≡ usage_text)
+IsDue words text status due = AreMerge words × IsMergeDue text status due

@@ -1,0 +1,4 @@
+pub mod FaultOfLine
+pub mod Words
+pub mod Due
+pub mod Meets

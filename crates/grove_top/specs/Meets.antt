@@ -1,0 +1,57 @@
+-- What each status of a run says of the words, of the input and of what was written.
+use Rattle.std.specs.declared.alloc.Global.{Global}
+use Rattle.std.specs.Prelude.{String, ◌≡◌, ℕ, ◌+◌, ◌<◌, List, [], length, take, Option}
+use Rattle.grove_io.specs.Outside.{HasRisen, Gave, Took, IsAtEnd}
+use Rattle.grove_top.specs.declared.limit.TheConstants.{MOST_BYTES}
+use Rattle.grove_top.specs.declared.outcome.Status.{Status}
+use Rattle.grove_top.specs.declared.outcome.Status.TheVariants.{Done, Usage, Malformed, TooLong, ReadFault, WriteFault, NoMemory}
+use Rattle.grove_top.specs.Words.{AreMerge}
+use Rattle.grove_top.specs.Due.{IsDue}
+
+-- a source and a sink at one moment: the bytes left and taken, where they are told, and the counts of faults
+pub record Outside : Type 0 where
+  pub left : Option (List ℕ)
+  pub read_faults : ℕ
+  pub taken : Option (List ℕ)
+  pub write_faults : ℕ
+
+-- The source gave a text, and the whole text that is due for it with this status was written.
+pub record Answers (words : List (String Global)) (before after : Outside) (status : Status) : Type 0 where
+  pub text : List ℕ
+  pub due : List ℕ
+  pub gave : Gave before.left text after.left
+  pub is_due : IsDue words text status due
+  pub took : Took before.taken due after.taken
+
+-- to its end
+pub record AnswersWhole (words : List (String Global)) (before after : Outside) (status : Status) : Type 0 where
+  pub answers : Answers words before after status
+  pub at_end : IsAtEnd after.left
+
+-- The sink failed, and what it took is a part of what was due, from its front and not all of it.
+pub record IsCutOff (words : List (String Global)) (before after : Outside) : Type 0 where
+  pub status : Status
+  pub text : List ℕ
+  pub due : List ℕ
+  pub count : ℕ
+  pub failed : HasRisen before.write_faults after.write_faults
+  pub gave : Gave before.left text after.left
+  pub is_due : IsDue words text status due
+  pub short : count < length due
+  pub took : Took before.taken (take count due) after.taken
+
+-- nothing was written, for words of a command
+pub record IsSilent (words : List (String Global)) (before after : Outside) : Type 0 where
+  pub command : AreMerge words
+  pub took : Took before.taken [] after.taken
+
+abbrev pub Meets : List (String Global) → Outside → Outside → Status → Type 0
+Meets words before after Done = AnswersWhole words before after Done
+Meets words before after (Malformed line fault) = AnswersWhole words before after (Malformed line fault)
+-- of the input no more was read than shows that it is too long
+Meets words before after TooLong = (answers : Answers words before after TooLong) × (length answers.text ≡ MOST_BYTES + 1)
+-- nothing was read
+Meets words before after Usage = (answers : Answers words before after Usage) × (answers.text ≡ [])
+Meets words before after ReadFault = HasRisen before.read_faults after.read_faults × IsSilent words before after
+Meets words before after WriteFault = IsCutOff words before after
+Meets words before after NoMemory = IsSilent words before after

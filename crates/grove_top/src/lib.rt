@@ -1,0 +1,18 @@
+//! The top call: words and the bytes of a source in, the bytes of a sink and a status out.
+//! What is written is what the definitions say is due for the words and the bytes; the program stands on this crate.
+#![tactic(auto)]
+
+mod commands;
+mod laws;
+mod limit;
+mod no_memory;
+mod outcome;
+mod top;
+
+pub use laws::{one_text_is_due, same_edits_same_text};
+pub use limit::MOST_BYTES;
+pub use outcome::{Fault, Outcome, Status};
+pub use top::run;
+
+#[cfg(test)]
+mod tests;

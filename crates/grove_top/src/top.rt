@@ -1,0 +1,101 @@
+ghost use Rattle.std.specs.Prelude.{◌≡◌, ◌≢◌, ◌⊎◌, ◌<◌, ◌≤◌, ◌↔◌, ℕ, List, Some, length, take, IsTrue};
+ghost use Rattle.grove_io.specs.Outside.{HasRisen, Gave, Took};
+ghost use Rattle.grove_edits.specs.declared.edit.Edit.{Edit};
+ghost use Rattle.edit_text.specs.Text.{text_of};
+ghost use Rattle.grove_top.specs.declared.limit.TheConstants.{MOST_BYTES};
+ghost use Rattle.grove_top.specs.Words.{AreMerge};
+ghost use Rattle.grove_top.specs.Due.{IsDue, usage_text, too_long_text};
+ghost use Rattle.grove_top.specs.Meets.{Meets};
+
+use crate::commands::merge;
+use crate::limit::MOST_BYTES;
+use crate::outcome::{Outcome, Status};
+use grove_io::{InputFault, Sink, Source, read_all, write_out};
+use std::alloc::Global;
+
+const USAGE: &[u8] = b"usage: grove merge | show | check | run | gen N\n";
+
+const TOO_LONG: &[u8] = b"too long\n";
+
+/// Runs a command: `words` are those after the program's name.
+///
+/// The words are judged first, then the length of the input, then its text. The whole output is formed before anything
+/// is written. A read fault comes before `TooLong` and `Malformed`, and a write fault on their lines replaces them.
+pub fn run<S: Source, K: Sink>(
+    alloc: Global,
+    words: &[String],
+    source: &mut S,
+    sink: &mut K,
+) -> Outcome
+    ensures meets { Meets words.now
+        (record { left = S.left source.old; read_faults = S.faults source.old; taken = K.taken sink.old; write_faults = K.faults sink.old })
+        (record { left = S.left source.new; read_faults = S.faults source.new; taken = K.taken sink.new; write_faults = K.faults sink.new })
+        result.status }
+    ensures reads_nothing { result.status ≡ Status.Usage → source.new ≡ source.old }
+
+    // A good input is answered, unless the outside fails or memory runs out.
+    ensures complete { (edits : List Edit) → AreMerge words.now → S.left source.old ≡ Some (text_of edits) → length (text_of edits) ≤ MOST_BYTES
+        → ¬ HasRisen (S.faults source.old) (S.faults source.new) → ¬ HasRisen (K.faults sink.old) (K.faults sink.new)
+        → (result.status ≡ Status.Done) ⊎ (result.status ≡ Status.NoMemory) }
+
+    // No count rises where the source never fails and the sink does not for as many bytes as may be due.
+    ensures no_read_fault { S.never_fails source.old → S.faults source.new ≡ S.faults source.old }
+    ensures no_write_fault { (room : ℕ) → K.never_fails sink.old room
+        → ((text due : List ℕ) (status : Status) → Gave (S.left source.old) text (S.left source.new) → IsDue words.now text status due → length due ≤ room)
+        → K.faults sink.new ≡ K.faults sink.old }
+{
+    let status = answer(alloc, words, source, sink);
+    Outcome { status }
+}
+
+fn answer<S: Source, K: Sink>(
+    alloc: Global,
+    words: &[String],
+    source: &mut S,
+    sink: &mut K,
+) -> Status
+    ensures meets { Meets words.now
+        (record { left = S.left source.old; read_faults = S.faults source.old; taken = K.taken sink.old; write_faults = K.faults sink.old })
+        (record { left = S.left source.new; read_faults = S.faults source.new; taken = K.taken sink.new; write_faults = K.faults sink.new })
+        result }
+    ensures reads_nothing { result ≡ Status.Usage → source.new ≡ source.old }
+    ensures no_read_fault { S.never_fails source.old → S.faults source.new ≡ S.faults source.old }
+    ensures no_write_fault { (room : ℕ) → K.never_fails sink.old room
+        → ((text due : List ℕ) (status : Status) → Gave (S.left source.old) text (S.left source.new) → IsDue words.now text status due → length due ≤ room)
+        → K.faults sink.new ≡ K.faults sink.old }
+{
+    if !is_merge(words) {
+        return write(sink, Status::Usage, USAGE);
+    }
+    match read_all(alloc, source, MOST_BYTES) {
+        Ok(text) => match merge(alloc, &text) {
+            Ok(due) => write(sink, due.status, &due.text),
+            Err(_) => Status::NoMemory,
+        },
+        Err(InputFault::TooLong) => write(sink, Status::TooLong, TOO_LONG),
+        Err(InputFault::ReadFault) => Status::ReadFault,
+        Err(InputFault::NoMemory) => Status::NoMemory,
+    }
+}
+
+fn is_merge(words: &[String]) -> bool
+    ensures { IsTrue result ↔ AreMerge words.now }
+{
+    match words {
+        [word] => word.as_str() == "merge",
+        _ => false,
+    }
+}
+
+// Writes the text that is due, and answers its status, or that the sink failed.
+fn write<K: Sink>(sink: &mut K, status: Status, due: &[u8]) -> Status
+    ensures outcome { (result ≡ status × Took (K.taken sink.old) due.now (K.taken sink.new))
+        ⊎ (result ≡ Status.WriteFault × HasRisen (K.faults sink.old) (K.faults sink.new)
+        × ((count : ℕ) × (count < length due.now) × Took (K.taken sink.old) (take count due.now) (K.taken sink.new))) }
+    ensures no_fault { (room : ℕ) → K.never_fails sink.old room → length due.now ≤ room → K.faults sink.new ≡ K.faults sink.old }
+{
+    match write_out(sink, due) {
+        Ok(()) => status,
+        Err(_) => Status::WriteFault,
+    }
+}

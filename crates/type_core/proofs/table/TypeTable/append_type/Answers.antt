@@ -1,0 +1,8 @@
+use Rattle.type_core.proofs.TextLemmas.{IsWriting-step}
+use Rattle.type_core.proofs.table.TypeTable.append_type.Goals as goal
+
+pub loop-piece-preserved : goal.loop-piece-preserved
+loop-piece-preserved c =
+    let e = c.in_ok-append_piece.ensures in
+    IsWriting-step c.args.self.now c.args.t c.args.levels c.args.out.now.items c.loop-piece.rest.items c.pop.new.self.items c.append_piece.new.rest.items c.in-Some.piece c.loop-piece.out.items
+    c.append_piece.new.out.items c.loop-piece.invariant c.in-Some.ensures.items e.written e.longer

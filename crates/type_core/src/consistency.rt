@@ -1,0 +1,73 @@
+ghost use Rattle.std.specs.Prelude.{◌≡◌, ◌<◌, ◌++◌, ◌∷◌, [], true, false, length, Contains, IsOk, IfOk, OnOk, IsTrue};
+ghost use Rattle.type_core.specs.Typ.{is_consistent, IsAtom};
+ghost use Rattle.type_core.specs.TypeTable.{IsTypeOf, type_at};
+ghost use Rattle.type_core.specs.Heads.{IsPairingOf};
+ghost use Rattle.type_core.specs.Pairings.{HasAddedPairing, Visits};
+
+use crate::heads::{Heads, Pairing};
+use crate::no_memory::NoMemory;
+use crate::table::TypeTable;
+use crate::type_id::TypeId;
+use indexmap::IndexSet;
+use std::alloc::Global;
+
+// Puts a pairing last, where it is new.
+fn note(seen: &mut IndexSet<Pairing>, pairing: Pairing) -> Result<(), NoMemory>
+    ensures added { OnOk result (HasAddedPairing pairing seen.old.keys seen.new.keys) }
+    ensures contained { OnOk result (Contains seen.new.keys pairing) }
+{
+    seen.insert(pairing)?;
+    Ok(())
+}
+
+impl TypeTable {
+    /// Whether two types are consistent. Memory is needed only where both are made of parts and differ.
+    pub fn consistent(&self, alloc: Global, a: TypeId, b: TypeId) -> Result<bool, NoMemory>
+        requires left { IsTypeOf self.now a }
+        requires right { IsTypeOf self.now b }
+        ensures consistent { IfOk result (λ answer. answer ≡ is_consistent (type_at self.now a) (type_at self.now b)) }
+        ensures sure_where_same { a ≡ b → IsOk result }
+        ensures sure_without_parts { IsAtom (type_at self.now a) → IsAtom (type_at self.now b) → IsOk result }
+    {
+        let pairing = Pairing { left: a, right: b };
+        match self.heads(pairing) {
+            Heads::Met(_) => Ok(true),
+            Heads::Clash => Ok(false),
+            Heads::Parts(..) => self.all_parts_consistent(alloc, pairing),
+        }
+    }
+
+    // Goes over the pairings of parts, parts of parts and so on, each of them once.
+    fn all_parts_consistent(&self, alloc: Global, pairing: Pairing) -> Result<bool, NoMemory>
+        requires { IsPairingOf self.now pairing }
+        ensures { IfOk result (λ answer. answer ≡ is_consistent (type_at self.now pairing.left) (type_at self.now pairing.right)) }
+    {
+        let mut seen = IndexSet::new(alloc);
+        note(&mut seen, pairing)?;
+        let mut next = 0;
+        while next < seen.len() {
+            let current = seen.as_slice()[next];
+            if !self.visit(&mut seen, current)? {
+                return Ok(false);
+            }
+            next += 1;
+        }
+        Ok(true)
+    }
+
+    // Whether the forms of two types agree. The pairings of their parts are noted.
+    fn visit(&self, seen: &mut IndexSet<Pairing>, pairing: Pairing) -> Result<bool, NoMemory>
+        requires { IsPairingOf self.now pairing }
+        ensures { IfOk result (Visits self.now pairing seen.old.keys seen.new.keys) }
+    {
+        match self.heads(pairing) {
+            Heads::Met(_) => Ok(true),
+            Heads::Clash => Ok(false),
+            Heads::Parts(_, first, second) => {
+                note(seen, first)?;
+                note(seen, second)?;
+                Ok(true)
+            }
+        }
+    }
+}

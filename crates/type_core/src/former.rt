@@ -1,0 +1,8 @@
+/// The forms of types with two parts.
+#[derive(Clone, Copy, Debug, PartialEq, Eq, Hash)]
+pub enum Former {
+    /// Functions from the first part to the second.
+    Arrow,
+    /// Pairs of the first part and the second.
+    Product,
+}

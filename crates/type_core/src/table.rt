@@ -1,0 +1,194 @@
+ghost use Rattle.std.specs.Prelude.{◌≡◌, ℕ, ◌+◌, ◌<◌, ◌≤◌, [], ◌∷◌, length, IfOk, IfSome, OnOk, OnErr};
+ghost use Rattle.std.specs.Option.{option_map};
+ghost use Rattle.type_core.specs.Typ as typ;
+ghost use Rattle.type_core.specs.TypeTable.{IsTypeOf, type_at, base_types, KeepsTypes, HasAdded, AreDistinct};
+ghost use Rattle.type_core.specs.Nodes.{type_of_node, node_at, PartsAreBelow, StandOnce, HasAddedNode};
+
+use crate::former::Former;
+use crate::no_memory::NoMemory;
+use crate::node::Node;
+use crate::type_id::TypeId;
+use indexmap::IndexSet;
+use std::alloc::Global;
+use std::marker::Model;
+
+// The places of the base types in every table.
+const UNKNOWN: u64 = 0;
+
+const NUM: u64 = 1;
+
+const BOOLEAN: u64 = 2;
+
+/// A table of types, each of which stands once. Its numbers keep their types for as long as the table lives.
+#[derive(Drop)]
+pub struct TypeTable {
+    nodes: IndexSet<Node>,
+}
+
+impl Model for TypeTable {
+    ghost use Rattle.std.specs.Prelude.{List};
+    ghost use Rattle.type_core.specs.Typ.{Typ};
+    ghost use Rattle.std.specs.Coded.{coded_list};
+    ghost use Rattle.type_core.specs.TypCode.{typ_code};
+
+    ghost Value = { List Typ };
+
+    ghost coded = { coded_list typ_code };
+
+    ghost use Rattle.type_core.specs.Nodes.{types_of, IsTable};
+
+    ghost view = { λ t. types_of t.nodes.keys };
+
+    ghost invariant = { λ t. IsTable t.nodes.keys };
+}
+
+// The nodes of a table of the unknown type and the base types.
+fn base_nodes(alloc: Global) -> Result<IndexSet<Node>, NoMemory>
+    ensures { IfOk result (λ nodes. nodes.keys ≡ Node.Unknown ∷ Node.Num ∷ Node.Boolean ∷ []) }
+{
+    let mut nodes = IndexSet::new(alloc);
+    nodes.insert(Node::Unknown)?;
+    nodes.insert(Node::Num)?;
+    nodes.insert(Node::Boolean)?;
+    Ok(nodes)
+}
+
+// The place of a node, which goes last where it is new.
+fn place_of(nodes: &mut IndexSet<Node>, node: Node) -> Result<usize, NoMemory>
+    ensures within { IfOk result (λ place. place < length nodes.new.keys) }
+    ensures node { IfOk result (λ place. node_at nodes.new.keys place ≡ node) }
+    ensures added { OnOk result (HasAddedNode node nodes.old.keys nodes.new.keys) }
+    ensures once { StandOnce nodes.new.keys }
+    ensures unchanged { OnErr result (nodes.new.keys ≡ nodes.old.keys) }
+{
+    let (place, _) = nodes.insert_full(node)?;
+    Ok(place)
+}
+
+impl TypeTable {
+    /// A table of the unknown type and the base types.
+    pub fn new(alloc: Global) -> Result<TypeTable, NoMemory>
+        ensures types { IfOk result (λ table. table ≡ base_types) }
+    {
+        let nodes = base_nodes(alloc)?;
+        Ok(TypeTable { nodes })
+    }
+
+    /// Two numbers of one table are equal exactly where their types are: a law, which runs no code.
+    pub fn numbers_are_distinct(&self)
+        ensures { AreDistinct self.now }
+    {
+        let _nodes = &self.nodes;
+    }
+
+    /// The number of the unknown type.
+    pub fn unknown(&self) -> TypeId
+        ensures number { IsTypeOf self.now result }
+        ensures typ { type_at self.now result ≡ typ.Unknown }
+    {
+        let _nodes = &self.nodes;
+        TypeId(UNKNOWN)
+    }
+
+    /// The number of the type of numbers.
+    pub fn num(&self) -> TypeId
+        ensures number { IsTypeOf self.now result }
+        ensures typ { type_at self.now result ≡ typ.Num }
+    {
+        let _nodes = &self.nodes;
+        TypeId(NUM)
+    }
+
+    /// The number of the type of truth values.
+    pub fn boolean(&self) -> TypeId
+        ensures number { IsTypeOf self.now result }
+        ensures typ { type_at self.now result ≡ typ.Boolean }
+    {
+        let _nodes = &self.nodes;
+        TypeId(BOOLEAN)
+    }
+
+    /// The number of the type of functions from `from` to `to`, which is added where the table has no such type yet.
+    pub fn arrow(&mut self, from: TypeId, to: TypeId) -> Result<TypeId, NoMemory>
+        requires from { IsTypeOf self.old from }
+        requires to { IsTypeOf self.old to }
+        ensures number { IfOk result (IsTypeOf self.new) }
+        ensures typ { IfOk result (λ id. type_at self.new id ≡ typ.Pair Former.Arrow (type_at self.old from) (type_at self.old to)) }
+        ensures added { OnOk result (HasAdded (typ.Pair Former.Arrow (type_at self.old from) (type_at self.old to)) self.old self.new) }
+        ensures kept { KeepsTypes self.old self.new }
+        ensures unchanged { OnErr result (self.new ≡ self.old) }
+    {
+        self.pair(Former::Arrow, from, to)
+    }
+
+    /// The number of the type of pairs of `left` and `right`, which is added where the table has no such type yet.
+    pub fn product(&mut self, left: TypeId, right: TypeId) -> Result<TypeId, NoMemory>
+        requires left { IsTypeOf self.old left }
+        requires right { IsTypeOf self.old right }
+        ensures number { IfOk result (IsTypeOf self.new) }
+        ensures typ { IfOk result (λ id. type_at self.new id ≡ typ.Pair Former.Product (type_at self.old left) (type_at self.old right)) }
+        ensures added { OnOk result (HasAdded (typ.Pair Former.Product (type_at self.old left) (type_at self.old right)) self.old self.new) }
+        ensures kept { KeepsTypes self.old self.new }
+        ensures unchanged { OnErr result (self.new ≡ self.old) }
+    {
+        self.pair(Former::Product, left, right)
+    }
+
+    /// The parts of `t` as a function, from and to: the unknown type counts as a function between unknown types.
+    pub fn matched_arrow(&self, t: TypeId) -> Option<(TypeId, TypeId)>
+        requires { IsTypeOf self.now t }
+        ensures parts { option_map (λ p. (type_at self.now p.0, type_at self.now p.1)) result ≡ typ.matched_parts Former.Arrow (type_at self.now t) }
+        ensures numbers { IfSome result (λ p. IsTypeOf self.now p.0 × IsTypeOf self.now p.1) }
+    {
+        self.matched_parts(Former::Arrow, t)
+    }
+
+    /// The parts of `t` as a pair, left and right: the unknown type counts as a pair of unknown types.
+    pub fn matched_product(&self, t: TypeId) -> Option<(TypeId, TypeId)>
+        requires { IsTypeOf self.now t }
+        ensures parts { option_map (λ p. (type_at self.now p.0, type_at self.now p.1)) result ≡ typ.matched_parts Former.Product (type_at self.now t) }
+        ensures numbers { IfSome result (λ p. IsTypeOf self.now p.0 × IsTypeOf self.now p.1) }
+    {
+        self.matched_parts(Former::Product, t)
+    }
+
+    fn matched_parts(&self, former: Former, t: TypeId) -> Option<(TypeId, TypeId)>
+        requires { IsTypeOf self.now t }
+        ensures parts { option_map (λ p. (type_at self.now p.0, type_at self.now p.1)) result ≡ typ.matched_parts former (type_at self.now t) }
+        ensures numbers { IfSome result (λ p. IsTypeOf self.now p.0 × IsTypeOf self.now p.1) }
+    {
+        match self.node(t) {
+            Node::Unknown => Some((t, t)),
+            Node::Pair(found, first, second) if found == former => Some((first, second)),
+            _ => None,
+        }
+    }
+
+    // The node of the type `id`: its form, and the numbers of its parts.
+    pub(crate) fn node(&self, id: TypeId) -> Node
+        requires { IsTypeOf self.now id }
+        ensures typ { type_at self.now id ≡ type_of_node self.now result }
+        ensures parts { PartsAreBelow result id.0 }
+    {
+        self.nodes.as_slice()[id.0 as usize]
+    }
+
+    // The number of the type of this form from two parts.
+    pub(crate) fn pair(
+        &mut self,
+        former: Former,
+        first: TypeId,
+        second: TypeId,
+    ) -> Result<TypeId, NoMemory>
+        requires first { IsTypeOf self.old first }
+        requires second { IsTypeOf self.old second }
+        ensures number { IfOk result (IsTypeOf self.new) }
+        ensures typ { IfOk result (λ id. type_at self.new id ≡ typ.Pair former (type_at self.old first) (type_at self.old second)) }
+        ensures added { OnOk result (HasAdded (typ.Pair former (type_at self.old first) (type_at self.old second)) self.old self.new) }
+        ensures kept { KeepsTypes self.old self.new }
+        ensures unchanged { OnErr result (self.new ≡ self.old) }
+    {
+        let place = place_of(&mut self.nodes, Node::Pair(former, first, second))?;
+        Ok(TypeId(place as u64))
+    }
+}
