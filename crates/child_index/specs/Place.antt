@@ -1,0 +1,23 @@
+-- Room for further edges from a position of a vertex.
+use Rattle.std.specs.Prelude.{ℕ, Bool, ◌&&◌}
+use Rattle.std.specs.declared.cmp.Ordering.{Ordering}
+use Rattle.std.specs.Ordering.{ordering_then}
+use Rattle.grove_sorts.specs.declared.position.Position.{Position}
+use Rattle.grove_sorts.specs.Position.{position_cmp}
+use Rattle.grove_edits.specs.declared.vertex.Vertex.{Vertex}
+use Rattle.grove_edits.specs.declared.edge.Edge.{Edge}
+use Rattle.grove_edits.specs.Vertex.{vertex_cmp}
+use Rattle.walks.specs.Live.{is_same_vertex, is_same_position}
+use Rattle.edge_index.specs.Lists.{Lists, room_at}
+use Rattle.child_index.specs.declared.place.Place.{Place}
+
+abbrev pub place_cmp : Place → Place → Ordering
+place_cmp a b = ordering_then (vertex_cmp a.vertex b.vertex) (position_cmp a.position b.position)
+
+-- for how many further edges from a position of a vertex there is room
+abbrev pub room_at_place : Lists Place → Vertex → Position → ℕ
+room_at_place lists v p = room_at place_cmp lists (record { vertex = v; position = p })
+
+-- the edge leads from the position of the vertex
+abbrev pub is_from : Edge → Vertex → Position → Bool
+is_from e v p = is_same_vertex e.source v && is_same_position e.position p

@@ -1,0 +1,14 @@
+//! The live edges from each position of each vertex, in edge order. The model is the index of edges by their source and position,
+//! whose `live` is the list of all edges that it holds, in edge order. What walks down a graph stands on it.
+#![tactic(auto)]
+
+mod child_index;
+mod no_memory;
+mod place;
+
+pub use child_index::ChildIndex;
+pub use no_memory::NoMemory;
+pub use place::Place;
+
+#[cfg(test)]
+mod tests;

@@ -1,0 +1,21 @@
+use edge_index::Keyed;
+use grove_edits::{Edge, Vertex};
+use grove_sorts::Position;
+
+/// The vertex and the position from which an edge leads.
+#[derive(Clone, Copy, Debug, PartialEq, Eq, PartialOrd, Ord)]
+pub struct Place {
+    pub vertex: Vertex,
+    pub position: Position,
+}
+
+impl Keyed for Place {
+    ghost key = { λ edge. record { vertex = edge.source; position = edge.position } };
+
+    fn of(edge: &Edge) -> Place {
+        Place {
+            vertex: edge.source,
+            position: edge.position,
+        }
+    }
+}

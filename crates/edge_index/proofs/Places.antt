@@ -1,0 +1,72 @@
+-- The place of an edge in a list in edge order.
+use Rattle.std.proofs.Common.{◌≡◌, ℕ, suc, ◌+◌, ◌<◌, ◌≤◌, true, false, cond, List, [], ◌∷◌, length, drop, get_or, refl, sym, ap, subst, ◌∙◌, arith, add-one, drop-cons}
+use Rattle.std.specs.Prelude.{◌||◌, not, insert, remove}
+use Rattle.std.specs.List.{AllByRecursion}
+use Rattle.std.specs.declared.cmp.Ordering.TheVariants.{Less, Equal, Greater}
+use Rattle.grove_edits.specs.declared.edge.Edge.{Edge}
+use Rattle.grove_edits.specs.Edge.{edge_cmp}
+use Rattle.grove_edits.specs.Graph.{is_same_edge}
+use Rattle.grove_edits.proofs.Orders.{edge_cmp_exact}
+use Rattle.walks.specs.Live.{IsInEdgeOrder}
+use Rattle.edge_index.specs.Ordered.{holds_edge, put_before, with_edge, without_edge, place, place_by}
+use Rattle.edge_index.proofs.Ordered.{same_edge_itself, not_held_before, without_none, not_same_from_greater, all_after}
+
+pub place_le : (e : Edge) (xs : List Edge) → place e xs ≤ length xs
+place_le e [] = omega arith
+place_le e (x ∷ xs) =
+    elim (edge_cmp e x) as (λ o. place_by o (place e xs) ≤ suc (length xs)) [
+      | Less ↦ omega arith
+      | Equal ↦ omega arith
+      | Greater ↦ let rest = place_le e xs in omega arith
+    ]
+
+pub insert-place : (e : Edge) (xs : List Edge) → holds_edge e xs ≡ false → insert xs (place e xs) e ≡ with_edge e xs
+insert-place e [] new = refl
+insert-place e (x ∷ xs) new =
+    elim (edge_cmp e x) as (λ o. edge_cmp e x ≡ o → insert (x ∷ xs) (place_by o (place e xs)) e ≡ put_before o e x xs (with_edge e xs)) [
+      | Less ↦ λ _. refl
+      | Equal ↦ λ tie.
+          let one = edge_cmp_exact e x tie in
+          let held : holds_edge e (x ∷ xs) ≡ true = ap (λ b. b || holds_edge e xs) (ap (λ z. is_same_edge z e) (sym one) ∙ same_edge_itself e) in
+          absurd cc
+      | Greater ↦ λ _.
+          elim (is_same_edge x e) as (λ b. (b || holds_edge e xs) ≡ false → insert (x ∷ xs) (suc (place e xs)) e ≡ x ∷ with_edge e xs) [
+            | true ↦ λ h. absurd cc
+            | false ↦ λ h. ap (λ zs. x ∷ zs) (insert-place e xs h)
+          ] new
+    ] refl
+
+pub place_lt : (e : Edge) (xs : List Edge) → IsInEdgeOrder xs → holds_edge e xs ≡ true → place e xs < length xs
+place_lt e [] order held = absurd cc
+place_lt e (x ∷ xs) order held =
+    elim (edge_cmp e x) as (λ o. edge_cmp e x ≡ o → place_by o (place e xs) < suc (length xs)) [
+      | Less ↦ λ _. omega arith
+      | Equal ↦ λ _. omega arith
+      | Greater ↦ λ gt.
+          let other : is_same_edge x e ≡ false = not_same_from_greater x e gt in
+          let rest : holds_edge e xs ≡ true = sym (ap (λ b. b || holds_edge e xs) other) ∙ held in
+          let below = place_lt e xs order.1 rest in
+          omega arith
+    ] refl
+
+pub remove-place : (e : Edge) (xs : List Edge) → IsInEdgeOrder xs → holds_edge e xs ≡ true → remove xs (place e xs) ≡ without_edge e xs
+remove-place e [] order held = absurd cc
+remove-place e (x ∷ xs) order held =
+    elim (edge_cmp e x) as (λ o. edge_cmp e x ≡ o → remove (x ∷ xs) (place_by o (place e xs)) ≡ without_edge e (x ∷ xs)) [
+      | Less ↦ λ lt. let none = not_held_before e (x ∷ xs) (lt, all_after e x xs lt order.0) in absurd cc
+      | Equal ↦ λ tie.
+          let one : e ≡ x = edge_cmp_exact e x tie in
+          let same : is_same_edge x e ≡ true = ap (λ z. is_same_edge z e) (sym one) ∙ same_edge_itself e in
+          let later : AllByRecursion (λ later. edge_cmp e later ≡ Less) xs = subst (λ z. AllByRecursion (λ later. edge_cmp z later ≡ Less) xs) (sym one) order.0 in
+          sym (ap (λ b. cond (not b) (x ∷ without_edge e xs) (without_edge e xs)) same ∙ without_none e xs later)
+      | Greater ↦ λ gt.
+          let other = not_same_from_greater x e gt in
+          let rest : holds_edge e xs ≡ true = sym (ap (λ b. b || holds_edge e xs) other) ∙ held in
+          ap (λ zs. x ∷ zs) (remove-place e xs order.1 rest) ∙ sym (ap (λ b. cond (not b) (x ∷ without_edge e xs) (without_edge e xs)) other)
+    ] refl
+
+-- the places from an index on
+pub place-drop : (e x : Edge) (xs : List Edge) (i : ℕ) → i < length xs → x ≡ get_or xs i x → place e (drop i xs) ≡ place_by (edge_cmp e x) (place e (drop (i + 1) xs))
+place-drop e x xs i within is =
+    let split : drop i xs ≡ x ∷ drop (i + 1) xs = rw (add-one, drop-cons xs i x) (ap (λ z. z ∷ drop (suc i) xs) (sym is)) in
+    ap (place e) split

@@ -1,0 +1,36 @@
+-- Lists of edges in edge order, with one more edge, and with one fewer.
+use Rattle.std.specs.Prelude.{ℕ, suc, Bool, not, List, [], ◌∷◌, filter}
+use Rattle.std.specs.List.{list_any}
+use Rattle.std.specs.declared.cmp.Ordering.{Ordering}
+use Rattle.std.specs.declared.cmp.Ordering.TheVariants.{Less, Equal, Greater}
+use Rattle.grove_edits.specs.declared.edge.Edge.{Edge}
+use Rattle.grove_edits.specs.Edge.{edge_cmp}
+use Rattle.grove_edits.specs.Graph.{is_same_edge}
+
+-- the edge stands in the list
+abbrev pub holds_edge : Edge → List Edge → Bool
+holds_edge e xs = list_any (λ x. is_same_edge x e) xs
+
+abbrev pub put_before : Ordering → Edge → Edge → List Edge → List Edge → List Edge
+put_before Less e x xs put = e ∷ x ∷ xs
+put_before Equal e x xs put = x ∷ xs
+put_before Greater e x xs put = x ∷ put
+
+-- the list with the edge at its place
+abbrev pub with_edge : Edge → List Edge → List Edge
+with_edge e [] = e ∷ []
+with_edge e (x ∷ xs) = put_before (edge_cmp e x) e x xs (with_edge e xs)
+
+-- the list without the edge
+abbrev pub without_edge : Edge → List Edge → List Edge
+without_edge e xs = filter (λ x. not (is_same_edge x e)) xs
+
+abbrev pub place_by : Ordering → ℕ → ℕ
+place_by Less n = 0
+place_by Equal n = 0
+place_by Greater n = suc n
+
+-- how many first edges of the list come before the edge
+abbrev pub place : Edge → List Edge → ℕ
+place e [] = 0
+place e (x ∷ xs) = place_by (edge_cmp e x) (place e xs)

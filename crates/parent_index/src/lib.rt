@@ -1,0 +1,14 @@
+//! The live parent edges of each vertex, in edge order. The model is the index of edges by their target, whose `live` is the list of
+//! all edges that it holds, in edge order. What walks up a graph stands on it.
+#![tactic(auto)]
+
+mod no_memory;
+mod parent_index;
+mod target;
+
+pub use no_memory::NoMemory;
+pub use parent_index::ParentIndex;
+pub use target::Target;
+
+#[cfg(test)]
+mod tests;

@@ -1,0 +1,112 @@
+ghost use Rattle.std.specs.Prelude.{◌≡◌, ◌+◌, ◌<◌, ◌≤◌, [], true, false, if◌then◌else◌, count_by, length, OnOk};
+ghost use Rattle.grove_edits.specs.declared.vertex.Vertex.{Vertex};
+ghost use Rattle.walks.specs.Live.{parents_of, is_same_vertex};
+ghost use Rattle.edge_index.specs.Ordered.{with_edge, without_edge, holds_edge};
+ghost use Rattle.edge_index.specs.Lists.{live};
+ghost use Rattle.parent_index.specs.Target.{room_at_vertex};
+
+use crate::no_memory::NoMemory;
+use crate::target::Target;
+use edge_index::EdgeIndex;
+use grove_edits::{Edge, Vertex};
+use std::alloc::Global;
+use std::marker::Model;
+use std::sync::ledger::Ledger;
+use walks::{Few, ParentOf, Steps};
+
+/// Live edges by their target.
+#[derive(Drop)]
+pub struct ParentIndex {
+    edges: EdgeIndex<Target>,
+}
+
+impl Model for ParentIndex {
+    ghost use Rattle.edge_index.specs.Lists.{Lists};
+    ghost use Rattle.parent_index.specs.declared.target.Target.{Target};
+
+    ghost Value = { Lists Target };
+
+    ghost view = { λ index. index.edges };
+}
+
+impl ParentIndex {
+    pub fn new(alloc: Global) -> ParentIndex
+        ensures empty { live result ≡ [] }
+    {
+        ParentIndex {
+            edges: EdgeIndex::new(alloc),
+        }
+    }
+
+    /// Makes room for adding each of these edges once. They are to be few: its time grows with the square of their number.
+    pub fn reserve_for(&mut self, edges: &[Edge]) -> Result<(), NoMemory>
+        ensures room { OnOk result ((v : Vertex) → length (parents_of v edges.now) ≤ room_at_vertex self.new v) }
+        ensures unchanged { live self.new ≡ live self.old }
+        ensures room_stays { (v : Vertex) → room_at_vertex self.old v ≤ room_at_vertex self.new v }
+    {
+        self.edges.reserve_for(edges)?;
+        Ok(())
+    }
+
+    /// Adds an edge that is not held, and for which there is room.
+    pub fn add(&mut self, edge: &Edge)
+        requires room { 0 < room_at_vertex self.old edge.now.target }
+        requires new { holds_edge edge.now (live self.old) ≡ false }
+        ensures added { live self.new ≡ with_edge edge.now (live self.old) }
+        ensures room { (v : Vertex) → room_at_vertex self.new v + (if is_same_vertex edge.now.target v then 1 else 0) ≡ room_at_vertex self.old v }
+    {
+        self.edges.add(edge)
+    }
+
+    /// Removes an edge that is held, and leaves the room for it.
+    pub fn remove(&mut self, edge: &Edge)
+        requires { holds_edge edge.now (live self.old) ≡ true }
+        ensures removed { live self.new ≡ without_edge edge.now (live self.old) }
+        ensures room { (v : Vertex) → room_at_vertex self.new v ≡ room_at_vertex self.old v + (if is_same_vertex edge.now.target v then 1 else 0) }
+    {
+        self.edges.remove(edge)
+    }
+
+    fn parents_at(&self, vertex: &Vertex) -> &[Edge]
+        ensures { result.now ≡ parents_of vertex.now (live self.now) }
+    {
+        self.edges.edges(&Target { vertex: *vertex })
+    }
+
+    /// The live parent edges of a vertex, in edge order. It ticks once for the call, and once for each edge.
+    pub fn parents<L: Ledger>(&self, vertex: &Vertex, steps: &mut Steps<L>) -> &[Edge]
+        ensures parents { result.now ≡ parents_of vertex.now (live self.now) }
+        ensures ticks { steps.new ≡ steps.old + 1 + length result.now }
+    {
+        let parents = self.parents_at(vertex);
+        steps.tick();
+        for _parent in parents {
+            steps.tick();
+        }
+        parents
+    }
+}
+
+impl ParentOf for ParentIndex {
+    ghost use Rattle.edge_index.specs.Lists.{live as live_edges};
+
+    ghost live = { λ index. live_edges index };
+
+    fn few<L: Ledger>(&self, vertex: &Vertex, steps: &mut Steps<L>) -> Few {
+        let parents = self.parents_at(vertex);
+        steps.tick();
+        let Some(first) = parents.first() else {
+            return Few::Zero;
+        };
+        steps.tick();
+        let Some(second) = parents.get(1) else {
+            return Few::One(*first);
+        };
+        steps.tick();
+        Few::More(*first, *second)
+    }
+
+    fn vertex_count(&self) -> u64 {
+        self.edges.key_count() as u64
+    }
+}

@@ -1,0 +1,71 @@
+ghost use Rattle.std.specs.Prelude.{◌≡◌, ◌+◌, ◌<◌, ◌≤◌, None, Some, OnSome};
+ghost use Rattle.grove_edits.specs.declared.vertex.Vertex.{Vertex};
+ghost use Rattle.grove_edits.specs.Vertex.{vertex_cmp};
+ghost use Rattle.walks.specs.Live.{is_same_vertex};
+ghost use Rattle.walks.specs.Walk.{above};
+ghost use Rattle.unicycle_roots.specs.StepUp.{found};
+
+use grove_edits::Vertex;
+use std::cmp::Ordering;
+use std::sync::ledger::Ledger;
+use walks::{Few, ParentOf, Steps};
+
+/// What the next step of a walk finds.
+#[derive(Clone, Copy, Debug)]
+pub(crate) enum StepUp {
+    /// A vertex that is greater than the one with which the walk began.
+    ToGreater(Vertex),
+    /// The vertex with which the walk began.
+    Back,
+    /// No vertex above, or a lesser one: the first vertex is the least of no cycle.
+    ToNoCycle,
+}
+
+fn order(a: &Vertex, b: &Vertex) -> Ordering
+    ensures { result ≡ vertex_cmp a.now b.now }
+{
+    a.cmp(b)
+}
+
+pub(crate) fn is_same(a: &Vertex, b: &Vertex) -> bool
+    ensures { result ≡ is_same_vertex a.now b.now }
+{
+    order(a, b) == Ordering::Equal
+}
+
+/// The source of the one live parent edge, if there is exactly one.
+pub(crate) fn vertex_above<P: ParentOf, L: Ledger>(
+    vertex: &Vertex,
+    parents: &P,
+    steps: &mut Steps<L>,
+) -> Option<Vertex>
+    ensures above { result ≡ above (P.live parents.now) vertex.now }
+    ensures ticks { steps.new ≤ steps.old + 3 }
+    ensures ticks_where_above { OnSome result (steps.new ≡ steps.old + 2) }
+{
+    match parents.few(vertex, steps) {
+        Few::One(edge) => Some(edge.source),
+        Few::Zero | Few::More(_, _) => None,
+    }
+}
+
+/// Steps up from a vertex on the walk that began with `first`.
+pub(crate) fn step_up<P: ParentOf, L: Ledger>(
+    first: &Vertex,
+    from: &Vertex,
+    parents: &P,
+    steps: &mut Steps<L>,
+) -> StepUp
+    ensures found { result ≡ found first.now (above (P.live parents.now) from.now) }
+    ensures ticks { steps.new ≤ steps.old + 3 }
+    ensures ticks_where_greater { (x : Vertex) → result ≡ StepUp.ToGreater x → steps.new ≡ steps.old + 2 }
+{
+    let Some(above) = vertex_above(from, parents, steps) else {
+        return StepUp::ToNoCycle;
+    };
+    match order(first, &above) {
+        Ordering::Less => StepUp::ToGreater(above),
+        Ordering::Equal => StepUp::Back,
+        Ordering::Greater => StepUp::ToNoCycle,
+    }
+}

@@ -1,0 +1,25 @@
+-- Tests of vertices tell whether they are one.
+use Rattle.std.proofs.Common.{◌≡◌, true, refl, ap}
+use Rattle.std.specs.declared.cmp.Ordering.{Ordering}
+use Rattle.std.specs.declared.cmp.Ordering.TheVariants.{Less, Equal, Greater}
+use Rattle.std.specs.Ordering.{is_eq}
+use Rattle.std.proofs.lemmas.Cmp.{tied_itself}
+use Rattle.grove_edits.specs.declared.vertex.Vertex.{Vertex}
+use Rattle.grove_edits.specs.Vertex.{vertex_cmp}
+use Rattle.grove_edits.proofs.Orders.{vertex_cmp_exact, vertex_cmp_total}
+use Rattle.walks.specs.Live.{is_same_vertex}
+
+equal_from_test : (o : Ordering) → is_eq o ≡ true → o ≡ Equal
+equal_from_test Less e = absurd cc
+equal_from_test Equal e = refl
+equal_from_test Greater e = absurd cc
+
+-- vertices that the test finds the same are one
+pub same_vertex_exact : (a b : Vertex) → is_same_vertex a b ≡ true → a ≡ b
+same_vertex_exact a b h = vertex_cmp_exact a b (equal_from_test (vertex_cmp a b) h)
+
+pub vertex_cmp_itself : (a : Vertex) → vertex_cmp a a ≡ Equal
+vertex_cmp_itself a = tied_itself vertex_cmp_total a
+
+pub same_vertex_itself : (a : Vertex) → is_same_vertex a a ≡ true
+same_vertex_itself a = ap is_eq (vertex_cmp_itself a)

@@ -1,0 +1,4 @@
+pub mod Live
+pub mod Few
+pub mod Walk
+pub mod Class

@@ -1,0 +1,39 @@
+-- The live edges of a graph in edge order, and those of one vertex.
+use Rattle.std.specs.Prelude.{◌≡◌, Bool, false, ◌||◌, ◌&&◌, List, [], ◌∷◌, if◌then◌else◌, filter}
+use Rattle.std.specs.List.{AllByRecursion}
+use Rattle.std.specs.declared.cmp.Ordering.TheVariants.{Less}
+use Rattle.std.specs.Ordering.{is_eq}
+use Rattle.grove_sorts.specs.declared.position.Position.{Position}
+use Rattle.grove_sorts.specs.Position.{position_cmp}
+use Rattle.grove_edits.specs.declared.vertex.Vertex.{Vertex}
+use Rattle.grove_edits.specs.declared.edge.Edge.{Edge}
+use Rattle.grove_edits.specs.Vertex.{vertex_cmp}
+use Rattle.grove_edits.specs.Edge.{edge_cmp}
+
+-- each edge comes before all later ones, so none stands twice
+abbrev pub IsInEdgeOrder : List Edge → Type 0
+IsInEdgeOrder [] = Unit {0}
+IsInEdgeOrder (e ∷ es) = AllByRecursion (λ later. edge_cmp e later ≡ Less) es × IsInEdgeOrder es
+
+abbrev pub is_same_vertex : Vertex → Vertex → Bool
+is_same_vertex a b = is_eq (vertex_cmp a b)
+
+abbrev pub is_same_position : Position → Position → Bool
+is_same_position p q = is_eq (position_cmp p q)
+
+-- the live edges to a vertex
+abbrev pub parents_of : Vertex → List Edge → List Edge
+parents_of v edges = filter (λ e. is_same_vertex e.target v) edges
+
+-- the live edges from a position of a vertex
+abbrev pub children_of : Vertex → Position → List Edge → List Edge
+children_of v p edges = filter (λ e. is_same_vertex e.source v && is_same_position e.position p) edges
+
+abbrev pub stands_in : Vertex → List Vertex → Bool
+stands_in v [] = false
+stands_in v (x ∷ xs) = is_same_vertex x v || stands_in v xs
+
+-- the vertices with a live parent edge, each once
+abbrev pub targets_of : List Edge → List Vertex
+targets_of [] = []
+targets_of (e ∷ es) = if stands_in e.target (targets_of es) then targets_of es else (e.target ∷ targets_of es)
