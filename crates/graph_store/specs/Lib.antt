@@ -1,0 +1,4 @@
+pub mod Room
+pub mod Store
+pub mod Change
+pub mod Listed

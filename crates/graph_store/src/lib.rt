@@ -1,0 +1,13 @@
+//! A live graph: the state of each edge, kept in edge order and raised by edits.
+//! Room for an edge is an entry with the state Absent, so that a later edit of it takes no memory.
+//! Replicas stand on this crate, and the indexes of a graph beside it.
+#![tactic(auto)]
+
+mod change;
+mod graph_store;
+mod no_memory;
+mod room_map;
+
+pub use change::Change;
+pub use graph_store::GraphStore;
+pub use no_memory::NoMemory;
