@@ -42,7 +42,7 @@ join_above Deleted Absent h = absurd (h (omega arith))
 join_above Deleted Live h = absurd (h (omega arith))
 join_above Deleted Deleted h = refl
 
-join_nothing : (s : State) → state_join s Absent ≡ s
+pub join_nothing : (s : State) → state_join s Absent ≡ s
 join_nothing s = state_join_comm s Absent ∙ Absent-state_join s
 
 -- a state that the edge has already adds nothing to the graph

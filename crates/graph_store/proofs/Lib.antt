@@ -1,3 +1,4 @@
 pub mod Lookups
 pub mod Joins
 pub mod Listing
+pub mod Raises

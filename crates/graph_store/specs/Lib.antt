@@ -2,3 +2,4 @@ pub mod Room
 pub mod Store
 pub mod Change
 pub mod Listed
+pub mod Raised

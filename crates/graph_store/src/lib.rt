@@ -5,9 +5,13 @@
 
 mod change;
 mod graph_store;
+mod laws;
 mod no_memory;
 mod room_map;
 
 pub use change::Change;
 pub use graph_store::GraphStore;
+pub use laws::{
+    an_edge_with_a_state_has_room, graphs_of_edits_are_well_formed, raising_makes_the_graph,
+};
 pub use no_memory::NoMemory;
