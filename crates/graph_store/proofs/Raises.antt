@@ -52,5 +52,5 @@ graph_is_well_formed edits e = by_test (is_none (edge_fault e)) refl where
 pub canonical_of_edits : (edits list : List Edit) (es : Entries) → IsSame (state_in es) (graph edits) → IsCanonical (well_formed (state_in es)) list → IsCanonical (graph edits) list
 canonical_of_edits edits list es is canonical = record {
   in_order = canonical.in_order;
-  same = λ e. canonical.same e ∙ ap (λ s. cond (is_none (edge_fault e)) s Absent) (is e) ∙ graph_is_well_formed edits e
+  same = λ e. canonical.same e ∙ ap (λ s. cond (is_none (edge_fault e)) s Absent) (is e) ∙ graph_is_well_formed edits e;
 }

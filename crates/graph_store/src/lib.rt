@@ -15,3 +15,6 @@ pub use laws::{
     an_edge_with_a_state_has_room, graphs_of_edits_are_well_formed, raising_makes_the_graph,
 };
 pub use no_memory::NoMemory;
+
+#[cfg(test)]
+mod tests;
