@@ -41,7 +41,7 @@ gets_room {K} {X} {R} o k v m n changed absent q = by_test (R k q) refl where
 pub same_edge_laws : IsEquivalence is_same_edge
 same_edge_laws = eq_by_cmp_equiv edge_cmp_total
 
-equal_from_test : (o : Ordering) → is_eq o ≡ true → o ≡ Equal
+pub equal_from_test : (o : Ordering) → is_eq o ≡ true → o ≡ Equal
 equal_from_test Less e = absurd cc
 equal_from_test Equal e = refl
 equal_from_test Greater e = absurd cc

@@ -3,3 +3,5 @@ pub mod Store
 pub mod Change
 pub mod Listed
 pub mod Raised
+pub mod Least
+pub mod Named

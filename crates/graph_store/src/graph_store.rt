@@ -1,17 +1,23 @@
 ghost use Rattle.std.specs.Prelude.{◌≡◌, [], ◌∷◌, List, OnOk, OnErr, IfOk};
 ghost use Rattle.std.specs.List.{All};
+ghost use Rattle.std.specs.Option.{option_copied};
 ghost use Rattle.grove_edits.specs.declared.edit.Edit.{Edit};
+ghost use Rattle.grove_edits.specs.Edge.{edge_cmp};
 ghost use Rattle.grove_edits.specs.Edit.{edit_edge, edit_kind};
 ghost use Rattle.grove_edits.specs.Graph.{IsSame, IsCanonical, graph, graph_join, state_of};
 ghost use Rattle.graph_store.specs.Change.{change_from};
+ghost use Rattle.graph_store.specs.Least.{IsLeast};
 ghost use Rattle.graph_store.specs.Listed.{IsEditOf};
+ghost use Rattle.graph_store.specs.Named.{IsNamed};
 ghost use Rattle.graph_store.specs.Store.{state_in, HasRoom, KeepsRoom, only, with_state, well_formed};
 
 use crate::change::Change;
+use crate::named::{bound_after, first_named};
 use crate::no_memory::NoMemory;
 use crate::room_map::RoomMap;
 use edge_lattice::{State, leq};
 use grove_edits::{Edge, Edit, EditKind, EditList};
+use grove_names::Name;
 use std::alloc::Global;
 use std::marker::Model;
 
@@ -100,6 +106,13 @@ impl GraphStore {
             }
         }
         Ok(edits)
+    }
+
+    /// The least edge with this name that is not Absent, after another edge where one is given.
+    pub fn named(&self, name: Name, after: Option<&Edge>) -> Option<Edge>
+        ensures { IsLeast edge_cmp (IsNamed self.now name (option_copied after.entry)) result }
+    {
+        first_named(&self.states, name, bound_after(name, after))
     }
 
     fn make_room(&mut self, edge: &Edge) -> Result<(), NoMemory>

@@ -6,6 +6,7 @@
 mod change;
 mod graph_store;
 mod laws;
+mod named;
 mod no_memory;
 mod room_map;
 

@@ -83,3 +83,24 @@ fn stores_merge(rt: HostRuntime) -> Result<(), Fail> {
     assert_eq!(rt; edits.as_slice(), [seven, truth].as_slice());
     Ok(())
 }
+
+#[test]
+fn edges_are_found_by_name(rt: HostRuntime) -> Result<(), Fail> {
+    let edge = below_root(1, Ctor::Num(7));
+    let twin = below_root(1, Ctor::LitTrue);
+    let other = below_root(2, Ctor::Num(7));
+    let mut store = GraphStore::new(rt.alloc());
+    raise(&mut store, &Edit::insert(edge)?)?;
+    raise(&mut store, &Edit::delete(twin)?)?;
+    raise(&mut store, &Edit::insert(other)?)?;
+    for (name, after, found) in [
+        (edge.name, None, Some(edge)),
+        (edge.name, Some(edge), Some(twin)),
+        (edge.name, Some(twin), None),
+        (other.name, Some(edge), Some(other)),
+        (other.target.name, None, None),
+    ] {
+        assert_eq!(rt; store.named(name, after.as_ref()), found);
+    }
+    Ok(())
+}
