@@ -1,0 +1,6 @@
+pub mod Lookups
+pub mod Joins
+pub mod Listing
+pub mod Raises
+pub mod Leasts
+pub mod Names

@@ -1,0 +1,56 @@
+-- Graphs of edits that a store raised, and of edges that are not well formed.
+use Rattle.std.proofs.Common.{◌≡◌, ◌≢◌, Bool, true, false, cond, List, [], ◌∷◌, ◌++◌, Option, Some, None, is_some, is_none, unwrap_or, true≢false, refl, sym, ap, ◌∙◌}
+use Rattle.edge_lattice.specs.declared.state.State.{State}
+use Rattle.edge_lattice.specs.declared.state.State.TheVariants.{Absent}
+use Rattle.edge_lattice.specs.State.{state_join}
+use Rattle.edge_lattice.proofs.States.{state_join_assoc, Absent-state_join}
+use Rattle.grove_edits.specs.declared.edge.Edge.{Edge}
+use Rattle.grove_edits.specs.declared.edit.Edit.{Edit}
+use Rattle.grove_edits.specs.Edge.{edge_fault}
+use Rattle.grove_edits.specs.Edit.{edit_edge, edit_kind}
+use Rattle.grove_edits.specs.Graph.{graph, graph_join, state_of, is_same_edge, IsSame, IsCanonical}
+use Rattle.grove_edits.proofs.Graphs.{graph-append}
+use Rattle.graph_store.specs.Raised.{IsRaised, AreRaised}
+use Rattle.graph_store.specs.Store.{Entries, entry_at, state_in, HasRoom, well_formed}
+use Rattle.graph_store.proofs.Lookups.{one_edge}
+use Rattle.graph_store.proofs.Joins.{join_nothing}
+
+pub has_room_from_state : (es : Entries) (e : Edge) → state_in es e ≢ Absent → HasRoom es e
+has_room_from_state es e present = by_entry (entry_at es e) present where
+  by_entry : (o : Option State) → unwrap_or o Absent ≢ Absent → is_some o ≡ true
+  by_entry None h = absurd (h refl)
+  by_entry (Some s) h = refl
+
+pub raised_after : (edits : List Edit) (edit : Edit) (before after : Entries) → IsSame (state_in before) (graph edits) → IsRaised edit before after → IsSame (state_in after) (graph (edits ++ edit ∷ []))
+raised_after edits edit before after so_far is e =
+    is e ∙ ap (λ s. state_join s (graph (edit ∷ []) e)) (so_far e) ∙ sym (graph-append edits (edit ∷ []) e)
+
+pub raised_all : (edits : List Edit) (before after : Entries) → AreRaised edits before after → IsSame (state_in after) (graph_join (state_in before) (graph edits))
+raised_all [] before after is e = is e ∙ sym (join_nothing (state_in before e))
+raised_all (edit ∷ edits) before after steps e =
+    raised_all edits steps.0 after steps.2 e ∙ ap (λ s. state_join s (graph edits e)) (steps.1 e)
+    ∙ state_join_assoc (state_in before e) (graph (edit ∷ []) e) (graph edits e)
+    ∙ ap (state_join (state_in before e)) (sym (graph-append (edit ∷ []) edits e))
+
+pub raised_from_empty : (edits : List Edit) (after : Entries) → AreRaised edits [] after → IsSame (state_in after) (graph edits)
+raised_from_empty edits after steps e = raised_all edits [] after steps e ∙ Absent-state_join (graph edits e)
+
+-- an edge that is not well formed is named by no edit
+unnamed : (edits : List Edit) (e : Edge) → is_none (edge_fault e) ≡ false → graph edits e ≡ Absent
+unnamed [] e ill = refl
+unnamed (edit ∷ edits) e ill = by_test (is_same_edge (edit_edge edit) e) refl (unnamed edits e ill) where
+  by_test : (b : Bool) → is_same_edge (edit_edge edit) e ≡ b → graph edits e ≡ Absent → state_join (cond b (state_of (edit_kind edit)) Absent) (graph edits e) ≡ Absent
+  by_test true same rest = absurd (true≢false (sym edit.well_formed ∙ ap (λ (f : Edge). is_none (edge_fault f)) (one_edge (edit_edge edit) e same) ∙ ill))
+  by_test false other rest = Absent-state_join (graph edits e) ∙ rest
+
+pub graph_is_well_formed : (edits : List Edit) → IsSame (well_formed (graph edits)) (graph edits)
+graph_is_well_formed edits e = by_test (is_none (edge_fault e)) refl where
+  by_test : (w : Bool) → is_none (edge_fault e) ≡ w → cond w (graph edits e) Absent ≡ graph edits e
+  by_test true well = refl
+  by_test false ill = sym (unnamed edits e ill)
+
+pub canonical_of_edits : (edits list : List Edit) (es : Entries) → IsSame (state_in es) (graph edits) → IsCanonical (well_formed (state_in es)) list → IsCanonical (graph edits) list
+canonical_of_edits edits list es is canonical = record {
+  in_order = canonical.in_order;
+  same = λ e. canonical.same e ∙ ap (λ s. cond (is_none (edge_fault e)) s Absent) (is e) ∙ graph_is_well_formed edits e;
+}

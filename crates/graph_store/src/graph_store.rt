@@ -1,0 +1,183 @@
+ghost use Rattle.std.specs.Prelude.{◌≡◌, [], ◌∷◌, List, OnOk, OnErr, IfOk};
+ghost use Rattle.std.specs.List.{All};
+ghost use Rattle.std.specs.Option.{option_copied};
+ghost use Rattle.grove_edits.specs.declared.edit.Edit.{Edit};
+ghost use Rattle.grove_edits.specs.Edge.{edge_cmp};
+ghost use Rattle.grove_edits.specs.Edit.{edit_edge, edit_kind};
+ghost use Rattle.grove_edits.specs.Graph.{IsSame, IsCanonical, graph, graph_join, state_of};
+ghost use Rattle.graph_store.specs.Change.{change_from};
+ghost use Rattle.graph_store.specs.Least.{IsLeast};
+ghost use Rattle.graph_store.specs.Listed.{IsEditOf};
+ghost use Rattle.graph_store.specs.Named.{IsNamed};
+ghost use Rattle.graph_store.specs.Store.{state_in, HasRoom, KeepsRoom, only, with_state, well_formed};
+
+use crate::change::Change;
+use crate::named::{bound_after, first_named};
+use crate::no_memory::NoMemory;
+use crate::room_map::RoomMap;
+use edge_lattice::{State, leq};
+use grove_edits::{Edge, Edit, EditKind, EditList};
+use grove_names::Name;
+use std::alloc::Global;
+use std::marker::Model;
+
+/// A live graph: the state of each edge. Contracts see its entries, of which those with the state Absent are room.
+#[derive(Debug, Drop)]
+pub struct GraphStore {
+    states: RoomMap<Edge, State>,
+}
+
+impl Model for GraphStore {
+    ghost use Rattle.graph_store.specs.Store.{Entries};
+
+    ghost Value = { Entries };
+
+    ghost view = { λ store. store.states.entries.entries };
+}
+
+impl GraphStore {
+    /// The empty graph.
+    pub fn new(alloc: Global) -> GraphStore
+        ensures empty { result ≡ [] }
+    {
+        GraphStore {
+            states: RoomMap::new(alloc),
+        }
+    }
+
+    /// The state of an edge.
+    pub fn state(&self, edge: &Edge) -> State
+        ensures { result ≡ state_in self.now edge.now }
+    {
+        self.states.get(edge).unwrap_or(State::Absent)
+    }
+
+    /// Makes room for each of these edges, so that raising one takes no memory. Room once made stays.
+    pub fn reserve_for(&mut self, edges: &[Edge]) -> Result<(), NoMemory>
+        ensures room { OnOk result (All (HasRoom self.new) edges.now) }
+        ensures room_stays { KeepsRoom self.old self.new }
+        ensures unchanged { IsSame (state_in self.new) (state_in self.old) }
+    {
+        for edge in edges {
+            self.make_room(edge)?;
+        }
+        Ok(())
+    }
+
+    /// Gives an edge that has room a state, as after a call that met `NoMemory` and takes back what it raised.
+    pub fn put_back(&mut self, edge: &Edge, old: State)
+        requires { HasRoom self.old edge.now }
+        ensures state { IsSame (state_in self.new) (with_state edge.now old (state_in self.old)) }
+        ensures room_stays { KeepsRoom self.old self.new }
+    {
+        self.states.set(edge, old);
+    }
+
+    /// Joins what an edit asks to the graph. Its edge needs room, which an edge that is not Absent has.
+    pub fn raise(&mut self, edit: &Edit) -> Change
+        requires { HasRoom self.old (edit_edge edit.now) }
+        ensures joined { IsSame (state_in self.new) (graph_join (state_in self.old) (graph (edit.now ∷ []))) }
+        ensures change { result ≡ change_from (state_in self.old (edit_edge edit.now)) (state_of (edit_kind edit.now)) }
+        ensures room_stays { KeepsRoom self.old self.new }
+    {
+        self.raise_to(&edit.edge(), asked_by(edit.kind()))
+    }
+
+    /// Joins another graph to this one.
+    pub fn merge(&mut self, other: &GraphStore) -> Result<(), NoMemory>
+        ensures joined { OnOk result (IsSame (state_in self.new) (graph_join (state_in self.old) (state_in other.now))) }
+        ensures unchanged { OnErr result (IsSame (state_in self.new) (state_in self.old)) }
+        ensures room { OnOk result (KeepsRoom other.now self.new) }
+        ensures room_stays { KeepsRoom self.old self.new }
+    {
+        self.reserve_for_all(other)?;
+        self.raise_all(other);
+        Ok(())
+    }
+
+    /// The canonical list of the graph, in edge order: an insertion of each live edge and a deletion of each deleted one.
+    pub fn in_order(&self, alloc: Global) -> Result<EditList, NoMemory>
+        ensures canonical { IfOk result (λ list. IsCanonical (well_formed (state_in self.now)) list) }
+    {
+        let mut edits = EditList::new(alloc);
+        for (edge, state) in self.states.entries() {
+            if let Some(edit) = edit_of(edge, *state) {
+                edits.push(edit)?;
+            }
+        }
+        Ok(edits)
+    }
+
+    /// The least edge with this name that is not Absent, after another edge where one is given.
+    pub fn named(&self, name: Name, after: Option<&Edge>) -> Option<Edge>
+        ensures { IsLeast edge_cmp (IsNamed self.now name (option_copied after.entry)) result }
+    {
+        first_named(&self.states, name, bound_after(name, after))
+    }
+
+    fn make_room(&mut self, edge: &Edge) -> Result<(), NoMemory>
+        ensures room { OnOk result (HasRoom self.new edge.now) }
+        ensures room_stays { KeepsRoom self.old self.new }
+        ensures unchanged { IsSame (state_in self.new) (state_in self.old) }
+    {
+        self.states.make_room(edge, State::Absent)
+    }
+
+    // Joins a state of one edge.
+    fn raise_to(&mut self, edge: &Edge, asked: State) -> Change
+        requires { HasRoom self.old edge.now }
+        ensures joined { IsSame (state_in self.new) (graph_join (state_in self.old) (only edge.now asked)) }
+        ensures change { result ≡ change_from (state_in self.old edge.now) asked }
+        ensures room_stays { KeepsRoom self.old self.new }
+    {
+        let old = self.state(edge);
+        if leq(asked, old) {
+            return Change::Same;
+        }
+        self.put_back(edge, asked);
+        Change::Raised { old }
+    }
+
+    fn reserve_for_all(&mut self, other: &GraphStore) -> Result<(), NoMemory>
+        ensures room { OnOk result (KeepsRoom other.now self.new) }
+        ensures room_stays { KeepsRoom self.old self.new }
+        ensures unchanged { IsSame (state_in self.new) (state_in self.old) }
+    {
+        for (edge, _state) in other.states.entries() {
+            self.make_room(edge)?;
+        }
+        Ok(())
+    }
+
+    fn raise_all(&mut self, other: &GraphStore)
+        requires { KeepsRoom other.now self.old }
+        ensures joined { IsSame (state_in self.new) (graph_join (state_in self.old) (state_in other.now)) }
+        ensures room_stays { KeepsRoom self.old self.new }
+    {
+        for (edge, state) in other.states.entries() {
+            self.raise_to(edge, *state);
+        }
+    }
+}
+
+// What an edit asks its edge to be at least.
+fn asked_by(kind: EditKind) -> State
+    ensures { result ≡ state_of kind }
+{
+    match kind {
+        EditKind::Insert => State::Live,
+        EditKind::Delete => State::Deleted,
+    }
+}
+
+// The edit that asks a state of an edge, where there is one.
+fn edit_of(edge: &Edge, state: State) -> Option<Edit>
+    ensures { IsEditOf edge.now state result }
+{
+    let kind = match state {
+        State::Absent => return None,
+        State::Live => EditKind::Insert,
+        State::Deleted => EditKind::Delete,
+    };
+    Edit::new(kind, *edge).ok()
+}

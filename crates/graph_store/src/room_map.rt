@@ -1,0 +1,57 @@
+ghost use Rattle.std.specs.Prelude.{◌≡◌, [], IsSome, OnOk};
+ghost use Rattle.std.specs.BTreeMap.{get, is_at};
+ghost use Rattle.std.specs.Map.{set_value};
+ghost use Rattle.graph_store.specs.Room.{GetsRoom};
+
+use crate::no_memory::NoMemory;
+use std::alloc::Global;
+use std::collections::BTreeMap;
+
+// A map in the order of its keys, in which a value can be set without memory wherever the key has room: an entry of its own.
+#[derive(Debug, Drop)]
+pub(crate) struct RoomMap<K: Ord, V> {
+    entries: BTreeMap<K, V>,
+}
+
+impl<K: Ord + Copy, V: Copy> RoomMap<K, V> {
+    pub(crate) fn new(alloc: Global) -> RoomMap<K, V>
+        ensures empty { result.entries.entries ≡ [] }
+    {
+        RoomMap {
+            entries: BTreeMap::new(alloc),
+        }
+    }
+
+    pub(crate) fn entries(&self) -> &BTreeMap<K, V>
+        ensures { result.now ≡ self.now.entries }
+    {
+        &self.entries
+    }
+
+    pub(crate) fn get(&self, key: &K) -> Option<V>
+        ensures { result ≡ get K.cmp self.now.entries key.now }
+    {
+        self.entries.get(key).copied()
+    }
+
+    // An entry with this value, where the key has none.
+    pub(crate) fn make_room(&mut self, key: &K, value: V) -> Result<(), NoMemory>
+        ensures room { OnOk result (IsSome (get K.cmp self.new.entries key.now)) }
+        ensures kept { GetsRoom K.cmp value self.old.entries self.new.entries }
+    {
+        if !self.entries.contains_key(key) {
+            self.entries.insert(*key, value)?;
+        }
+        Ok(())
+    }
+
+    // The value of a key that has room.
+    pub(crate) fn set(&mut self, key: &K, value: V)
+        requires { IsSome (get K.cmp self.old.entries key.now) }
+        ensures { self.new.entries.entries ≡ set_value (is_at (K.cmp key.now)) self.old.entries.entries value }
+    {
+        if let Some(held) = self.entries.get_mut(key) {
+            *held = value;
+        }
+    }
+}

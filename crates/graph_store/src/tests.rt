@@ -1,0 +1,106 @@
+use super::*;
+use edge_lattice::State;
+use grove_edits::{Edge, Edit, Vertex};
+use grove_names::Name;
+use grove_sorts::{Ctor, Position};
+use std::test::Fail;
+
+fn below_root(author: u32, ctor: Ctor) -> Edge {
+    let root = Vertex {
+        name: Name {
+            author: 0,
+            counter: 0,
+        },
+        ctor: Ctor::Root,
+    };
+    let target = Vertex {
+        name: Name { author, counter: 1 },
+        ctor,
+    };
+    Edge {
+        name: Name { author, counter: 2 },
+        source: root,
+        position: Position::Main,
+        target,
+    }
+}
+
+fn raise(store: &mut GraphStore, edit: &Edit) -> Result<Change, NoMemory> {
+    let edges = [edit.edge()];
+    store.reserve_for(&edges)?;
+    Ok(store.raise(edit))
+}
+
+#[test]
+fn a_state_only_rises(rt: HostRuntime) -> Result<(), Fail> {
+    let edge = below_root(1, Ctor::Num(7));
+    let insertion = Edit::insert(edge)?;
+    let deletion = Edit::delete(edge)?;
+    let mut store = GraphStore::new(rt.alloc());
+    for (edit, change, state) in [
+        (
+            insertion,
+            Change::Raised { old: State::Absent },
+            State::Live,
+        ),
+        (insertion, Change::Same, State::Live),
+        (
+            deletion,
+            Change::Raised { old: State::Live },
+            State::Deleted,
+        ),
+        (insertion, Change::Same, State::Deleted),
+    ] {
+        assert_eq!(rt; raise(&mut store, &edit)?, change);
+        assert_eq!(rt; store.state(&edge), state);
+    }
+    Ok(())
+}
+
+#[test]
+fn a_state_is_put_back(rt: HostRuntime) -> Result<(), Fail> {
+    let edge = below_root(1, Ctor::Num(7));
+    let mut store = GraphStore::new(rt.alloc());
+    store.reserve_for(&[edge])?;
+    store.put_back(&edge, State::Deleted);
+    store.put_back(&edge, State::Live);
+    assert_eq!(rt; store.state(&edge), State::Live);
+    Ok(())
+}
+
+#[test]
+fn stores_merge(rt: HostRuntime) -> Result<(), Fail> {
+    let seven = Edit::insert(below_root(1, Ctor::Num(7)))?;
+    let truth = Edit::insert(below_root(2, Ctor::LitTrue))?;
+    let mut first = GraphStore::new(rt.alloc());
+    let mut second = GraphStore::new(rt.alloc());
+    raise(&mut first, &truth)?;
+    raise(&mut second, &seven)?;
+    first.merge(&second)?;
+    assert_eq!(rt; first.state(&seven.edge()), State::Live);
+    assert_eq!(rt; first.state(&truth.edge()), State::Live);
+    let edits = first.in_order(rt.alloc())?;
+    assert_eq!(rt; edits.as_slice(), [seven, truth].as_slice());
+    Ok(())
+}
+
+#[test]
+fn edges_are_found_by_name(rt: HostRuntime) -> Result<(), Fail> {
+    let edge = below_root(1, Ctor::Num(7));
+    let twin = below_root(1, Ctor::LitTrue);
+    let other = below_root(2, Ctor::Num(7));
+    let mut store = GraphStore::new(rt.alloc());
+    raise(&mut store, &Edit::insert(edge)?)?;
+    raise(&mut store, &Edit::delete(twin)?)?;
+    raise(&mut store, &Edit::insert(other)?)?;
+    for (name, after, found) in [
+        (edge.name, None, Some(edge)),
+        (edge.name, Some(edge), Some(twin)),
+        (edge.name, Some(twin), None),
+        (other.name, Some(edge), Some(other)),
+        (other.target.name, None, None),
+    ] {
+        assert_eq!(rt; store.named(name, after.as_ref()), found);
+    }
+    Ok(())
+}
