@@ -4,3 +4,4 @@ pub mod Listing
 pub mod Raises
 pub mod Leasts
 pub mod Names
+pub mod Counts

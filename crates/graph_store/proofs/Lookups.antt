@@ -50,7 +50,7 @@ equal_from_test Greater e = absurd cc
 pub one_edge : (a b : Edge) → is_same_edge a b ≡ true → a ≡ b
 one_edge a b same = edge_cmp_exact a b (equal_from_test (edge_cmp a b) same)
 
-test_is_same_edge : (e k : Edge) → is_at (edge_impl.ghosts.cmp e) k ≡ is_same_edge e k
+pub test_is_same_edge : (e k : Edge) → is_at (edge_impl.ghosts.cmp e) k ≡ is_same_edge e k
 test_is_same_edge e k = ap is_eq (cmp_is_edge_cmp e k)
 
 -- the code's look-up finds the entry of an edge

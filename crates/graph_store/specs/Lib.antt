@@ -5,3 +5,4 @@ pub mod Listed
 pub mod Raised
 pub mod Least
 pub mod Named
+pub mod Counts

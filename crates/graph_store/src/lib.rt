@@ -4,6 +4,7 @@
 #![tactic(auto)]
 
 mod change;
+mod ends;
 mod graph_store;
 mod laws;
 mod named;
