@@ -2,7 +2,8 @@
 use Rattle.std.proofs.Common.{◌≡◌, ◌≢◌, ℕ, zero, suc, ◌+◌, ◌*◌, ◌<◌, ◌≤◌, ◌^◌, Bool, true, false, cond, List, [], ◌∷◌, Option, Some, None, Ordering, Less, Equal, Greater, is_eq, is_some, IsSome, unwrap_or, true≢false, length, refl, sym, ap, subst, ◌∙◌, inl, inr, ◌⊎◌, arith}
 use Rattle.std.specs.Cmp.{IsTotalOrder, IsEquivalence, eq_by_cmp_equiv}
 use Rattle.std.specs.Map.{lookup, set_value}
-use Rattle.std.specs.BTreeMap.{is_at}
+use Rattle.std.specs.Ordering.{match_ordering}
+use Rattle.std.specs.BTreeMap.{is_at, BTreeMap, get, insert_entry}
 use Rattle.std.proofs.lemmas.Map.{lookup-set_value}
 use Rattle.edge_lattice.specs.declared.state.State.{State}
 use Rattle.edge_lattice.specs.declared.state.State.TheVariants.{Absent, Live, Deleted}
@@ -13,10 +14,11 @@ use Rattle.grove_edits.specs.contracts.edge.EdgeOrd.TheImpl as edge_impl
 use Rattle.grove_edits.specs.Vertex.{vertex_cmp}
 use Rattle.grove_edits.specs.Graph.{is_same_edge}
 use Rattle.grove_edits.proofs.Orders.{vertex_cmp_total, vertex_cmp_exact, cmp_is_vertex_cmp}
-use Rattle.graph_store.specs.Counts.{is_same_vertex, once, ends_at, weight, uses, count_at, count_of, KeepsCounts}
+use Rattle.graph_store.specs.Counts.{is_same_vertex, once, ends_at, weight, uses, count_at, count_of, KeepsCounts, IsCounted}
+use Rattle.graph_store.specs.Room.{GetsRoom, GetsEntry}
 use Rattle.graph_store.specs.Named.{is_present}
 use Rattle.graph_store.specs.Store.{Entries, entry_at, state_in, HasRoom}
-use Rattle.graph_store.proofs.Lookups.{lookup_congr, one_edge, test_is_same_edge, equal_from_test}
+use Rattle.graph_store.proofs.Lookups.{lookup_congr, one_edge, test_is_same_edge, equal_from_test, entry_kept, entry_set}
 
 -- ---- one number set
 
@@ -163,3 +165,98 @@ target_fits top s t e counts mid absent here fits step =
   where
     bounded : (a b w z n m : ℕ) → b ≡ 1 → w ≡ a + b → z ≡ 0 → n + w < top + z → m ≡ n + a → m + 1 < top
     bounded a b w z n m h k l p q = omega arith
+
+-- ---- room
+
+vertex_kept : (k : Vertex) (m n : BTreeMap Vertex ℕ) → GetsRoom vertex_impl.ghosts.cmp k 0 m n → (v : Vertex)
+    → (count_at n.entries v ≡ count_at m.entries v) ⊎ ((count_at m.entries v ≡ None) × (count_at n.entries v ≡ Some 0))
+vertex_kept k m n kept v = cases (kept v) where
+  cases : (get vertex_impl.ghosts.cmp n v ≡ get vertex_impl.ghosts.cmp m v) ⊎ ((vertex_impl.ghosts.cmp k v ≡ Equal) × (get vertex_impl.ghosts.cmp m v ≡ None) × (get vertex_impl.ghosts.cmp n v ≡ Some 0))
+      → (count_at n.entries v ≡ count_at m.entries v) ⊎ ((count_at m.entries v ≡ None) × (count_at n.entries v ≡ Some 0))
+  cases (inl same) = inl (sym (get_vertex n.entries v) ∙ same ∙ get_vertex m.entries v)
+  cases (inr made) = inr (sym (get_vertex m.entries v) ∙ made.1, sym (get_vertex n.entries v) ∙ made.2)
+
+pub vertex_room_kept : (k : Vertex) (m n : BTreeMap Vertex ℕ) → GetsRoom vertex_impl.ghosts.cmp k 0 m n → KeepsCounts m.entries n.entries
+vertex_room_kept k m n kept v room = cases (vertex_kept k m n kept v) where
+  cases : (count_at n.entries v ≡ count_at m.entries v) ⊎ ((count_at m.entries v ≡ None) × (count_at n.entries v ≡ Some 0)) → IsSome (count_at n.entries v)
+  cases (inl same) = ap is_some same ∙ room
+  cases (inr made) = ap is_some made.1
+
+pub vertex_counts_kept : (k : Vertex) (m n : BTreeMap Vertex ℕ) → GetsRoom vertex_impl.ghosts.cmp k 0 m n → (v : Vertex) → count_of n.entries v ≡ count_of m.entries v
+vertex_counts_kept k m n kept v = cases (vertex_kept k m n kept v) where
+  cases : (count_at n.entries v ≡ count_at m.entries v) ⊎ ((count_at m.entries v ≡ None) × (count_at n.entries v ≡ Some 0)) → count_of n.entries v ≡ count_of m.entries v
+  cases (inl same) = ap (λ o. unwrap_or o 0) same
+  cases (inr made) = ap (λ o. unwrap_or o 0) made.1 ∙ sym (ap (λ o. unwrap_or o 0) made.0)
+
+none_plus : (n : ℕ) → 0 + n ≡ n
+none_plus n = omega arith
+
+uses_room : (k : Edge) (v : Vertex) (es : Entries) → lookup (is_at (edge_impl.ghosts.cmp k)) es ≡ None → uses (insert_entry edge_impl.ghosts.cmp es k Absent) v ≡ uses es v
+uses_room k v [] none = none_plus 0
+uses_room k v (x ∷ es) none = by_order (edge_impl.ghosts.cmp k x.0) none (uses_room k v es) where
+  by_order : (o : Ordering) → cond (is_eq o) (Some x.1) (lookup (is_at (edge_impl.ghosts.cmp k)) es) ≡ None
+      → (lookup (is_at (edge_impl.ghosts.cmp k)) es ≡ None → uses (insert_entry edge_impl.ghosts.cmp es k Absent) v ≡ uses es v)
+      → uses (match_ordering o ((k, Absent) ∷ x ∷ es) ((x.0, Absent) ∷ es) (x ∷ insert_entry edge_impl.ghosts.cmp es k Absent)) v ≡ weight x.1 x.0 v + uses es v
+  by_order Less none rest = none_plus (weight x.1 x.0 v + uses es v)
+  by_order Equal none rest = absurd cc
+  by_order Greater none rest = ap (λ n. weight x.1 x.0 v + n) (rest none)
+
+-- ---- the numbers stay those of the edges
+
+pub counted_kept : (es : Entries) (cs ds : List (Vertex × ℕ)) → IsCounted es cs → ((v : Vertex) → count_of ds v ≡ count_of cs v) → KeepsCounts cs ds → IsCounted es ds
+counted_kept es cs ds counted same kept = record {
+  exact = λ v. same v ∙ counted.exact v;
+  sources = λ e had. kept e.source (counted.sources e had);
+  targets = λ e had. kept e.target (counted.targets e had)
+}
+
+pub counted_with_room : (k : Edge) (m n : BTreeMap Edge State) (cs : List (Vertex × ℕ)) → IsCounted m.entries cs → IsSome (count_at cs k.source) → IsSome (count_at cs k.target)
+    → GetsRoom edge_impl.ghosts.cmp k Absent m n → GetsEntry edge_impl.ghosts.cmp k Absent m n → IsCounted n.entries cs
+counted_with_room k m n cs counted source target kept entries = record {
+  exact = λ v. counted.exact v ∙ sym (same_uses v entries);
+  sources = λ e had. at_source e had (entry_kept k m n kept e);
+  targets = λ e had. at_target e had (entry_kept k m n kept e)
+} where
+  same_uses : (v : Vertex) → GetsEntry edge_impl.ghosts.cmp k Absent m n → uses n.entries v ≡ uses m.entries v
+  same_uses v (inl same) = ap (λ (es : Entries). uses es v) same
+  same_uses v (inr more) = ap (λ (es : Entries). uses es v) more.1 ∙ uses_room k v m.entries more.0
+  at_source : (e : Edge) → HasRoom n.entries e → (entry_at n.entries e ≡ entry_at m.entries e) ⊎ ((k ≡ e) × (entry_at m.entries e ≡ None) × (entry_at n.entries e ≡ Some Absent)) → IsSome (count_at cs e.source)
+  at_source e had (inl same) = counted.sources e (sym (ap is_some same) ∙ had)
+  at_source e had (inr made) = subst (λ (f : Edge). IsSome (count_at cs f.source)) made.0 source
+  at_target : (e : Edge) → HasRoom n.entries e → (entry_at n.entries e ≡ entry_at m.entries e) ⊎ ((k ≡ e) × (entry_at m.entries e ≡ None) × (entry_at n.entries e ≡ Some Absent)) → IsSome (count_at cs e.target)
+  at_target e had (inl same) = counted.targets e (sym (ap is_some same) ∙ had)
+  at_target e had (inr made) = subst (λ (f : Edge). IsSome (count_at cs f.target)) made.0 target
+
+-- what an edge counts for before its state is set is among what is counted
+pub weight_counted : (k : Edge) (es : Entries) (cs : List (Vertex × ℕ)) → HasRoom es k → IsCounted es cs → (v : Vertex) → weight (state_in es k) k v ≤ count_of cs v
+weight_counted k es cs room counted v =
+    bounded (uses (set_value (is_at (edge_impl.ghosts.cmp k)) es Absent) v) (weight (state_in es k) k v) (uses es v) (count_of cs v) (uses_set v k Absent es _ room refl) (counted.exact v)
+  where
+    bounded : (a w u n : ℕ) → a + w ≡ u + 0 → n ≡ u → w ≤ n
+    bounded a w u n h k = omega arith
+
+pub weight_fits : (k : Edge) (s : State) (es fs : Entries) (cs : List (Vertex × ℕ)) → HasRoom es k → fs ≡ set_value (is_at (edge_impl.ghosts.cmp k)) es s → IsCounted es cs → length fs < 9223372036854775808
+    → (v : Vertex) → count_of cs v + weight s k v < 18446744073709551616 + weight (state_in es k) k v
+weight_fits k s es fs cs room is counted small v =
+    bounded (uses fs v) (weight (state_in es k) k v) (uses es v) (weight s k v) (count_of cs v) (length fs) (uses_set v k s es fs room is) (counted.exact v) (uses_le fs v) small
+  where
+    bounded : (a w u z n l : ℕ) → a + w ≡ u + z → n ≡ u → a ≤ 2 * l → l < 9223372036854775808 → n + z < 18446744073709551616 + w
+    bounded a w u z n l h k i j = omega arith
+
+pub counted_set : (k : Edge) (s : State) (es fs : Entries) (cs ds : List (Vertex × ℕ)) → HasRoom es k → fs ≡ set_value (is_at (edge_impl.ghosts.cmp k)) es s → IsCounted es cs
+    → ((v : Vertex) → count_of ds v + weight (state_in es k) k v ≡ count_of cs v + weight s k v) → KeepsCounts cs ds → IsCounted fs ds
+counted_set k s es fs cs ds room is counted step kept = record {
+  exact = λ v. exactly (count_of ds v) (weight (state_in es k) k v) (count_of cs v) (weight s k v) (uses es v) (uses fs v) (step v) (counted.exact v) (uses_set v k s es fs room is);
+  sources = λ e had. kept e.source (counted.sources e (had_room e had));
+  targets = λ e had. kept e.target (counted.targets e (had_room e had))
+} where
+  exactly : (d w c z u f : ℕ) → d + w ≡ c + z → c ≡ u → f + w ≡ u + z → d ≡ f
+  exactly d w c z u f h k i = omega arith
+  had_room : (e : Edge) → HasRoom fs e → HasRoom es e
+  had_room e had = by_test (is_same_edge k e) refl (sym (ap is_some (entry_set k s es fs room is e)) ∙ had) where
+    by_test : (b : Bool) → is_same_edge k e ≡ b → is_some (cond b (Some s) (entry_at es e)) ≡ true → HasRoom es e
+    by_test true same h = subst (HasRoom es) (one_edge k e same) room
+    by_test false other h = h
+
+pub none_counted : IsCounted [] []
+none_counted = record { exact = λ v. refl; sources = λ e had. absurd (true≢false (sym had)); targets = λ e had. absurd (true≢false (sym had)) }

@@ -1,11 +1,31 @@
-ghost use Rattle.std.specs.Prelude.{◌≡◌, ◌+◌, ◌<◌, ◌≤◌, ◌^◌, IsSome};
+ghost use Rattle.std.specs.Prelude.{◌≡◌, ◌+◌, ◌<◌, ◌≤◌, ◌^◌, IsSome, OnOk};
 ghost use Rattle.grove_edits.specs.declared.vertex.Vertex.{Vertex};
 ghost use Rattle.graph_store.specs.Counts.{count_at, count_of, is_same_vertex, once, weight, KeepsCounts};
 
 use crate::named::is_present;
+use crate::no_memory::NoMemory;
 use crate::room_map::RoomMap;
 use edge_lattice::State;
 use grove_edits::{Edge, Vertex};
+
+// Room for the numbers of an edge's ends.
+pub(crate) fn make_room_at_ends(ends: &mut RoomMap<Vertex, u64>, edge: &Edge) -> Result<(), NoMemory>
+    ensures source { OnOk result (IsSome (count_at ends.new.entries.entries edge.now.source)) }
+    ensures target { OnOk result (IsSome (count_at ends.new.entries.entries edge.now.target)) }
+    ensures unchanged { (v : Vertex) → count_of ends.new.entries.entries v ≡ count_of ends.old.entries.entries v }
+    ensures kept { KeepsCounts ends.old.entries.entries ends.new.entries.entries }
+{
+    make_room_at(ends, &edge.source)?;
+    make_room_at(ends, &edge.target)
+}
+
+fn make_room_at(ends: &mut RoomMap<Vertex, u64>, vertex: &Vertex) -> Result<(), NoMemory>
+    ensures room { OnOk result (IsSome (count_at ends.new.entries.entries vertex.now)) }
+    ensures unchanged { (v : Vertex) → count_of ends.new.entries.entries v ≡ count_of ends.old.entries.entries v }
+    ensures kept { KeepsCounts ends.old.entries.entries ends.new.entries.entries }
+{
+    ends.make_room(vertex, 0)
+}
 
 // What the state of an edge counts for at its ends, where it changes.
 pub(crate) fn recount(ends: &mut RoomMap<Vertex, u64>, edge: &Edge, before: State, after: State)

@@ -10,8 +10,8 @@ returns-clause-room c =
 
 pub returns-clause-room_stays : goal.returns-clause-room_stays
 returns-clause-room_stays c = λ e had.
-    room_kept c.self.inside.states.entries c.make_room.new.self.entries c.make_room.ensures.kept e (subst (λ (es : Entries). HasRoom es e) (sym c.self.view_is) had)
+    room_kept c.args.edge.now c.self.inside.states.entries c.make_room.new.self.entries c.make_room.ensures.kept e (subst (λ (es : Entries). HasRoom es e) (sym c.self.view_is) had)
 
 pub returns-clause-unchanged : goal.returns-clause-unchanged
 returns-clause-unchanged c = λ e.
-    states_kept c.self.inside.states.entries c.make_room.new.self.entries c.make_room.ensures.kept e ∙ ap (λ (es : Entries). state_in es e) c.self.view_is
+    states_kept c.args.edge.now c.self.inside.states.entries c.make_room.new.self.entries c.make_room.ensures.kept e ∙ ap (λ (es : Entries). state_in es e) c.self.view_is
