@@ -5,3 +5,4 @@ pub mod Raises
 pub mod Leasts
 pub mod Names
 pub mod Counts
+pub mod VertexOrder

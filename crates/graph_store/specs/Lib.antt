@@ -6,3 +6,4 @@ pub mod Raised
 pub mod Least
 pub mod Named
 pub mod Counts
+pub mod Vertices

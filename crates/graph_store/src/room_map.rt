@@ -1,5 +1,5 @@
-ghost use Rattle.std.specs.Prelude.{◌≡◌, [], IsSome, OnOk};
-ghost use Rattle.std.specs.BTreeMap.{get, is_at};
+ghost use Rattle.std.specs.Prelude.{◌≡◌, ◌<◌, ◌^◌, [], IsSome, OnOk, length};
+ghost use Rattle.std.specs.BTreeMap.{get, is_at, IsOrdered};
 ghost use Rattle.std.specs.Map.{set_value};
 ghost use Rattle.graph_store.specs.Room.{GetsRoom, GetsEntry};
 
@@ -26,6 +26,14 @@ impl<K: Ord + Copy, V: Copy> RoomMap<K, V> {
         ensures { result.now ≡ self.now.entries }
     {
         &self.entries
+    }
+
+    pub(crate) fn len(&self) -> usize
+        ensures len { result ≡ length self.now.entries.entries }
+        ensures small { result < 2 ^ 63 }
+        ensures ordered { IsOrdered K.cmp self.now.entries }
+    {
+        self.entries.len()
     }
 
     pub(crate) fn get(&self, key: &K) -> Option<V>
