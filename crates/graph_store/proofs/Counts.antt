@@ -1,12 +1,12 @@
 -- Numbers kept for vertices, and how often the edges of a store name them.
-use Rattle.std.proofs.Common.{◌≡◌, ◌≢◌, ℕ, zero, suc, ◌+◌, ◌*◌, ◌<◌, ◌≤◌, ◌^◌, Bool, true, false, cond, List, [], ◌∷◌, Option, Some, None, Ordering, Less, Equal, Greater, is_eq, is_some, IsSome, unwrap_or, true≢false, length, refl, sym, ap, subst, ◌∙◌, inl, inr, ◌⊎◌, arith}
-use Rattle.std.specs.Cmp.{IsTotalOrder, IsEquivalence, eq_by_cmp_equiv}
+use Rattle.std.proofs.Common.{◌≡◌, ℕ, suc, ◌+◌, ◌*◌, ◌<◌, ◌≤◌, Bool, true, false, cond, List, [], ◌∷◌, Option, Some, None, Ordering, Less, Equal, Greater, is_eq, is_some, IsSome, unwrap_or, true≢false, length, refl, sym, ap, subst, ◌∙◌, inl, inr, ◌⊎◌, arith}
+use Rattle.std.specs.Cmp.{IsEquivalence, eq_by_cmp_equiv}
 use Rattle.std.specs.Map.{lookup, set_value}
 use Rattle.std.specs.Ordering.{match_ordering}
 use Rattle.std.specs.BTreeMap.{is_at, BTreeMap, get, insert_entry}
 use Rattle.std.proofs.lemmas.Map.{lookup-set_value}
 use Rattle.edge_lattice.specs.declared.state.State.{State}
-use Rattle.edge_lattice.specs.declared.state.State.TheVariants.{Absent, Live, Deleted}
+use Rattle.edge_lattice.specs.declared.state.State.TheVariants.{Absent}
 use Rattle.grove_edits.specs.declared.vertex.Vertex.{Vertex}
 use Rattle.grove_edits.specs.declared.edge.Edge.{Edge}
 use Rattle.grove_edits.specs.contracts.vertex.VertexOrd.TheImpl as vertex_impl
@@ -82,11 +82,11 @@ uses_set_here v k s old (x ∷ es) found = by_test (is_same_edge k x.0) refl fou
       → (entry_at es k ≡ Some old → uses (set_value (is_same_edge k) es s) v + weight old k v ≡ uses es v + weight s k v)
       → uses (cond b ((x.0, s) ∷ es) (x ∷ set_value (is_same_edge k) es s)) v + weight old k v ≡ (weight x.1 x.0 v + uses es v) + weight s k v
   by_test true same is rest =
-    let edge : x.0 ≡ k = sym (one_edge k x.0 same) in
-    let state : x.1 ≡ old = ap (λ o. unwrap_or o Absent) is in
-    let new : weight s x.0 v ≡ weight s k v = ap (λ (e : Edge). weight s e v) edge in
-    let before : weight x.1 x.0 v ≡ weight old k v = ap (λ (e : Edge). weight x.1 e v) edge ∙ ap (λ t. weight t k v) state in
-    swapped (weight s x.0 v) (weight s k v) (weight x.1 x.0 v) (weight old k v) (uses es v) new before
+      let edge : x.0 ≡ k = sym (one_edge k x.0 same) in
+      let state : x.1 ≡ old = ap (λ o. unwrap_or o Absent) is in
+      let new : weight s x.0 v ≡ weight s k v = ap (λ (e : Edge). weight s e v) edge in
+      let before : weight x.1 x.0 v ≡ weight old k v = ap (λ (e : Edge). weight x.1 e v) edge ∙ ap (λ t. weight t k v) state in
+      swapped (weight s x.0 v) (weight s k v) (weight x.1 x.0 v) (weight old k v) (uses es v) new before
     where
       swapped : (a b c d u : ℕ) → a ≡ b → c ≡ d → (a + u) + d ≡ (c + u) + b
       swapped a b c d u e f = omega arith
@@ -207,7 +207,7 @@ pub counted_kept : (es : Entries) (cs ds : List (Vertex × ℕ)) → IsCounted e
 counted_kept es cs ds counted same kept = record {
   exact = λ v. same v ∙ counted.exact v;
   sources = λ e had. kept e.source (counted.sources e had);
-  targets = λ e had. kept e.target (counted.targets e had)
+  targets = λ e had. kept e.target (counted.targets e had);
 }
 
 pub counted_with_room : (k : Edge) (m n : BTreeMap Edge State) (cs : List (Vertex × ℕ)) → IsCounted m.entries cs → IsSome (count_at cs k.source) → IsSome (count_at cs k.target)
@@ -215,14 +215,16 @@ pub counted_with_room : (k : Edge) (m n : BTreeMap Edge State) (cs : List (Verte
 counted_with_room k m n cs counted source target kept entries = record {
   exact = λ v. counted.exact v ∙ sym (same_uses v entries);
   sources = λ e had. at_source e had (entry_kept k m n kept e);
-  targets = λ e had. at_target e had (entry_kept k m n kept e)
+  targets = λ e had. at_target e had (entry_kept k m n kept e);
 } where
   same_uses : (v : Vertex) → GetsEntry edge_impl.ghosts.cmp k Absent m n → uses n.entries v ≡ uses m.entries v
   same_uses v (inl same) = ap (λ (es : Entries). uses es v) same
   same_uses v (inr more) = ap (λ (es : Entries). uses es v) more.1 ∙ uses_room k v m.entries more.0
+
   at_source : (e : Edge) → HasRoom n.entries e → (entry_at n.entries e ≡ entry_at m.entries e) ⊎ ((k ≡ e) × (entry_at m.entries e ≡ None) × (entry_at n.entries e ≡ Some Absent)) → IsSome (count_at cs e.source)
   at_source e had (inl same) = counted.sources e (sym (ap is_some same) ∙ had)
   at_source e had (inr made) = subst (λ (f : Edge). IsSome (count_at cs f.source)) made.0 source
+
   at_target : (e : Edge) → HasRoom n.entries e → (entry_at n.entries e ≡ entry_at m.entries e) ⊎ ((k ≡ e) × (entry_at m.entries e ≡ None) × (entry_at n.entries e ≡ Some Absent)) → IsSome (count_at cs e.target)
   at_target e had (inl same) = counted.targets e (sym (ap is_some same) ∙ had)
   at_target e had (inr made) = subst (λ (f : Edge). IsSome (count_at cs f.target)) made.0 target
@@ -248,10 +250,11 @@ pub counted_set : (k : Edge) (s : State) (es fs : Entries) (cs ds : List (Vertex
 counted_set k s es fs cs ds room is counted step kept = record {
   exact = λ v. exactly (count_of ds v) (weight (state_in es k) k v) (count_of cs v) (weight s k v) (uses es v) (uses fs v) (step v) (counted.exact v) (uses_set v k s es fs room is);
   sources = λ e had. kept e.source (counted.sources e (had_room e had));
-  targets = λ e had. kept e.target (counted.targets e (had_room e had))
+  targets = λ e had. kept e.target (counted.targets e (had_room e had));
 } where
   exactly : (d w c z u f : ℕ) → d + w ≡ c + z → c ≡ u → f + w ≡ u + z → d ≡ f
   exactly d w c z u f h k i = omega arith
+
   had_room : (e : Edge) → HasRoom fs e → HasRoom es e
   had_room e had = by_test (is_same_edge k e) refl (sym (ap is_some (entry_set k s es fs room is e)) ∙ had) where
     by_test : (b : Bool) → is_same_edge k e ≡ b → is_some (cond b (Some s) (entry_at es e)) ≡ true → HasRoom es e

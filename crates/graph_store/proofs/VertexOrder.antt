@@ -1,5 +1,5 @@
 -- Vertices by name: the first that is counted, and what the counts say of the graph.
-use Rattle.std.proofs.Common.{◌≡◌, ◌≢◌, ◌↔◌, ℕ, zero, suc, ◌+◌, ◌<◌, ◌≤◌, nat_lt, Bool, true, false, cond, List, [], ◌∷◌, Option, Some, None, Ordering, Less, Equal, Greater, is_eq, is_lt, is_le, is_gt, IsTrue, true≢false, unwrap_or, refl, sym, ap, subst, ◌∙◌, inl, inr, ◌⊎◌, filter, ◌&&◌, not, lt-ltb, ltb→lt, arith}
+use Rattle.std.proofs.Common.{◌≡◌, ℕ, zero, suc, ◌+◌, ◌<◌, nat_lt, Bool, true, false, cond, List, [], ◌∷◌, Option, Some, None, Ordering, Less, Equal, Greater, is_eq, is_lt, is_le, true≢false, unwrap_or, refl, sym, ap, subst, ◌∙◌, inl, inr, ◌⊎◌, ◌&&◌, lt-ltb, arith}
 use Rattle.std.specs.Ordering.{ordering_then, ordering_reverse}
 use Rattle.std.specs.List.{AllByRecursion}
 use Rattle.std.specs.List.Sorted.{IsStrictlySortedBy}
@@ -22,14 +22,13 @@ use Rattle.grove_edits.proofs.Orders.{vertex_cmp_total, vertex_cmp_exact, cmp_is
 use Rattle.graph_store.specs.Least.{IsLeast}
 use Rattle.std.proofs.lemmas.Cmp.{tied_itself}
 use Rattle.edge_lattice.specs.declared.state.State.{State}
-use Rattle.edge_lattice.specs.declared.state.State.TheVariants.{Absent, Live, Deleted}
 use Rattle.grove_edits.specs.declared.edge.Edge.{Edge}
 use Rattle.grove_edits.specs.contracts.edge.EdgeOrd.TheImpl as edge_impl
 use Rattle.grove_edits.specs.Edge.{edge_cmp}
 use Rattle.grove_edits.specs.Graph.{is_same_edge}
 use Rattle.grove_edits.proofs.Orders.{edge_cmp_total, edge_cmp_exact}
 use Rattle.graph_store.specs.Named.{is_present}
-use Rattle.graph_store.specs.Store.{Entries, entry_at, state_in}
+use Rattle.graph_store.specs.Store.{Entries, entry_at}
 use Rattle.graph_store.specs.Counts.{count_at, count_of, uses, weight, ends_at, once, is_same_vertex, IsCounted}
 use Rattle.graph_store.specs.Vertices.{IsCountedFrom, IsCountedNamed, IsVertexOf, IsVertexNamed, AreLeastTwo}
 use Rattle.graph_store.specs.declared.vertices.Named.TheVariants.{Zero, One, More}
@@ -94,13 +93,15 @@ first_is_least n from es up =
   where
     found : (v : Vertex) → lookup (is_at (vertex_cmp v)) (entries_between vertex_impl.ghosts.cmp from Unbounded es) ≡ cond (is_from_start vertex_cmp from v) (count_at es v) None
     found v = found_part vertex_cmp_exact (range_contains vertex_impl.ghosts.cmp from Unbounded) v es ∙ ap (λ b. cond b (count_at es v) None) (from_start from v)
+
     there : (v : Vertex) → Fits vertex_cmp (λ (k : Vertex). k.name) is_counted n (entries_between vertex_impl.ghosts.cmp from Unbounded es) v → IsCountedFrom es n from v
     there v fits =
-      let both = both_from_chosen (is_from_start vertex_cmp from v) (count_at es v) (sym (ap (holds is_counted) (found v)) ∙ fits.1) in
-      (fits.0, count_above (count_at es v) both.1, both.0)
+        let both = both_from_chosen (is_from_start vertex_cmp from v) (count_at es v) (sym (ap (holds is_counted) (found v)) ∙ fits.1) in
+        (fits.0, count_above (count_at es v) both.1, both.0)
+
     back : (v : Vertex) → IsCountedFrom es n from v → Fits vertex_cmp (λ (k : Vertex). k.name) is_counted n (entries_between vertex_impl.ghosts.cmp from Unbounded es) v
     back v named =
-      (named.0, ap (holds is_counted) (found v) ∙ ap (λ b. holds is_counted (cond b (count_at es v) None)) named.2 ∙ counted_above (count_at es v) named.1)
+        (named.0, ap (holds is_counted) (found v) ∙ ap (λ b. holds is_counted (cond b (count_at es v) None)) named.2 ∙ counted_above (count_at es v) named.1)
 
 -- what a loop over the vertices from a bound on finds
 pub found_is_least : (n : Name) (from : Bound Vertex) (es start left : List (Vertex × ℕ)) (r : Option Vertex) → IsStrictlySortedBy vertex_impl.ghosts.cmp (keys_of es)
@@ -168,19 +169,21 @@ end_from_uses [] v up h = absurd (omega arith)
 end_from_uses (x ∷ es) v up h = cases (plus_above (weight x.1 x.0 v) (uses es v) h) (end_from_uses es v up.1) where
   cases : (0 < weight x.1 x.0 v) ⊎ (0 < uses es v) → (0 < uses es v → IsEnd es v) → IsEnd (x ∷ es) v
   cases (inl here) rest =
-    let used = used_by x.1 x.0 v here in
-    (x.0, ap (λ o. holds is_present (cond (is_eq o) (Some x.1) (entry_at es x.0))) (tied_itself edge_cmp_total x.0) ∙ used.0, used.1)
+      let used = used_by x.1 x.0 v here in
+      (x.0, ap (λ o. holds is_present (cond (is_eq o) (Some x.1) (entry_at es x.0))) (tied_itself edge_cmp_total x.0) ∙ used.0, used.1)
   cases (inr there) rest =
-    let found = rest there in
-    (found.0, found_behind edge_cmp_total edge_cmp_exact is_present x found.0 es (found_later edge_cmp_total edge_cmp_exact is_present x.0 found.0 es up.0 found.1) found.1, found.2)
+      let found = rest there in
+      (found.0, found_behind edge_cmp_total edge_cmp_exact is_present x found.0 es (found_later edge_cmp_total edge_cmp_exact is_present x.0 found.0 es up.0 found.1) found.1, found.2)
 
 uses_from_end : (es : Entries) (v : Vertex) (e : Edge) → holds is_present (entry_at es e) ≡ true → (e.source ≡ v) ⊎ (e.target ≡ v) → 0 < uses es v
 uses_from_end [] v e found is = absurd (true≢false (sym found))
 uses_from_end (x ∷ es) v e found is = by_test (is_same_edge e x.0) refl found (uses_from_end es v e) where
   more : (a b : ℕ) → 0 < a → 0 < a + b
   more a b h = omega arith
+
   later : (a b : ℕ) → 0 < b → 0 < a + b
   later a b h = omega arith
+
   by_test : (b : Bool) → is_same_edge e x.0 ≡ b → holds is_present (cond b (Some x.1) (entry_at es e)) ≡ true
       → (holds is_present (entry_at es e) ≡ true → (e.source ≡ v) ⊎ (e.target ≡ v) → 0 < uses es v) → 0 < weight x.1 x.0 v + uses es v
   by_test true same found rest = more (weight x.1 x.0 v) (uses es v) (subst (λ (f : Edge). 0 < weight x.1 f v) (one_edge e x.0 same) (weight_above x.1 e v found is))
@@ -191,8 +194,8 @@ counted_is_vertex es cs up counted n v h = (h.0, cases h.1) where
   cases : (v ≡ root) ⊎ (0 < count_of cs v) → IsVertexOf es v
   cases (inl is) = inl is
   cases (inr above) =
-    let found = end_from_uses es v up (subst (λ m. 0 < m) (counted.exact v) above) in
-    inr (found.0, absent_not_present (entry_at es found.0) found.1, found.2)
+      let found = end_from_uses es v up (subst (λ m. 0 < m) (counted.exact v) above) in
+      inr (found.0, absent_not_present (entry_at es found.0) found.1, found.2)
 
 vertex_is_counted : (es : Entries) (cs : List (Vertex × ℕ)) → IsCounted es cs → (n : Name) (v : Vertex) → IsVertexNamed es n v → IsCountedNamed cs n v
 vertex_is_counted es cs counted n v h = (h.0, cases h.1) where
@@ -225,9 +228,12 @@ one_named es cs n a up counted first none =
 pub two_named : (es : Entries) (cs : List (Vertex × ℕ)) (n : Name) (a b : Vertex) → IsStrictlySortedBy edge_impl.ghosts.cmp (keys_of es) → IsCounted es cs
     → IsLeast vertex_cmp (IsCountedNamed cs n) (Some a) → IsLeast vertex_cmp (IsCountedFrom cs n (Excluded a)) (Some b) → AreLeastTwo (IsVertexNamed es n) (More a b)
 two_named es cs n a b up counted first second =
-    let sorted = in_edge_order (keys_of es) up in
-    (counted_is_vertex es cs sorted counted n a first.0, counted_is_vertex es cs sorted counted n b (second.0.0, inr second.0.1), less_from_test (vertex_cmp a b) second.0.2,
-    λ v named. cases v (least_two cs n a first v (vertex_is_counted es cs counted n v named)))
+    let sorted = in_edge_order (keys_of es) up in (
+      counted_is_vertex es cs sorted counted n a first.0,
+      counted_is_vertex es cs sorted counted n b (second.0.0, inr second.0.1),
+      less_from_test (vertex_cmp a b) second.0.2,
+      λ v named. cases v (least_two cs n a first v (vertex_is_counted es cs counted n v named)),
+    )
   where
     cases : (v : Vertex) → (v ≡ a) ⊎ IsCountedFrom cs n (Excluded a) v → (v ≡ a) ⊎ (is_lt (vertex_cmp v b) ≡ false)
     cases v (inl is) = inl is

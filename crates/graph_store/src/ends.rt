@@ -9,7 +9,10 @@ use edge_lattice::State;
 use grove_edits::{Edge, Vertex};
 
 // Room for the numbers of an edge's ends.
-pub(crate) fn make_room_at_ends(ends: &mut RoomMap<Vertex, u64>, edge: &Edge) -> Result<(), NoMemory>
+pub(crate) fn make_room_at_ends(
+    ends: &mut RoomMap<Vertex, u64>,
+    edge: &Edge,
+) -> Result<(), NoMemory>
     ensures source { OnOk result (IsSome (count_at ends.new.entries.entries edge.now.source)) }
     ensures target { OnOk result (IsSome (count_at ends.new.entries.entries edge.now.target)) }
     ensures unchanged { (v : Vertex) → count_of ends.new.entries.entries v ≡ count_of ends.old.entries.entries v }

@@ -118,6 +118,9 @@ fn vertices_are_found_by_name(rt: HostRuntime) -> Result<(), Fail> {
     assert_eq!(rt; store.vertices_named(seven.name), Named::One(seven));
     raise(&mut store, &Edit::insert(twin)?)?;
     raise(&mut store, &Edit::delete(edge)?)?;
-    assert_eq!(rt; store.vertices_named(seven.name), Named::More(seven, twin.target));
+    assert_eq!(rt;
+        store.vertices_named(seven.name),
+        Named::More(seven, twin.target)
+    );
     Ok(())
 }

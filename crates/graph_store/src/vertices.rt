@@ -22,7 +22,11 @@ pub enum Named {
 }
 
 // The least vertex that has this name and is counted, from the bound on.
-pub(crate) fn first_counted(ends: &RoomMap<Vertex, u64>, name: Name, from: Bound<Vertex>) -> Option<Vertex>
+pub(crate) fn first_counted(
+    ends: &RoomMap<Vertex, u64>,
+    name: Name,
+    from: Bound<Vertex>,
+) -> Option<Vertex>
     ensures { IsLeast vertex_cmp (IsCountedFrom ends.now.entries.entries name from) result }
 {
     for (vertex, count) in ends.entries().range((from, Bound::Unbounded)) {

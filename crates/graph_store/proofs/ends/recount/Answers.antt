@@ -1,4 +1,4 @@
-use Rattle.std.proofs.Common.{sym, ◌∙◌}
+use Rattle.std.proofs.Common.{sym}
 use Rattle.graph_store.proofs.Counts.{source_counted, target_counted, source_fits, target_fits}
 use Rattle.graph_store.proofs.ends.recount.Goals as goal
 
