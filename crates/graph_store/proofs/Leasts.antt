@@ -37,7 +37,7 @@ abbrev pub AreByName : {K : Type 0} → (K → K → Ordering) → (K → Name) 
 AreByName {K} R name_of = (n : Name) (x y : K) → R x y ≡ Less → name_cmp (name_of x) n ≡ Greater → name_of y ≡ n → ⊥
 
 module _ {K X : Type 0} {R : K → K → Ordering} (total : IsTotalOrder R) (exact : (x y : K) → R x y ≡ Equal → x ≡ y) (present : X → Bool) where
-  found_later : (x q : K) (es : List (K × X)) → AllByRecursion (λ k. R x k ≡ Less) (keys_of es) → holds present (lookup (is_at (R q)) es) ≡ true → R x q ≡ Less
+  pub found_later : (x q : K) (es : List (K × X)) → AllByRecursion (λ k. R x k ≡ Less) (keys_of es) → holds present (lookup (is_at (R q)) es) ≡ true → R x q ≡ Less
   found_later x q [] h found = absurd (true≢false (sym found))
   found_later x q (e ∷ es) h found = by_test (is_eq (R q e.0)) refl found (found_later x q es h.1) where
     by_test : (b : Bool) → is_eq (R q e.0) ≡ b → holds present (cond b (Some e.1) (lookup (is_at (R q)) es)) ≡ true
@@ -54,7 +54,7 @@ module _ {K X : Type 0} {R : K → K → Ordering} (total : IsTotalOrder R) (exa
     by_test true at found = inl (exact q x.0 (equal_from_test (R q x.0) at))
     by_test false at found = inr (found_later x.0 q es h found, found)
 
-  found_behind : (x : K × X) (q : K) (es : List (K × X)) → R x.0 q ≡ Less → holds present (lookup (is_at (R q)) es) ≡ true → holds present (lookup (is_at (R q)) (x ∷ es)) ≡ true
+  pub found_behind : (x : K × X) (q : K) (es : List (K × X)) → R x.0 q ≡ Less → holds present (lookup (is_at (R q)) es) ≡ true → holds present (lookup (is_at (R q)) (x ∷ es)) ≡ true
   found_behind x q es lt found =
       let other : is_eq (R q x.0) ≡ false = ap is_eq (total.antisymm q x.0 ∙ ap ordering_reverse lt) in
       ap (λ b. holds present (cond b (Some x.1) (lookup (is_at (R q)) es))) other ∙ found

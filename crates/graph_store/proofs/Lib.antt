@@ -4,3 +4,5 @@ pub mod Listing
 pub mod Raises
 pub mod Leasts
 pub mod Names
+pub mod Counts
+pub mod VertexOrder

@@ -23,17 +23,17 @@ lookup_congr p q h (e ∷ es) = ap (λ b. cond b (Some e.1) (lookup p es)) (h e.
 lookup_alike : {K X : Type 0} {R : K → K → Ordering} (o : IsTotalOrder R) (a b : K) (es : List (K × X)) → R a b ≡ Equal → lookup (is_at (R a)) es ≡ lookup (is_at (R b)) es
 lookup_alike {R = R} o a b es h = lookup_congr (is_at (R a)) (is_at (R b)) (λ k. ap is_eq (o.congr a b k h)) es
 
-none_from_test : {X : Type 0} (found : Option X) → is_some found ≡ false → found ≡ None
+pub none_from_test : {X : Type 0} (found : Option X) → is_some found ≡ false → found ≡ None
 none_from_test None h = refl
 none_from_test (Some x) h = absurd cc
 
 -- where an absent key has got a value, each other key keeps its own
 pub gets_room : {K X : Type 0} {R : K → K → Ordering} (o : IsTotalOrder R) (k : K) (v : X) (m n : BTreeMap K X)
-    → ((q : K) → get R n q ≡ cond (is_at (R k) q) (Some v) (get R m q)) → is_some (get R m k) ≡ false → GetsRoom R v m n
+    → ((q : K) → get R n q ≡ cond (is_at (R k) q) (Some v) (get R m q)) → is_some (get R m k) ≡ false → GetsRoom R k v m n
 gets_room {K} {X} {R} o k v m n changed absent q = by_test (R k q) refl where
-  by_test : (t : Ordering) → R k q ≡ t → (get R n q ≡ get R m q) ⊎ ((get R m q ≡ None) × (get R n q ≡ Some v))
+  by_test : (t : Ordering) → R k q ≡ t → (get R n q ≡ get R m q) ⊎ ((R k q ≡ Equal) × (get R m q ≡ None) × (get R n q ≡ Some v))
   by_test Less e = inl (changed q ∙ ap (λ t. cond (is_eq t) (Some v) (get R m q)) e)
-  by_test Equal e = inr (sym (lookup_alike o k q m.entries e) ∙ none_from_test (get R m k) absent, changed q ∙ ap (λ t. cond (is_eq t) (Some v) (get R m q)) e)
+  by_test Equal e = inr (e, sym (lookup_alike o k q m.entries e) ∙ none_from_test (get R m k) absent, changed q ∙ ap (λ t. cond (is_eq t) (Some v) (get R m q)) e)
   by_test Greater e = inl (changed q ∙ ap (λ t. cond (is_eq t) (Some v) (get R m q)) e)
 
 -- ---- edges
@@ -50,37 +50,37 @@ equal_from_test Greater e = absurd cc
 pub one_edge : (a b : Edge) → is_same_edge a b ≡ true → a ≡ b
 one_edge a b same = edge_cmp_exact a b (equal_from_test (edge_cmp a b) same)
 
-test_is_same_edge : (e k : Edge) → is_at (edge_impl.ghosts.cmp e) k ≡ is_same_edge e k
+pub test_is_same_edge : (e k : Edge) → is_at (edge_impl.ghosts.cmp e) k ≡ is_same_edge e k
 test_is_same_edge e k = ap is_eq (cmp_is_edge_cmp e k)
 
 -- the code's look-up finds the entry of an edge
 pub get_edge : (es : Entries) (e : Edge) → lookup (is_at (edge_impl.ghosts.cmp e)) es ≡ entry_at es e
 get_edge es e = lookup_congr (is_at (edge_impl.ghosts.cmp e)) (is_same_edge e) (test_is_same_edge e) es
 
--- room for other edges keeps the entry of each edge, or gives it the state Absent
-entry_kept : (m n : BTreeMap Edge State) → GetsRoom edge_impl.ghosts.cmp Absent m n → (e : Edge)
-    → (entry_at n.entries e ≡ entry_at m.entries e) ⊎ ((entry_at m.entries e ≡ None) × (entry_at n.entries e ≡ Some Absent))
-entry_kept m n kept e = cases (kept e) where
-  cases : (get edge_impl.ghosts.cmp n e ≡ get edge_impl.ghosts.cmp m e) ⊎ ((get edge_impl.ghosts.cmp m e ≡ None) × (get edge_impl.ghosts.cmp n e ≡ Some Absent))
-      → (entry_at n.entries e ≡ entry_at m.entries e) ⊎ ((entry_at m.entries e ≡ None) × (entry_at n.entries e ≡ Some Absent))
+-- room for an edge keeps the entry of each edge, or gives it the state Absent
+pub entry_kept : (k : Edge) (m n : BTreeMap Edge State) → GetsRoom edge_impl.ghosts.cmp k Absent m n → (e : Edge)
+    → (entry_at n.entries e ≡ entry_at m.entries e) ⊎ ((k ≡ e) × (entry_at m.entries e ≡ None) × (entry_at n.entries e ≡ Some Absent))
+entry_kept k m n kept e = cases (kept e) where
+  cases : (get edge_impl.ghosts.cmp n e ≡ get edge_impl.ghosts.cmp m e) ⊎ ((edge_impl.ghosts.cmp k e ≡ Equal) × (get edge_impl.ghosts.cmp m e ≡ None) × (get edge_impl.ghosts.cmp n e ≡ Some Absent))
+      → (entry_at n.entries e ≡ entry_at m.entries e) ⊎ ((k ≡ e) × (entry_at m.entries e ≡ None) × (entry_at n.entries e ≡ Some Absent))
   cases (inl same) = inl (sym (get_edge n.entries e) ∙ same ∙ get_edge m.entries e)
-  cases (inr made) = inr (sym (get_edge m.entries e) ∙ made.0, sym (get_edge n.entries e) ∙ made.1)
+  cases (inr made) = inr (edge_cmp_exact k e (sym (cmp_is_edge_cmp k e) ∙ made.0), sym (get_edge m.entries e) ∙ made.1, sym (get_edge n.entries e) ∙ made.2)
 
-pub room_kept : (m n : BTreeMap Edge State) → GetsRoom edge_impl.ghosts.cmp Absent m n → KeepsRoom m.entries n.entries
-room_kept m n kept e room = cases (entry_kept m n kept e) where
-  cases : (entry_at n.entries e ≡ entry_at m.entries e) ⊎ ((entry_at m.entries e ≡ None) × (entry_at n.entries e ≡ Some Absent)) → HasRoom n.entries e
+pub room_kept : (k : Edge) (m n : BTreeMap Edge State) → GetsRoom edge_impl.ghosts.cmp k Absent m n → KeepsRoom m.entries n.entries
+room_kept k m n kept e room = cases (entry_kept k m n kept e) where
+  cases : (entry_at n.entries e ≡ entry_at m.entries e) ⊎ ((k ≡ e) × (entry_at m.entries e ≡ None) × (entry_at n.entries e ≡ Some Absent)) → HasRoom n.entries e
   cases (inl same) = ap is_some same ∙ room
-  cases (inr made) = ap is_some made.1
+  cases (inr made) = ap is_some made.2
 
-pub states_kept : (m n : BTreeMap Edge State) → GetsRoom edge_impl.ghosts.cmp Absent m n → IsSame (state_in n.entries) (state_in m.entries)
-states_kept m n kept e = cases (entry_kept m n kept e) where
-  cases : (entry_at n.entries e ≡ entry_at m.entries e) ⊎ ((entry_at m.entries e ≡ None) × (entry_at n.entries e ≡ Some Absent)) → state_in n.entries e ≡ state_in m.entries e
+pub states_kept : (k : Edge) (m n : BTreeMap Edge State) → GetsRoom edge_impl.ghosts.cmp k Absent m n → IsSame (state_in n.entries) (state_in m.entries)
+states_kept k m n kept e = cases (entry_kept k m n kept e) where
+  cases : (entry_at n.entries e ≡ entry_at m.entries e) ⊎ ((k ≡ e) × (entry_at m.entries e ≡ None) × (entry_at n.entries e ≡ Some Absent)) → state_in n.entries e ≡ state_in m.entries e
   cases (inl same) = ap (λ o. unwrap_or o Absent) same
-  cases (inr made) = ap (λ o. unwrap_or o Absent) made.1 ∙ sym (ap (λ o. unwrap_or o Absent) made.0)
+  cases (inr made) = ap (λ o. unwrap_or o Absent) made.2 ∙ sym (ap (λ o. unwrap_or o Absent) made.1)
 
 -- ---- one state set
 
-entry_set : (edge : Edge) (state : State) (es fs : Entries) → HasRoom es edge → fs ≡ set_value (is_at (edge_impl.ghosts.cmp edge)) es state → (e : Edge)
+pub entry_set : (edge : Edge) (state : State) (es fs : Entries) → HasRoom es edge → fs ≡ set_value (is_at (edge_impl.ghosts.cmp edge)) es state → (e : Edge)
     → entry_at fs e ≡ cond (is_same_edge edge e) (Some state) (entry_at es e)
 entry_set edge state es fs room is e =
     let test = is_at (edge_impl.ghosts.cmp edge) in

@@ -14,6 +14,7 @@ use Rattle.edge_lattice.specs.declared.state.State.TheVariants.{Absent, Live, De
 use Rattle.grove_names.specs.declared.name.Name.{Name}
 use Rattle.grove_names.specs.Name.{name_cmp}
 use Rattle.grove_names.proofs.Orders.{name_cmp_total}
+use Rattle.grove_sorts.specs.declared.ctor.Ctor.{Ctor}
 use Rattle.grove_sorts.specs.declared.ctor.Ctor.TheVariants.{Root}
 use Rattle.grove_sorts.specs.declared.position.Position.TheVariants.{Main}
 use Rattle.grove_sorts.specs.Ctor.{ctor_cmp, ctor_number, payload}
@@ -32,7 +33,7 @@ use Rattle.graph_store.proofs.Leasts.{pick, holds, Fits, AreByName, pick_is_leas
 
 -- ---- the least of a name
 
-le_then : (o p : Ordering) → is_le o ≡ true → is_le p ≡ true → is_le (ordering_then o p) ≡ true
+pub le_then : (o p : Ordering) → is_le o ≡ true → is_le p ≡ true → is_le (ordering_then o p) ≡ true
 le_then Less p h k = refl
 le_then Equal p h k = k
 le_then Greater p h k = h
@@ -48,7 +49,10 @@ none_le (x ∷ xs) = refl
 abbrev pub root : Vertex
 root = record { name = record { author = 0; counter = 0 }; ctor = Root }
 
-root_le : (v : Vertex) → is_le (vertex_cmp root v) ≡ true
+pub root_ctor_le : (k : Ctor) → is_le (ctor_cmp Root k) ≡ true
+root_ctor_le k = le_then (nat_cmp 0 (ctor_number k)) (slice_cmp nat_cmp [] (payload k)) (zero_le (ctor_number k)) (none_le (payload k))
+
+pub root_le : (v : Vertex) → is_le (vertex_cmp root v) ≡ true
 root_le v =
     le_then (name_cmp root.name v.name) (ctor_cmp Root v.ctor)
     (le_then (nat_cmp 0 v.name.author) (nat_cmp 0 v.name.counter) (zero_le v.name.author) (zero_le v.name.counter))
@@ -66,7 +70,7 @@ least_edge_le n e named =
 
 -- ---- where the edges of a name begin
 
-less_from_test : (o : Ordering) → is_lt o ≡ true → o ≡ Less
+pub less_from_test : (o : Ordering) → is_lt o ≡ true → o ≡ Less
 less_from_test Less h = refl
 less_from_test Equal h = absurd cc
 less_from_test Greater h = absurd cc
@@ -108,13 +112,13 @@ from_start (Excluded a) e = ap (λ o. is_lt o && true) (cmp_is_edge_cmp a e) ∙
   and_true false = refl
 from_start Unbounded e = refl
 
-absent_not_present : (o : Option State) → holds is_present o ≡ true → unwrap_or o Absent ≢ Absent
+pub absent_not_present : (o : Option State) → holds is_present o ≡ true → unwrap_or o Absent ≢ Absent
 absent_not_present None h a = true≢false (sym h)
 absent_not_present (Some Absent) h a = true≢false (sym h)
 absent_not_present (Some Live) h a = absurd cc
 absent_not_present (Some Deleted) h a = absurd cc
 
-present_from_state : (o : Option State) → unwrap_or o Absent ≢ Absent → holds is_present o ≡ true
+pub present_from_state : (o : Option State) → unwrap_or o Absent ≢ Absent → holds is_present o ≡ true
 present_from_state None h = absurd (h refl)
 present_from_state (Some Absent) h = absurd (h refl)
 present_from_state (Some Live) h = refl

@@ -5,3 +5,5 @@ pub mod Listed
 pub mod Raised
 pub mod Least
 pub mod Named
+pub mod Counts
+pub mod Vertices

@@ -9,30 +9,39 @@ ghost use Rattle.graph_store.specs.Change.{change_from};
 ghost use Rattle.graph_store.specs.Least.{IsLeast};
 ghost use Rattle.graph_store.specs.Listed.{IsEditOf};
 ghost use Rattle.graph_store.specs.Named.{IsNamed};
+ghost use Rattle.graph_store.specs.Vertices.{AreLeastTwo, IsVertexNamed};
 ghost use Rattle.graph_store.specs.Store.{state_in, HasRoom, KeepsRoom, only, with_state, well_formed};
 
 use crate::change::Change;
+use crate::ends::{make_room_at_ends, recount};
 use crate::named::{bound_after, first_named};
 use crate::no_memory::NoMemory;
 use crate::room_map::RoomMap;
+use crate::vertices::{Named, first_counted, first_vertex};
 use edge_lattice::{State, leq};
-use grove_edits::{Edge, Edit, EditKind, EditList};
+use grove_edits::{Edge, Edit, EditKind, EditList, Vertex};
 use grove_names::Name;
 use std::alloc::Global;
 use std::marker::Model;
+use std::ops::Bound;
 
 /// A live graph: the state of each edge. Contracts see its entries, of which those with the state Absent are room.
 #[derive(Debug, Drop)]
 pub struct GraphStore {
     states: RoomMap<Edge, State>,
+    // How many ends of present edges each vertex is.
+    ends: RoomMap<Vertex, u64>,
 }
 
 impl Model for GraphStore {
     ghost use Rattle.graph_store.specs.Store.{Entries};
+    ghost use Rattle.graph_store.specs.Counts.{IsCounted};
 
     ghost Value = { Entries };
 
     ghost view = { λ store. store.states.entries.entries };
+
+    ghost invariant = { λ store. IsCounted store.states.entries.entries store.ends.entries.entries };
 }
 
 impl GraphStore {
@@ -42,6 +51,7 @@ impl GraphStore {
     {
         GraphStore {
             states: RoomMap::new(alloc),
+            ends: RoomMap::new(alloc),
         }
     }
 
@@ -70,7 +80,11 @@ impl GraphStore {
         ensures state { IsSame (state_in self.new) (with_state edge.now old (state_in self.old)) }
         ensures room_stays { KeepsRoom self.old self.new }
     {
+        let before = self.states.get(edge).unwrap_or(State::Absent);
         self.states.set(edge, old);
+        // A vertex is at most both ends of each entry, so its count fits.
+        let _entries = self.states.len();
+        recount(&mut self.ends, edge, before, old);
     }
 
     /// Joins what an edit asks to the graph. Its edge needs room, which an edge that is not Absent has.
@@ -115,11 +129,27 @@ impl GraphStore {
         first_named(&self.states, name, bound_after(name, after))
     }
 
+    /// The least two vertices of the graph with this name. The vertex `0.0 root` is one of each graph.
+    pub fn vertices_named(&self, name: Name) -> Named
+        ensures { AreLeastTwo (IsVertexNamed self.now name) result }
+    {
+        // The edges are in order, each with one state.
+        let _edges = self.states.len();
+        let Some(first) = first_vertex(&self.ends, name) else {
+            return Named::Zero;
+        };
+        match first_counted(&self.ends, name, Bound::Excluded(first)) {
+            None => Named::One(first),
+            Some(second) => Named::More(first, second),
+        }
+    }
+
     fn make_room(&mut self, edge: &Edge) -> Result<(), NoMemory>
         ensures room { OnOk result (HasRoom self.new edge.now) }
         ensures room_stays { KeepsRoom self.old self.new }
         ensures unchanged { IsSame (state_in self.new) (state_in self.old) }
     {
+        make_room_at_ends(&mut self.ends, edge)?;
         self.states.make_room(edge, State::Absent)
     }
 

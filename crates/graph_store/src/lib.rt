@@ -4,11 +4,13 @@
 #![tactic(auto)]
 
 mod change;
+mod ends;
 mod graph_store;
 mod laws;
 mod named;
 mod no_memory;
 mod room_map;
+mod vertices;
 
 pub use change::Change;
 pub use graph_store::GraphStore;
@@ -16,6 +18,7 @@ pub use laws::{
     an_edge_with_a_state_has_room, graphs_of_edits_are_well_formed, raising_makes_the_graph,
 };
 pub use no_memory::NoMemory;
+pub use vertices::Named;
 
 #[cfg(test)]
 mod tests;

@@ -45,7 +45,7 @@ pub(crate) fn first_named(
     None
 }
 
-fn is_present(state: State) -> bool
+pub(crate) fn is_present(state: State) -> bool
     ensures { result ≡ is_present state }
 {
     match state {

@@ -1,7 +1,7 @@
-ghost use Rattle.std.specs.Prelude.{◌≡◌, [], IsSome, OnOk};
-ghost use Rattle.std.specs.BTreeMap.{get, is_at};
+ghost use Rattle.std.specs.Prelude.{◌≡◌, ◌<◌, ◌^◌, [], IsSome, OnOk, length};
+ghost use Rattle.std.specs.BTreeMap.{get, is_at, IsOrdered};
 ghost use Rattle.std.specs.Map.{set_value};
-ghost use Rattle.graph_store.specs.Room.{GetsRoom};
+ghost use Rattle.graph_store.specs.Room.{GetsRoom, GetsEntry};
 
 use crate::no_memory::NoMemory;
 use std::alloc::Global;
@@ -28,6 +28,14 @@ impl<K: Ord + Copy, V: Copy> RoomMap<K, V> {
         &self.entries
     }
 
+    pub(crate) fn len(&self) -> usize
+        ensures len { result ≡ length self.now.entries.entries }
+        ensures small { result < 2 ^ 63 }
+        ensures ordered { IsOrdered K.cmp self.now.entries }
+    {
+        self.entries.len()
+    }
+
     pub(crate) fn get(&self, key: &K) -> Option<V>
         ensures { result ≡ get K.cmp self.now.entries key.now }
     {
@@ -37,7 +45,8 @@ impl<K: Ord + Copy, V: Copy> RoomMap<K, V> {
     // An entry with this value, where the key has none.
     pub(crate) fn make_room(&mut self, key: &K, value: V) -> Result<(), NoMemory>
         ensures room { OnOk result (IsSome (get K.cmp self.new.entries key.now)) }
-        ensures kept { GetsRoom K.cmp value self.old.entries self.new.entries }
+        ensures kept { GetsRoom K.cmp key.now value self.old.entries self.new.entries }
+        ensures entries { GetsEntry K.cmp key.now value self.old.entries self.new.entries }
     {
         if !self.entries.contains_key(key) {
             self.entries.insert(*key, value)?;

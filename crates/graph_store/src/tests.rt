@@ -104,3 +104,23 @@ fn edges_are_found_by_name(rt: HostRuntime) -> Result<(), Fail> {
     }
     Ok(())
 }
+
+#[test]
+fn vertices_are_found_by_name(rt: HostRuntime) -> Result<(), Fail> {
+    let edge = below_root(1, Ctor::Num(7));
+    let twin = below_root(1, Ctor::LitTrue);
+    let mut store = GraphStore::new(rt.alloc());
+    let root = edge.source;
+    let seven = edge.target;
+    assert_eq!(rt; store.vertices_named(root.name), Named::One(root));
+    assert_eq!(rt; store.vertices_named(seven.name), Named::Zero);
+    raise(&mut store, &Edit::insert(edge)?)?;
+    assert_eq!(rt; store.vertices_named(seven.name), Named::One(seven));
+    raise(&mut store, &Edit::insert(twin)?)?;
+    raise(&mut store, &Edit::delete(edge)?)?;
+    assert_eq!(rt;
+        store.vertices_named(seven.name),
+        Named::More(seven, twin.target)
+    );
+    Ok(())
+}
