@@ -1,5 +1,5 @@
 -- The place of an edge in a list in edge order.
-use Rattle.std.proofs.Common.{◌≡◌, ℕ, suc, ◌+◌, ◌<◌, ◌≤◌, true, false, cond, List, [], ◌∷◌, length, drop, get_or, refl, sym, ap, subst, ◌∙◌, arith, add-one, drop-cons}
+use Rattle.std.proofs.Common.{◌≡◌, suc, ◌<◌, ◌≤◌, true, false, cond, List, [], ◌∷◌, length, refl, sym, ap, subst, ◌∙◌, arith}
 use Rattle.std.specs.Prelude.{◌||◌, not, insert, remove}
 use Rattle.std.specs.List.{AllByRecursion}
 use Rattle.std.specs.declared.cmp.Ordering.TheVariants.{Less, Equal, Greater}
@@ -64,9 +64,3 @@ remove-place e (x ∷ xs) order held =
           let rest : holds_edge e xs ≡ true = sym (ap (λ b. b || holds_edge e xs) other) ∙ held in
           ap (λ zs. x ∷ zs) (remove-place e xs order.1 rest) ∙ sym (ap (λ b. cond (not b) (x ∷ without_edge e xs) (without_edge e xs)) other)
     ] refl
-
--- the places from an index on
-pub place-drop : (e x : Edge) (xs : List Edge) (i : ℕ) → i < length xs → x ≡ get_or xs i x → place e (drop i xs) ≡ place_by (edge_cmp e x) (place e (drop (i + 1) xs))
-place-drop e x xs i within is =
-    let split : drop i xs ≡ x ∷ drop (i + 1) xs = rw (add-one, drop-cons xs i x) (ap (λ z. z ∷ drop (suc i) xs) (sym is)) in
-    ap (place e) split
