@@ -1,8 +1,8 @@
 ghost use Rattle.std.specs.Prelude.{◌≡◌, ◌+◌, ◌<◌, ◌≤◌, [], true, false, if◌then◌else◌, count_by, length, OnOk};
 ghost use Rattle.grove_sorts.specs.declared.position.Position.{Position};
 ghost use Rattle.grove_edits.specs.declared.vertex.Vertex.{Vertex};
-ghost use Rattle.walks.specs.Live.{children_of};
-ghost use Rattle.edge_index.specs.Ordered.{with_edge, without_edge, holds_edge};
+ghost use Rattle.walks.specs.Live.{children_of, holds_edge};
+ghost use Rattle.edge_index.specs.Ordered.{with_edge, without_edge};
 ghost use Rattle.edge_index.specs.Lists.{live};
 ghost use Rattle.child_index.specs.Place.{room_at_place, is_from};
 

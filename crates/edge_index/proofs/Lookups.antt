@@ -12,8 +12,8 @@ use Rattle.std.specs.Ordering.{is_eq}
 use Rattle.std.proofs.lemmas.Cmp.{tied_itself}
 use Rattle.grove_edits.specs.declared.edge.Edge.{Edge}
 use Rattle.grove_edits.specs.Graph.{is_same_edge}
-use Rattle.walks.specs.Live.{IsInEdgeOrder}
-use Rattle.edge_index.specs.Ordered.{holds_edge, with_edge, without_edge}
+use Rattle.walks.specs.Live.{IsInEdgeOrder, holds_edge}
+use Rattle.edge_index.specs.Ordered.{with_edge, without_edge}
 use Rattle.edge_index.specs.Lists.{Kept, Lists, edges_of, room_of, room_at, edges_at, live, with_key, IsByKey}
 use Rattle.edge_index.proofs.Ordered.{equal_from_test, same_edge_exact, holds-with_edge, holds-with_edges, holds-filter, in_order-with_edge, in_order-with_edges, in_order-filter, same_lists}
 

@@ -10,8 +10,8 @@ use Rattle.grove_edits.specs.declared.edge.Edge.{Edge}
 use Rattle.grove_edits.specs.Edge.{edge_cmp}
 use Rattle.grove_edits.specs.Graph.{is_same_edge}
 use Rattle.grove_edits.proofs.Orders.{edge_cmp_total, edge_cmp_exact}
-use Rattle.walks.specs.Live.{IsInEdgeOrder}
-use Rattle.edge_index.specs.Ordered.{holds_edge, put_before, with_edge, without_edge}
+use Rattle.walks.specs.Live.{IsInEdgeOrder, holds_edge}
+use Rattle.edge_index.specs.Ordered.{put_before, with_edge, without_edge}
 use Rattle.edge_index.specs.Lists.{with_edges}
 
 pub equal_from_test : (o : Ordering) → is_eq o ≡ true → o ≡ Equal

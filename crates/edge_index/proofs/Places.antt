@@ -7,8 +7,8 @@ use Rattle.grove_edits.specs.declared.edge.Edge.{Edge}
 use Rattle.grove_edits.specs.Edge.{edge_cmp}
 use Rattle.grove_edits.specs.Graph.{is_same_edge}
 use Rattle.grove_edits.proofs.Orders.{edge_cmp_exact}
-use Rattle.walks.specs.Live.{IsInEdgeOrder}
-use Rattle.edge_index.specs.Ordered.{holds_edge, put_before, with_edge, without_edge, place, place_by}
+use Rattle.walks.specs.Live.{IsInEdgeOrder, holds_edge}
+use Rattle.edge_index.specs.Ordered.{put_before, with_edge, without_edge, place, place_by}
 use Rattle.edge_index.proofs.Ordered.{same_edge_itself, not_held_before, without_none, not_same_from_greater, all_after}
 
 pub place_le : (e : Edge) (xs : List Edge) → place e xs ≤ length xs

@@ -6,7 +6,8 @@ use Rattle.std.specs.Map.{lookup, keys_of, values_of}
 use Rattle.std.specs.BTreeMap.{is_at}
 use Rattle.std.specs.List.Sorted.{IsStrictlySortedBy}
 use Rattle.grove_edits.specs.declared.edge.Edge.{Edge}
-use Rattle.edge_index.specs.Ordered.{holds_edge, with_edge}
+use Rattle.edge_index.specs.Ordered.{with_edge}
+use Rattle.walks.specs.Live.{holds_edge}
 
 -- a list of edges, and for how many further ones it has room
 pub record Kept : Type 0 where

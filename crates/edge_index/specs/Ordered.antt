@@ -1,15 +1,10 @@
 -- Lists of edges in edge order, with one more edge, and with one fewer.
-use Rattle.std.specs.Prelude.{ℕ, suc, Bool, not, List, [], ◌∷◌, filter}
-use Rattle.std.specs.List.{list_any}
+use Rattle.std.specs.Prelude.{ℕ, suc, not, List, [], ◌∷◌, filter}
 use Rattle.std.specs.declared.cmp.Ordering.{Ordering}
 use Rattle.std.specs.declared.cmp.Ordering.TheVariants.{Less, Equal, Greater}
 use Rattle.grove_edits.specs.declared.edge.Edge.{Edge}
 use Rattle.grove_edits.specs.Edge.{edge_cmp}
 use Rattle.grove_edits.specs.Graph.{is_same_edge}
-
--- the edge stands in the list
-abbrev pub holds_edge : Edge → List Edge → Bool
-holds_edge e xs = list_any (λ x. is_same_edge x e) xs
 
 abbrev pub put_before : Ordering → Edge → Edge → List Edge → List Edge → List Edge
 put_before Less e x xs put = e ∷ x ∷ xs

@@ -2,7 +2,8 @@ ghost use Rattle.std.specs.Prelude.{◌≡◌, ◌+◌, ◌<◌, ◌≤◌, [], 
 ghost use Rattle.std.specs.Map.{lookup};
 ghost use Rattle.std.specs.BTreeMap.{is_at};
 ghost use Rattle.std.specs.Ordering.{is_eq};
-ghost use Rattle.edge_index.specs.Ordered.{with_edge, without_edge, holds_edge};
+ghost use Rattle.edge_index.specs.Ordered.{with_edge, without_edge};
+ghost use Rattle.walks.specs.Live.{holds_edge};
 ghost use Rattle.edge_index.specs.Lists.{live, room_at, with_key, edges_at, used_keys, IsByKey};
 
 use crate::no_memory::NoMemory;

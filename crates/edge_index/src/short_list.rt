@@ -1,7 +1,7 @@
 ghost use Rattle.std.specs.Prelude.{◌≡◌, ◌+◌, ◌<◌, ◌≤◌, ◌==◌, [], true, false, length, OnOk, OnErr};
-ghost use Rattle.walks.specs.Live.{IsInEdgeOrder};
+ghost use Rattle.walks.specs.Live.{IsInEdgeOrder, holds_edge};
 ghost use Rattle.grove_edits.specs.Edge.{edge_cmp};
-ghost use Rattle.edge_index.specs.Ordered.{place, with_edge, without_edge, holds_edge};
+ghost use Rattle.edge_index.specs.Ordered.{place, with_edge, without_edge};
 
 use crate::no_memory::NoMemory;
 use grove_edits::Edge;

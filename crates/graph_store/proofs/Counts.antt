@@ -14,7 +14,8 @@ use Rattle.grove_edits.specs.contracts.edge.EdgeOrd.TheImpl as edge_impl
 use Rattle.grove_edits.specs.Vertex.{vertex_cmp}
 use Rattle.grove_edits.specs.Graph.{is_same_edge}
 use Rattle.grove_edits.proofs.Orders.{vertex_cmp_total, vertex_cmp_exact, cmp_is_vertex_cmp}
-use Rattle.graph_store.specs.Counts.{is_same_vertex, once, ends_at, weight, uses, count_at, count_of, KeepsCounts, IsCounted}
+use Rattle.walks.specs.Live.{is_same_vertex}
+use Rattle.graph_store.specs.Counts.{once, ends_at, weight, uses, count_at, count_of, KeepsCounts, IsCounted}
 use Rattle.graph_store.specs.Room.{GetsRoom, GetsEntry}
 use Rattle.graph_store.specs.Named.{is_present}
 use Rattle.graph_store.specs.Store.{Entries, entry_at, state_in, HasRoom}

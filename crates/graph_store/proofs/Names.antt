@@ -25,6 +25,7 @@ use Rattle.grove_edits.specs.contracts.edge.EdgeOrd.TheImpl as edge_impl
 use Rattle.grove_edits.specs.Vertex.{vertex_cmp}
 use Rattle.grove_edits.specs.Edge.{edge_cmp}
 use Rattle.grove_edits.proofs.Orders.{edge_cmp_total, edge_cmp_exact, cmp_is_edge_cmp}
+use Rattle.walks.specs.Whole.{root}
 use Rattle.graph_store.specs.Least.{IsLeast}
 use Rattle.graph_store.specs.Named.{is_present, IsNamedFrom}
 use Rattle.graph_store.specs.Store.{Entries, entry_at}
@@ -45,9 +46,6 @@ zero_le (suc n) = ap (λ b. is_le (cond b Less (cond (0 == suc n) Equal Greater)
 none_le : (xs : List ℕ) → is_le (slice_cmp nat_cmp [] xs) ≡ true
 none_le [] = refl
 none_le (x ∷ xs) = refl
-
-abbrev pub root : Vertex
-root = record { name = record { author = 0; counter = 0 }; ctor = Root }
 
 pub root_ctor_le : (k : Ctor) → is_le (ctor_cmp Root k) ≡ true
 root_ctor_le k = le_then (nat_cmp 0 (ctor_number k)) (slice_cmp nat_cmp [] (payload k)) (zero_le (ctor_number k)) (none_le (payload k))

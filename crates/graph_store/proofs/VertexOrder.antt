@@ -28,12 +28,14 @@ use Rattle.grove_edits.specs.Edge.{edge_cmp}
 use Rattle.grove_edits.specs.Graph.{is_same_edge}
 use Rattle.grove_edits.proofs.Orders.{edge_cmp_total, edge_cmp_exact}
 use Rattle.graph_store.specs.Named.{is_present}
-use Rattle.graph_store.specs.Store.{Entries, entry_at}
-use Rattle.graph_store.specs.Counts.{count_at, count_of, uses, weight, ends_at, once, is_same_vertex, IsCounted}
-use Rattle.graph_store.specs.Vertices.{IsCountedFrom, IsCountedNamed, IsVertexOf, IsVertexNamed, AreLeastTwo}
+use Rattle.graph_store.specs.Store.{Entries, entry_at, state_in}
+use Rattle.graph_store.specs.Counts.{count_at, count_of, uses, weight, ends_at, once, IsCounted}
+use Rattle.walks.specs.Live.{is_same_vertex}
+use Rattle.walks.specs.Whole.{root, IsVertexOf}
+use Rattle.graph_store.specs.Vertices.{IsCountedFrom, IsCountedNamed, IsVertexNamed, AreLeastTwo}
 use Rattle.graph_store.specs.declared.vertices.Named.TheVariants.{Zero, One, More}
 use Rattle.graph_store.proofs.Joins.{in_edge_order}
-use Rattle.graph_store.proofs.Names.{root, root_le, root_ctor_le, le_then, absent_not_present, present_from_state, less_from_test}
+use Rattle.graph_store.proofs.Names.{root_le, root_ctor_le, le_then, absent_not_present, present_from_state, less_from_test}
 use Rattle.graph_store.proofs.Counts.{one_vertex, same_vertex_laws}
 use Rattle.graph_store.proofs.Leasts.{pick, holds, found_later, found_behind, Fits, AreByName, pick_is_least, least_same, sorted_part, found_part}
 
@@ -191,7 +193,7 @@ uses_from_end (x ∷ es) v e found is = by_test (is_same_edge e x.0) refl found 
 
 counted_is_vertex : (es : Entries) (cs : List (Vertex × ℕ)) → IsStrictlySortedBy edge_cmp (keys_of es) → IsCounted es cs → (n : Name) (v : Vertex) → IsCountedNamed cs n v → IsVertexNamed es n v
 counted_is_vertex es cs up counted n v h = (h.0, cases h.1) where
-  cases : (v ≡ root) ⊎ (0 < count_of cs v) → IsVertexOf es v
+  cases : (v ≡ root) ⊎ (0 < count_of cs v) → IsVertexOf (state_in es) v
   cases (inl is) = inl is
   cases (inr above) =
       let found = end_from_uses es v up (subst (λ m. 0 < m) (counted.exact v) above) in
@@ -199,7 +201,7 @@ counted_is_vertex es cs up counted n v h = (h.0, cases h.1) where
 
 vertex_is_counted : (es : Entries) (cs : List (Vertex × ℕ)) → IsCounted es cs → (n : Name) (v : Vertex) → IsVertexNamed es n v → IsCountedNamed cs n v
 vertex_is_counted es cs counted n v h = (h.0, cases h.1) where
-  cases : IsVertexOf es v → (v ≡ root) ⊎ (0 < count_of cs v)
+  cases : IsVertexOf (state_in es) v → (v ≡ root) ⊎ (0 < count_of cs v)
   cases (inl is) = inl is
   cases (inr end) = inr (subst (λ m. 0 < m) (sym (counted.exact v)) (uses_from_end es v end.0 (present_from_state (entry_at es end.0) end.1) end.2))
 

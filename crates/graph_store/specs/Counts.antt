@@ -1,16 +1,12 @@
 -- How often the present edges of a store name each vertex.
 use Rattle.std.specs.Prelude.{◌≡◌, ℕ, ◌+◌, Bool, true, false, List, [], ◌∷◌, Option, unwrap_or, IsSome, if◌then◌else◌}
-use Rattle.std.specs.Ordering.{is_eq}
 use Rattle.std.specs.Map.{lookup}
 use Rattle.edge_lattice.specs.declared.state.State.{State}
 use Rattle.grove_edits.specs.declared.vertex.Vertex.{Vertex}
 use Rattle.grove_edits.specs.declared.edge.Edge.{Edge}
-use Rattle.grove_edits.specs.Vertex.{vertex_cmp}
+use Rattle.walks.specs.Live.{is_same_vertex}
 use Rattle.graph_store.specs.Named.{is_present}
 use Rattle.graph_store.specs.Store.{Entries, HasRoom}
-
-abbrev pub is_same_vertex : Vertex → Vertex → Bool
-is_same_vertex a b = is_eq (vertex_cmp a b)
 
 abbrev pub once : Bool → ℕ
 once true = 1

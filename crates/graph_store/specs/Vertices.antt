@@ -1,30 +1,20 @@
 -- The vertices of a graph.
-use Rattle.std.specs.Prelude.{◌≡◌, ◌≢◌, ◌<◌, ◌⊎◌, ℕ, List, IsTrue, false}
+use Rattle.std.specs.Prelude.{◌≡◌, ◌<◌, ◌⊎◌, ℕ, List, IsTrue, false}
 use Rattle.std.specs.Ordering.{is_lt}
 use Rattle.std.specs.declared.cmp.Ordering.TheVariants.{Less}
 use Rattle.std.specs.declared.ops.Bound.{Bound}
 use Rattle.std.specs.BTreeMap.Range.{is_from_start}
-use Rattle.edge_lattice.specs.declared.state.State.TheVariants.{Absent}
 use Rattle.grove_names.specs.declared.name.Name.{Name}
-use Rattle.grove_sorts.specs.declared.ctor.Ctor.TheVariants.{Root}
 use Rattle.grove_edits.specs.declared.vertex.Vertex.{Vertex}
-use Rattle.grove_edits.specs.declared.edge.Edge.{Edge}
 use Rattle.grove_edits.specs.Vertex.{vertex_cmp}
 use Rattle.graph_store.specs.declared.vertices.Named.{Named}
 use Rattle.graph_store.specs.declared.vertices.Named.TheVariants.{Zero, One, More}
+use Rattle.walks.specs.Whole.{root, IsVertexOf}
 use Rattle.graph_store.specs.Counts.{count_of}
 use Rattle.graph_store.specs.Store.{Entries, state_in}
 
--- the vertex `0.0 root`
-abbrev pub root : Vertex
-root = record { name = record { author = 0; counter = 0 }; ctor = Root }
-
--- the vertex `0.0 root`, or an end of an edge that is not Absent
-abbrev pub IsVertexOf : Entries → Vertex → Type 0
-IsVertexOf entries v = (v ≡ root) ⊎ ((e : Edge) × (state_in entries e ≢ Absent) × ((e.source ≡ v) ⊎ (e.target ≡ v)))
-
 abbrev pub IsVertexNamed : Entries → Name → Vertex → Type 0
-IsVertexNamed entries name v = (v.name ≡ name) × IsVertexOf entries v
+IsVertexNamed entries name v = (v.name ≡ name) × IsVertexOf (state_in entries) v
 
 -- the least two that have a property, or all where there are fewer
 abbrev pub AreLeastTwo : (Vertex → Type 0) → Named → Type 0

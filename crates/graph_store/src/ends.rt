@@ -1,6 +1,7 @@
 ghost use Rattle.std.specs.Prelude.{◌≡◌, ◌+◌, ◌<◌, ◌≤◌, ◌^◌, IsSome, OnOk};
 ghost use Rattle.grove_edits.specs.declared.vertex.Vertex.{Vertex};
-ghost use Rattle.graph_store.specs.Counts.{count_at, count_of, is_same_vertex, once, weight, KeepsCounts};
+ghost use Rattle.walks.specs.Live.{is_same_vertex};
+ghost use Rattle.graph_store.specs.Counts.{count_at, count_of, once, weight, KeepsCounts};
 
 use crate::named::is_present;
 use crate::no_memory::NoMemory;

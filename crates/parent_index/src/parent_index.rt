@@ -1,7 +1,7 @@
 ghost use Rattle.std.specs.Prelude.{◌≡◌, ◌+◌, ◌<◌, ◌≤◌, [], true, false, if◌then◌else◌, count_by, length, OnOk};
 ghost use Rattle.grove_edits.specs.declared.vertex.Vertex.{Vertex};
-ghost use Rattle.walks.specs.Live.{parents_of, is_same_vertex};
-ghost use Rattle.edge_index.specs.Ordered.{with_edge, without_edge, holds_edge};
+ghost use Rattle.walks.specs.Live.{parents_of, is_same_vertex, holds_edge};
+ghost use Rattle.edge_index.specs.Ordered.{with_edge, without_edge};
 ghost use Rattle.edge_index.specs.Lists.{live};
 ghost use Rattle.parent_index.specs.Target.{room_at_vertex};
 

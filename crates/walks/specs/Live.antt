@@ -1,6 +1,6 @@
 -- The live edges of a graph in edge order, and those of one vertex.
 use Rattle.std.specs.Prelude.{◌≡◌, Bool, false, ◌||◌, ◌&&◌, List, [], ◌∷◌, if◌then◌else◌, filter}
-use Rattle.std.specs.List.{AllByRecursion}
+use Rattle.std.specs.List.{AllByRecursion, list_any}
 use Rattle.std.specs.declared.cmp.Ordering.TheVariants.{Less}
 use Rattle.std.specs.Ordering.{is_eq}
 use Rattle.grove_sorts.specs.declared.position.Position.{Position}
@@ -9,11 +9,16 @@ use Rattle.grove_edits.specs.declared.vertex.Vertex.{Vertex}
 use Rattle.grove_edits.specs.declared.edge.Edge.{Edge}
 use Rattle.grove_edits.specs.Vertex.{vertex_cmp}
 use Rattle.grove_edits.specs.Edge.{edge_cmp}
+use Rattle.grove_edits.specs.Graph.{is_same_edge}
 
 -- each edge comes before all later ones, so none stands twice
 abbrev pub IsInEdgeOrder : List Edge → Type 0
 IsInEdgeOrder [] = Unit {0}
 IsInEdgeOrder (e ∷ es) = AllByRecursion (λ later. edge_cmp e later ≡ Less) es × IsInEdgeOrder es
+
+-- the edge stands in the list
+abbrev pub holds_edge : Edge → List Edge → Bool
+holds_edge e xs = list_any (λ x. is_same_edge x e) xs
 
 abbrev pub is_same_vertex : Vertex → Vertex → Bool
 is_same_vertex a b = is_eq (vertex_cmp a b)

@@ -1,7 +1,8 @@
 use Rattle.std.proofs.Common.{◌≡◌, sym, ap, ◌∙◌, arith}
 use Rattle.std.specs.Prelude.{◌||◌, is_some}
 use Rattle.grove_edits.specs.Graph.{is_same_edge}
-use Rattle.edge_index.specs.Ordered.{holds_edge, with_edge}
+use Rattle.edge_index.specs.Ordered.{with_edge}
+use Rattle.walks.specs.Live.{holds_edge}
 use Rattle.edge_index.specs.Lists.{room_of, room_at, live}
 use Rattle.edge_index.proofs.Lookups.{held_at, with_edge_is, by_key-after, live-after}
 use Rattle.edge_index.proofs.edge_index.EdgeIndex.add.Goals as goal

@@ -2,7 +2,8 @@ use Rattle.std.proofs.Common.{◌+◌, cond, sym, ap, ◌∙◌}
 use Rattle.std.specs.Prelude.{◌&&◌, not, is_some}
 use Rattle.std.specs.Ordering.{is_eq}
 use Rattle.grove_edits.specs.Graph.{is_same_edge}
-use Rattle.edge_index.specs.Ordered.{holds_edge, without_edge}
+use Rattle.edge_index.specs.Ordered.{without_edge}
+use Rattle.walks.specs.Live.{holds_edge}
 use Rattle.edge_index.specs.Lists.{room_at, live}
 use Rattle.edge_index.proofs.Lookups.{held_at, none_held, without_edge_is, by_key-after, live-after, room_more}
 use Rattle.edge_index.proofs.edge_index.EdgeIndex.remove.Goals as goal

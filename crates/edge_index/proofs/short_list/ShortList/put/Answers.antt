@@ -1,7 +1,7 @@
 use Rattle.std.proofs.Common.{◌≡◌, ◌-◌, true, false, cond, sym, ap, subst, ◌∙◌, arith}
 use Rattle.std.specs.Prelude.{insert, vec_len, vec_capacity, is_ok}
-use Rattle.walks.specs.Live.{IsInEdgeOrder}
-use Rattle.edge_index.specs.Ordered.{place, with_edge, holds_edge}
+use Rattle.walks.specs.Live.{IsInEdgeOrder, holds_edge}
+use Rattle.edge_index.specs.Ordered.{place, with_edge}
 use Rattle.edge_index.specs.Lists.{Kept}
 use Rattle.edge_index.proofs.Ordered.{in_order-with_edge}
 use Rattle.edge_index.proofs.Places.{place_le, insert-place}

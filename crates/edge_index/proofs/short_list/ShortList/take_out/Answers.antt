@@ -1,8 +1,8 @@
 use Rattle.std.proofs.Common.{◌≡◌, true, length, sym, ap, subst, ◌∙◌, arith}
 use Rattle.std.specs.Prelude.{remove, not}
 use Rattle.grove_edits.specs.Graph.{is_same_edge}
-use Rattle.walks.specs.Live.{IsInEdgeOrder}
-use Rattle.edge_index.specs.Ordered.{place, holds_edge, without_edge}
+use Rattle.walks.specs.Live.{IsInEdgeOrder, holds_edge}
+use Rattle.edge_index.specs.Ordered.{place, without_edge}
 use Rattle.edge_index.specs.Lists.{Kept}
 use Rattle.edge_index.proofs.Ordered.{in_order-filter}
 use Rattle.edge_index.proofs.Places.{place_lt, remove-place}
