@@ -1,5 +1,5 @@
 -- The class of a vertex, which says how it heads a tree.
-use Rattle.std.specs.Prelude.{Bool, true, false, ◌&&◌, not, List, [], ◌∷◌, Option, None, Some, if◌then◌else◌}
+use Rattle.std.specs.Prelude.{Bool, true, false, ◌&&◌, not, List, [], ◌∷◌, Option, None, Some, if◌then◌else◌, filter}
 use Rattle.std.specs.Ordering.{is_gt}
 use Rattle.grove_edits.specs.declared.vertex.Vertex.{Vertex}
 use Rattle.grove_edits.specs.declared.edge.Edge.{Edge}
@@ -30,3 +30,14 @@ class_by (e ∷ f ∷ _) is_root = Multi
 -- the class of a vertex of the graph with these live edges
 abbrev pub class : List Edge → Vertex → Class
 class edges v = class_by (parents_of v edges) (is_cycle_root edges v)
+
+abbrev pub is_same_class : Class → Class → Bool
+is_same_class NoParent NoParent = true
+is_same_class Multi Multi = true
+is_same_class Cycle Cycle = true
+is_same_class Inner Inner = true
+is_same_class _ _ = false
+
+-- those of some vertices that are of a class
+abbrev pub of_class : Class → List Edge → List Vertex → List Vertex
+of_class c edges vertices = filter (λ v. is_same_class (class edges v) c) vertices
