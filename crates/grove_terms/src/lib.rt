@@ -1,0 +1,19 @@
+//! Trees of a graph, as lists of nodes in preorder, and groves of them. The definitions say which trees stand for the vertices of a
+//! graph, and which grove is the graph's. What decomposes graphs, and marks and prints groves, stands on this crate.
+#![tactic(auto)]
+
+mod edge_list;
+mod listing;
+mod grove;
+mod no_memory;
+mod node;
+mod tree;
+mod tree_list;
+
+pub use edge_list::EdgeList;
+pub use listing::edges;
+pub use grove::Grove;
+pub use no_memory::NoMemory;
+pub use node::{Node, What};
+pub use tree::Tree;
+pub use tree_list::TreeList;
