@@ -14,12 +14,12 @@ abbrev without : Vertex → List Vertex → List Vertex
 without v [] = []
 without v (x ∷ xs) = cond (is_same_vertex x v) xs (x ∷ without v xs)
 
-abbrev AllStandIn : List Vertex → List Vertex → Type 0
+abbrev pub AllStandIn : List Vertex → List Vertex → Type 0
 AllStandIn ys [] = Unit {0}
 AllStandIn ys (x ∷ xs) = (stands_in x ys ≡ true) × AllStandIn ys xs
 
 -- no vertex stands among those after it
-abbrev AreApart : List Vertex → Type 0
+abbrev pub AreApart : List Vertex → Type 0
 AreApart [] = Unit {0}
 AreApart (x ∷ xs) = (stands_in x xs ≡ false) × AreApart xs
 
@@ -71,15 +71,15 @@ length-AllStandIn ys (x ∷ xs) apart all =
 
 -- ---- a walk that has passed more vertices than there are edges has ended
 
-abbrev target_list : List Edge → List Vertex
+abbrev pub target_list : List Edge → List Vertex
 target_list edges = map (λ e. e.target) edges
 
-length-target_list : (edges : List Edge) → length (target_list edges) ≡ length edges
+pub length-target_list : (edges : List Edge) → length (target_list edges) ≡ length edges
 length-target_list [] = refl
 length-target_list (e ∷ es) = ap suc (length-target_list es)
 
 -- a vertex below another is the target of an edge
-target-from_above : (edges : List Edge) (v x : Vertex) → above edges v ≡ Some x → stands_in v (target_list edges) ≡ true
+pub target-from_above : (edges : List Edge) (v x : Vertex) → above edges v ≡ Some x → stands_in v (target_list edges) ≡ true
 target-from_above [] v x h = absurd cc
 target-from_above (e ∷ es) v x h =
     elim (is_same_vertex e.target v) as (λ b. only_source (cond b (e ∷ parents_of v es) (parents_of v es)) ≡ Some x → (b || stands_in v (target_list es)) ≡ true) [

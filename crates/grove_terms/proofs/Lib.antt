@@ -1,0 +1,3 @@
+pub mod InLive
+pub mod Descents
+pub mod Forests
