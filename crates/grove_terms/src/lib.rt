@@ -5,6 +5,7 @@
 mod edge_list;
 mod listing;
 mod grove;
+mod laws;
 mod no_memory;
 mod node;
 mod tree;
@@ -13,6 +14,7 @@ mod tree_list;
 pub use edge_list::EdgeList;
 pub use listing::edges;
 pub use grove::Grove;
+pub use laws::every_graph_has_one_grove;
 pub use no_memory::NoMemory;
 pub use node::{Node, What};
 pub use tree::Tree;
