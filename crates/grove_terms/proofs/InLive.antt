@@ -53,7 +53,7 @@ both_true false b h = absurd cc
 
 -- ---- the parents of the target
 
-stands_among : (e : Edge) (live : List Edge) → holds_edge e live ≡ true → holds_edge e (parents_of e.target live) ≡ true
+pub stands_among : (e : Edge) (live : List Edge) → holds_edge e live ≡ true → holds_edge e (parents_of e.target live) ≡ true
 stands_among e [] h = absurd cc
 stands_among e (x ∷ xs) h =
     elim (is_same_edge x e) as (λ b. is_same_edge x e ≡ b → (b || holds_edge e xs) ≡ true → holds_edge e (cond (is_same_vertex x.target e.target) (x ∷ parents_of e.target xs) (parents_of e.target xs)) ≡ true) [

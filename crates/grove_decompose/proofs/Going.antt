@@ -1,0 +1,84 @@
+-- The nodes that are listed and those that tasks are for are together those of the tree.
+use Rattle.std.proofs.Common.{◌≡◌, ℕ, ◌+◌, ◌<◌, ◌≤◌, List, [], ◌∷◌, ◌++◌, length, refl, sym, ap, subst, ◌∙◌, append-nil, append_assoc, arith, length-append}
+use Rattle.grove_sorts.specs.Ctor.{positions}
+use Rattle.grove_edits.specs.declared.vertex.Vertex.{Vertex}
+use Rattle.grove_edits.specs.declared.edge.Edge.{Edge}
+use Rattle.std.specs.List.{AllByRecursion}
+use Rattle.walks.specs.declared.class.Class.TheVariants.{Inner}
+use Rattle.walks.specs.Class.{class}
+use Rattle.grove_terms.specs.declared.node.Node.{Node}
+use Rattle.grove_terms.specs.Nodes.{head_node, nodes_under, tree_nodes}
+use Rattle.grove_terms.specs.Grove.{IsTreeOf, AreTreesOf}
+use Rattle.grove_terms.proofs.Forests.{forest_of, root_stands}
+use Rattle.grove_decompose.specs.declared.task.Task.{Task}
+use Rattle.grove_decompose.specs.Tasks.{todo, task_nodes, place_tasks, step_nodes, step_tasks, IsSound}
+use Rattle.grove_decompose.proofs.Places.{todo-append, under-tasks}
+use Rattle.grove_decompose.proofs.Taking.{taken, AreSound, sound_append, sound_before, sound_behind, all_still_sound, all_places_sound, rest_is_sound, weight_of, weight, weight-append, lighter}
+
+pub record IsListing (live : List Edge) (root : Vertex) (tree : List Node) (tasks : List Task) : Type 0 where
+  pub nodes : tree ++ todo live tasks ≡ tree_nodes root (forest_of live root)
+  pub sound : AreSound live root (length tree) tasks
+
+pub begun : (live : List Edge) (root : Vertex) (tree : List Node) (tasks : List Task) → (class live root ≡ Inner → ⊥) → tree ≡ head_node root ∷ [] → tasks ≡ place_tasks root 1 (positions root.ctor)
+    → IsListing live root tree tasks
+begun live root tree tasks outer is left = record {
+  nodes = ap (λ xs. xs ++ todo live tasks) is ∙ ap (λ ts. head_node root ∷ todo live ts) left ∙ ap (λ xs. head_node root ∷ xs) (sym (under-tasks live root 1 (root_stands live root outer)));
+  sound = subst (AreSound live root (length tree)) (sym left) (all_places_sound live root root (length tree) 1 (record { steps = 0; leads = refl }) (root_stands live root outer) (omega (arith, ap (λ (xs : List Node). length xs) is)));
+}
+
+pub task_is_sound : (live : List Edge) (root : Vertex) (tree : List Node) (tasks rest : List Task) (task : Task) → IsListing live root tree tasks → tasks ≡ rest ++ task ∷ [] → IsSound live root (length tree) task
+task_is_sound live root tree tasks rest task listing is = (sound_behind live root (length tree) rest (task ∷ []) (subst (AreSound live root (length tree)) is listing.sound)).0
+
+pub gone_on : (live : List Edge) (root : Vertex) (tree more : List Node) (tasks rest left : List Task) (task : Task) → IsListing live root tree tasks → tasks ≡ rest ++ task ∷ []
+    → more ≡ tree ++ step_nodes live task → left ≡ rest ++ step_tasks live task → IsListing live root more left
+gone_on live root tree more tasks rest left task listing is listed leaves =
+    let sound = task_is_sound live root tree tasks rest task listing is in
+    let before : AreSound live root (length tree) rest = sound_before live root (length tree) rest (task ∷ []) (subst (AreSound live root (length tree)) is listing.sound) in
+    let long : length more ≡ length tree + length (step_nodes live task) = ap (λ (xs : List Node). length xs) listed ∙ length-append tree (step_nodes live task) in
+    let behind : AreSound live root (length more) (step_tasks live task) = subst (λ n. AreSound live root n (step_tasks live task)) (sym long) (rest_is_sound live root (length tree) task sound) in
+    record {
+      nodes =
+        ap (λ xs. xs ++ todo live left) listed ∙ ap (λ ts. (tree ++ step_nodes live task) ++ todo live ts) leaves
+        ∙ ap (λ xs. (tree ++ step_nodes live task) ++ xs) (todo-append live rest (step_tasks live task))
+        ∙ append_assoc tree (step_nodes live task) (todo live (step_tasks live task) ++ todo live rest)
+        ∙ ap (λ xs. tree ++ xs) (sym (append_assoc (step_nodes live task) (todo live (step_tasks live task)) (todo live rest)) ∙ ap (λ xs. xs ++ todo live rest) (taken live root (length tree) task sound)
+        ∙ sym (todo-append live rest (task ∷ [])) ∙ ap (todo live) (sym is))
+        ∙ listing.nodes;
+      sound = subst (AreSound live root (length more)) (sym leaves) (sound_append live root (length more) rest (step_tasks live task) (all_still_sound live root (length tree) (length more) rest (omega arith) before) behind);
+    }
+
+pub less_left : (live : List Edge) (root : Vertex) (tree : List Node) (tasks rest left : List Task) (task : Task) → IsListing live root tree tasks → tasks ≡ rest ++ task ∷ [] → left ≡ rest ++ step_tasks live task
+    → weight live left < weight live tasks
+less_left live root tree tasks rest left task listing is leaves =
+    let after = ap (weight live) leaves ∙ weight-append live rest (step_tasks live task) in
+    let before = ap (weight live) is ∙ weight-append live rest (task ∷ []) in
+    let less = lighter live root (length tree) task (task_is_sound live root tree tasks rest task listing is) in
+    omega (arith, after, before, less)
+
+pub listed_whole : (live : List Edge) (root : Vertex) (tree : List Node) (tasks : List Task) → (class live root ≡ Inner → ⊥) → IsListing live root tree tasks → tasks ≡ [] → IsTreeOf live root tree
+listed_whole live root tree tasks outer listing none = record {
+  forest = forest_of live root;
+  stands = root_stands live root outer;
+  listed = sym (append-nil tree) ∙ ap (λ ts. tree ++ todo live ts) (sym none) ∙ listing.nodes;
+}
+
+-- ---- tree after tree
+
+-- the trees so far, with those of the roots that are left, are those of all
+pub record AreSoFar (live : List Edge) (all left : List Vertex) (made : List (List Node)) : Type 0 where
+  pub trees : (more : List (List Node)) → AreTreesOf live left more → AreTreesOf live all (made ++ more)
+  pub outer : AllByRecursion (λ v. class live v ≡ Inner → ⊥) left
+
+pub one_more_tree : (live : List Edge) (all left rest : List Vertex) (v : Vertex) (trees new : List (List Node)) (tree : List Node) → AreSoFar live all left trees → left ≡ v ∷ rest → IsTreeOf live v tree
+    → new ≡ trees ++ tree ∷ [] → AreSoFar live all rest new
+one_more_tree live all left rest v trees new tree so_far is of_v pushed =
+    let at : AreSoFar live all (v ∷ rest) trees = subst (λ (vs : List Vertex). AreSoFar live all vs trees) is so_far in
+    record {
+      trees = λ more of_rest. subst (AreTreesOf live all) (sym (append_assoc trees (tree ∷ []) more) ∙ ap (λ ts. ts ++ more) (sym pushed)) (at.trees (tree ∷ more) (of_v, of_rest));
+      outer = at.outer.1;
+    }
+
+pub all_trees : (live : List Edge) (all left : List Vertex) (trees : List (List Node)) → AreSoFar live all left trees → left ≡ [] → AreTreesOf live all trees
+all_trees live all left trees so_far none =
+    let at : AreSoFar live all [] trees = subst (λ (vs : List Vertex). AreSoFar live all vs trees) none so_far in
+    subst (AreTreesOf live all) (append-nil trees) (at.trees [] tt)
