@@ -1,0 +1,9 @@
+-- Bytes that begin with earlier ones.
+use Rattle.std.proofs.Common.{◌≡◌, ℕ, List, ◌++◌, ap, ◌∙◌, append_assoc}
+use Rattle.grove_printer.specs.Print.{Extends}
+
+pub extends_further : (a b c : List ℕ) → Extends a b → Extends b c → Extends a c
+extends_further a b c x y = (x.0 ++ y.0, y.1 ∙ ap (λ bytes. bytes ++ y.0) x.1 ∙ append_assoc a x.0 y.0)
+
+pub extends_appended : (a b c more : List ℕ) → Extends a b → c ≡ b ++ more → Extends a c
+extends_appended a b c more x is = extends_further a b c x (more, is)

@@ -1,0 +1,10 @@
+//! The print text of groves: a line for each node of each tree. What shows programs stands on this crate.
+#![tactic(auto)]
+
+mod columns;
+mod no_memory;
+mod print;
+
+pub use no_memory::NoMemory;
+pub use print::print_grove;
+
