@@ -3,16 +3,18 @@
 #![tactic(auto)]
 
 mod edge_list;
-mod listing;
 mod grove;
+mod laws;
+mod listing;
 mod no_memory;
 mod node;
 mod tree;
 mod tree_list;
 
 pub use edge_list::EdgeList;
-pub use listing::edges;
 pub use grove::Grove;
+pub use laws::{recomposing_gives_the_edges, trees_are_well_sorted};
+pub use listing::edges;
 pub use no_memory::NoMemory;
 pub use node::{Node, What};
 pub use tree::Tree;

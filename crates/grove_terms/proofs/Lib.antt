@@ -1,0 +1,3 @@
+pub mod Table
+pub mod WellSorted
+pub mod Recomposed
