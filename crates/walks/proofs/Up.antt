@@ -21,7 +21,7 @@ abbrev pub up : List Edge → ℕ → Option Vertex → Option Vertex
 up edges zero o = o
 up edges (suc n) o = next_above edges (up edges n o)
 
-up-shift : (edges : List Edge) (o : Option Vertex) (n : ℕ) → up edges n (next_above edges o) ≡ up edges (suc n) o
+pub up-shift : (edges : List Edge) (o : Option Vertex) (n : ℕ) → up edges n (next_above edges o) ≡ up edges (suc n) o
 up-shift edges o zero = refl
 up-shift edges o (suc n) = ap (next_above edges) (up-shift edges o n)
 
