@@ -22,7 +22,7 @@ use Rattle.grove_terms.proofs.Table.{Rises, positions_rise, one_position}
 
 -- ---- the live edges of a graph of edits
 
-held_first : (e : Edge) (es : List Edge) → holds_edge e (e ∷ es) ≡ true
+pub held_first : (e : Edge) (es : List Edge) → holds_edge e (e ∷ es) ≡ true
 held_first e es = or_left (is_same_edge e e) (holds_edge e es) (same_edge_laws.refl e)
 
 held_later : (e x : Edge) (es : List Edge) → holds_edge e es ≡ true → holds_edge e (x ∷ es) ≡ true

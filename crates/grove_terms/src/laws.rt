@@ -1,10 +1,14 @@
-ghost use Rattle.std.specs.Prelude.{◌≡◌, List};
+ghost use Rattle.std.specs.Prelude.{◌≡◌, ◌≢◌, List, count_by};
+ghost use Rattle.edge_lattice.specs.declared.state.State.TheVariants.{Live};
 ghost use Rattle.grove_edits.specs.declared.edge.Edge.{Edge};
 ghost use Rattle.grove_edits.specs.declared.edit.Edit.{Edit};
 ghost use Rattle.grove_edits.specs.declared.vertex.Vertex.{Vertex};
-ghost use Rattle.grove_edits.specs.Graph.{graph};
-ghost use Rattle.walks.specs.Whole.{AreLive};
+ghost use Rattle.grove_edits.specs.Graph.{graph, is_same_edge};
+ghost use Rattle.walks.specs.Whole.{AreLive, IsVertexOf};
+ghost use Rattle.grove_terms.specs.declared.grove.Grove.{Grove};
 ghost use Rattle.grove_terms.specs.Forest.{Forest, StandsUnder, IsWellSorted, all_edges, recomposed};
+ghost use Rattle.grove_terms.specs.Nodes.{is_headed_by};
+ghost use Rattle.grove_terms.specs.Grove.{IsGrove, nodes_in, edges_in};
 
 /// Law: in what stands under a vertex of a graph of edits, each edge is well formed and leads from the vertex that it stands under,
 /// and the children stand in the order of the table.
@@ -16,4 +20,18 @@ pub fn trees_are_well_sorted()
 /// Law: the edges that are read off the places of what stands under a vertex are the edges that were put there.
 pub fn recomposing_gives_the_edges()
     ensures { (v : Vertex) (forest : Forest) → IsWellSorted v forest → recomposed v forest ≡ all_edges forest }
+{}
+
+/// Law: in the grove of a graph of edits each vertex of the graph heads one tree or stands in one, and nowhere else.
+pub fn each_vertex_heads_one_tree()
+    ensures { (edits : List Edit) (grove : Grove) (v : Vertex)
+        → IsGrove (graph edits) grove → IsVertexOf (graph edits) v → count_by (is_headed_by v) (nodes_in grove) ≡ 1 }
+{}
+
+/// Law: in the grove of a graph of edits each live edge stands at one place, and no other edge stands at any.
+pub fn each_live_edge_stands_once()
+    ensures live { (edits : List Edit) (grove : Grove) (e : Edge)
+        → IsGrove (graph edits) grove → graph edits e ≡ Live → count_by (is_same_edge e) (edges_in grove) ≡ 1 }
+    ensures no_other { (edits : List Edit) (grove : Grove) (e : Edge)
+        → IsGrove (graph edits) grove → graph edits e ≢ Live → count_by (is_same_edge e) (edges_in grove) ≡ 0 }
 {}

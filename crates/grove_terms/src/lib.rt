@@ -13,7 +13,10 @@ mod tree_list;
 
 pub use edge_list::EdgeList;
 pub use grove::Grove;
-pub use laws::{recomposing_gives_the_edges, trees_are_well_sorted};
+pub use laws::{
+    each_live_edge_stands_once, each_vertex_heads_one_tree, recomposing_gives_the_edges,
+    trees_are_well_sorted,
+};
 pub use listing::edges;
 pub use no_memory::NoMemory;
 pub use node::{Node, What};
