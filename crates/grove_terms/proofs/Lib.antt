@@ -6,3 +6,4 @@ pub mod Weights
 pub mod EdgesUnder
 pub mod Heads
 pub mod EdgePlaces
+pub mod OneList

@@ -55,7 +55,8 @@ none_listed (tree e below rest) depth p is = by_test (is_same_position e.positio
   by_test true is later = absurd (omega arith)
   by_test false is later = later is
 
-child_once : (v : VertexOf) (e : Edge) (others : List Edge) → IsChildOf v e others → occurs e.position (positions v.ctor) ≡ 1
+-- the position of a child stands once among those of the vertex
+pub child_once : (v : VertexOf) (e : Edge) (others : List Edge) → IsChildOf v e others → occurs e.position (positions v.ctor) ≡ 1
 child_once v e others is = ap (λ (u : VertexOf). occurs e.position (positions u.ctor)) (sym is.source) ∙ occurs_once e is.well_formed
 
 -- each child stands at one position of the vertex

@@ -7,7 +7,7 @@ ghost use Rattle.grove_edits.specs.Graph.{graph, is_same_edge};
 ghost use Rattle.walks.specs.Whole.{AreLive, IsVertexOf};
 ghost use Rattle.grove_terms.specs.declared.grove.Grove.{Grove};
 ghost use Rattle.grove_terms.specs.Forest.{Forest, StandsUnder, IsWellSorted, all_edges, recomposed};
-ghost use Rattle.grove_terms.specs.Nodes.{is_headed_by};
+ghost use Rattle.grove_terms.specs.Nodes.{is_headed_by, tree_nodes};
 ghost use Rattle.grove_terms.specs.Grove.{IsGrove, nodes_in, edges_in};
 
 /// Law: in what stands under a vertex of a graph of edits, each edge is well formed and leads from the vertex that it stands under,
@@ -34,4 +34,10 @@ pub fn each_live_edge_stands_once()
         → IsGrove (graph edits) grove → graph edits e ≡ Live → count_by (is_same_edge e) (edges_in grove) ≡ 1 }
     ensures no_other { (edits : List Edit) (grove : Grove) (e : Edge)
         → IsGrove (graph edits) grove → graph edits e ≢ Live → count_by (is_same_edge e) (edges_in grove) ≡ 0 }
+{}
+
+/// Law: a list of nodes is that of one tree.
+pub fn a_list_is_one_tree()
+    ensures { (v w : Vertex) (f g : Forest)
+        → IsWellSorted v f → IsWellSorted w g → tree_nodes v f ≡ tree_nodes w g → (v ≡ w) × (f ≡ g) }
 {}

@@ -14,8 +14,8 @@ mod tree_list;
 pub use edge_list::EdgeList;
 pub use grove::Grove;
 pub use laws::{
-    each_live_edge_stands_once, each_vertex_heads_one_tree, recomposing_gives_the_edges,
-    trees_are_well_sorted,
+    a_list_is_one_tree, each_live_edge_stands_once, each_vertex_heads_one_tree,
+    recomposing_gives_the_edges, trees_are_well_sorted,
 };
 pub use listing::edges;
 pub use no_memory::NoMemory;
