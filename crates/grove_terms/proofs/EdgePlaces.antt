@@ -1,5 +1,5 @@
 -- How often an edge stands at the places of trees: as often as it is live, at each node that is its source.
-use Rattle.std.proofs.Common.{◌≡◌, ◌≢◌, ℕ, zero, suc, ◌+◌, ◌*◌, Bool, true, false, cond, ◌||◌, List, [], ◌∷◌, ◌++◌, count_by, Option, Some, None, refl, sym, ap, subst, ◌∙◌, inl, inr, arith}
+use Rattle.std.proofs.Common.{◌≡◌, ◌≢◌, ℕ, ◌+◌, ◌*◌, Bool, true, false, cond, ◌||◌, List, [], ◌∷◌, ◌++◌, count_by, Option, Some, None, refl, ap, subst, ◌∙◌, inl, inr, arith}
 use Rattle.std.specs.List.{AllByRecursion}
 use Rattle.std.specs.declared.cmp.Ordering.TheVariants.{Less}
 use Rattle.std.specs.Ordering.{is_eq}
@@ -11,11 +11,10 @@ use Rattle.grove_edits.specs.Edge.{IsWellFormed, edge_cmp}
 use Rattle.grove_edits.specs.Graph.{graph, is_same_edge}
 use Rattle.grove_edits.proofs.Orders.{one_edge, same_edge_laws}
 use Rattle.walks.specs.Live.{is_same_vertex, IsInEdgeOrder, holds_edge}
-use Rattle.walks.specs.Whole.{IsVertexOf, AreLive}
 use Rattle.grove_terms.specs.declared.grove.Grove.{Grove}
 use Rattle.grove_terms.specs.declared.node.Node.{Node}
 use Rattle.grove_terms.specs.Forest.{Forest, none, multi_ref, cycle_ref, tree, child_edges, edges_under, AreChildren}
-use Rattle.grove_terms.specs.Nodes.{node_edges, edge_before, tree_nodes}
+use Rattle.grove_terms.specs.Nodes.{node_edges, edge_before}
 use Rattle.grove_terms.specs.Grove.{IsTreeOf, AreTreesOf, IsGrove, trees_nodes, nodes_in, trees_edges, edges_in}
 use Rattle.grove_terms.proofs.Totals.{once, total, count_is_total, total-append}
 use Rattle.grove_terms.proofs.EdgesUnder.{edges_of, total-edges_under}

@@ -1,10 +1,10 @@
 -- How often a vertex is a node of trees: once where the vertex that heads the tree stands on its chain.
-use Rattle.std.proofs.Common.{◌≡◌, ℕ, ◌+◌, ◌*◌, Bool, true, false, cond, ◌&&◌, ◌||◌, not, List, [], ◌∷◌, ◌++◌, filter, count_by, Option, Some, None, refl, sym, ap, subst, ◌∙◌, inl, inr, arith}
+use Rattle.std.proofs.Common.{◌≡◌, ℕ, ◌+◌, Bool, true, false, cond, ◌&&◌, ◌||◌, not, List, [], ◌∷◌, ◌++◌, filter, count_by, refl, sym, ap, subst, ◌∙◌, inl, inr, arith}
 use Rattle.std.specs.List.{AllByRecursion}
 use Rattle.std.specs.declared.cmp.Ordering.TheVariants.{Less}
 use Rattle.std.specs.Ordering.{is_eq}
-use Rattle.std.proofs.lemmas.Bool.{or_left, or_right}
-use Rattle.edge_lattice.specs.declared.state.State.TheVariants.{Absent, Live}
+use Rattle.std.proofs.lemmas.Bool.{or_right}
+use Rattle.edge_lattice.specs.declared.state.State.TheVariants.{Absent}
 use Rattle.grove_edits.specs.declared.vertex.Vertex.{Vertex as VertexOf}
 use Rattle.grove_edits.specs.declared.edge.Edge.{Edge}
 use Rattle.grove_edits.specs.declared.edit.Edit.{Edit}
@@ -15,14 +15,13 @@ use Rattle.walks.specs.declared.class.Class.{Class}
 use Rattle.walks.specs.declared.class.Class.TheVariants.{NoParent, Multi, Cycle, Inner}
 use Rattle.walks.specs.Live.{is_same_vertex, stands_in, parents_of, holds_edge}
 use Rattle.walks.specs.Class.{class, is_same_class, of_class}
-use Rattle.walks.specs.Whole.{IsVertexOf, IsInVertexOrder, AreVertices, AreLive}
+use Rattle.walks.specs.Whole.{IsVertexOf, IsInVertexOrder, AreLive}
 use Rattle.walks.proofs.Vertices.{same_vertex_exact, same_vertex_laws}
 use Rattle.walks.proofs.Chains.{IsChain, chain_top, has_chain, chain_apart, is_inner, not_inner_from_test, heads_on_chain}
 use Rattle.grove_terms.specs.declared.grove.Grove.{Grove}
 use Rattle.grove_terms.specs.declared.node.Node.{Node}
-use Rattle.grove_terms.specs.declared.node.What.TheVariants.{Vertex}
-use Rattle.grove_terms.specs.Forest.{Forest, none, multi_ref, cycle_ref, tree, child_edges, edges_under, AreChildren, StandsUnder}
-use Rattle.grove_terms.specs.Nodes.{is_vertex_node, is_headed_by, tree_nodes}
+use Rattle.grove_terms.specs.Forest.{Forest, none, multi_ref, cycle_ref, tree, child_edges, edges_under, AreChildren}
+use Rattle.grove_terms.specs.Nodes.{is_vertex_node, is_headed_by}
 use Rattle.grove_terms.specs.Grove.{IsTreeOf, AreTreesOf, IsGrove, trees_nodes, nodes_in}
 use Rattle.grove_terms.proofs.Totals.{once, total, count_is_total, total-append, total_alike, total_nothing, total_both, total_swapped}
 use Rattle.grove_terms.proofs.EdgesUnder.{edges_of, total-edges_under}

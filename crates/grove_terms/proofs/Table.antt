@@ -1,17 +1,17 @@
 -- The positions of a constructor, each of which stands once in the table, and the tests of positions.
-use Rattle.std.proofs.Common.{◌≡◌, ℕ, zero, suc, ◌+◌, ◌<◌, ◌≤◌, Bool, true, false, cond, ◌&&◌, eqb, List, [], ◌∷◌, Option, Some, None, is_some, is_none, refl, sym, ap, subst, ◌∙◌, arith, lit≤}
+use Rattle.std.proofs.Common.{◌≡◌, ℕ, suc, ◌+◌, ◌<◌, ◌≤◌, Bool, true, false, cond, eqb, List, [], ◌∷◌, Some, None, is_some, is_none, refl, sym, ap, ◌∙◌, arith, lit≤}
 use Rattle.std.proofs.lemmas.Bool.{eqb-true, eq-eqb, true≢false}
 use Rattle.std.specs.Cmp.{IsEquivalence, eq_by_cmp_equiv}
 use Rattle.grove_sorts.specs.declared.ctor.Ctor.{Ctor}
 use Rattle.grove_sorts.specs.declared.ctor.Ctor.TheVariants.{Root, Lam, Ap, Plus, Choose, Pair, Fst, Snd, TArrow, TProd}
 use Rattle.grove_sorts.specs.declared.position.Position.{Position}
 use Rattle.grove_sorts.specs.declared.sort.Sort.{Sort}
-use Rattle.grove_sorts.specs.Ctor.{positions, sort_in, sort_at}
+use Rattle.grove_sorts.specs.Ctor.{positions, sort_in}
 use Rattle.grove_sorts.specs.Position.{position_number, position_cmp}
 use Rattle.grove_sorts.proofs.Orders.{position_cmp_total, position_cmp_exact, position_same}
 use Rattle.grove_edits.specs.declared.edge.Edge.{Edge}
 use Rattle.grove_edits.specs.declared.edge.EdgeFault.TheVariants.{BadVertex, NoPosition, WrongSort}
-use Rattle.grove_edits.specs.Edge.{IsWellFormed, edge_fault, has_position, has_good_vertices, has_sort}
+use Rattle.grove_edits.specs.Edge.{IsWellFormed, has_position, has_good_vertices, has_sort}
 use Rattle.grove_edits.proofs.Orders.{equal_from_test}
 use Rattle.walks.specs.Live.{is_same_position}
 

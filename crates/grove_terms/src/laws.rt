@@ -22,7 +22,8 @@ pub fn recomposing_gives_the_edges()
     ensures { (v : Vertex) (forest : Forest) → IsWellSorted v forest → recomposed v forest ≡ all_edges forest }
 {}
 
-/// Law: in the grove of a graph of edits each vertex of the graph heads one tree or stands in one, and nowhere else.
+/// Law: in the grove of a graph of edits each vertex of the graph is one node, which heads a tree or stands in one. Other nodes only
+/// refer to it.
 pub fn each_vertex_heads_one_tree()
     ensures { (edits : List Edit) (grove : Grove) (v : Vertex)
         → IsGrove (graph edits) grove → IsVertexOf (graph edits) v → count_by (is_headed_by v) (nodes_in grove) ≡ 1 }

@@ -1,6 +1,6 @@
 -- The vertices from a vertex up to the first one that heads a tree.
-use Rattle.std.proofs.Common.{◌≡◌, ℕ, zero, suc, ◌+◌, ◌<◌, Bool, true, false, List, [], ◌∷◌, length, refl, sym, ap, subst, ◌∙◌, arith}
-use Rattle.std.specs.Prelude.{◌||◌, ◌&&◌, not, Option, None, Some}
+use Rattle.std.proofs.Common.{◌≡◌, ℕ, zero, suc, ◌<◌, Bool, true, false, List, [], ◌∷◌, length, refl, sym, ap, subst, ◌∙◌, arith}
+use Rattle.std.specs.Prelude.{◌||◌, ◌&&◌, not, Some}
 use Rattle.grove_edits.specs.declared.vertex.Vertex.{Vertex}
 use Rattle.grove_edits.specs.declared.edge.Edge.{Edge}
 use Rattle.walks.specs.declared.class.Class.{Class}
@@ -8,10 +8,10 @@ use Rattle.walks.specs.declared.class.Class.TheVariants.{NoParent, Multi, Cycle,
 use Rattle.walks.specs.Live.{is_same_vertex, stands_in, parents_of}
 use Rattle.walks.specs.Walk.{only_source, above}
 use Rattle.walks.specs.Class.{class_by, class, is_cycle_root, is_same_class}
-use Rattle.walks.proofs.Vertices.{same_vertex_exact, same_vertex_itself}
-use Rattle.walks.proofs.Up.{up, up-shift, next_above}
+use Rattle.walks.proofs.Vertices.{same_vertex_exact}
+use Rattle.walks.proofs.Up.{up, up-shift}
 use Rattle.walks.proofs.Returns.{some_same}
-use Rattle.walks.proofs.Tops.{HasTop, has_top}
+use Rattle.walks.proofs.Tops.{has_top}
 
 -- From the first vertex each is below the next one by its only parent edge and heads no tree, and the last one heads one.
 abbrev pub IsChain : List Edge → Vertex → List Vertex → Type 0

@@ -1,5 +1,5 @@
 -- Tests of vertices tell whether they are one.
-use Rattle.std.proofs.Common.{◌≡◌, true, refl, ap}
+use Rattle.std.proofs.Common.{◌≡◌, true, ap}
 use Rattle.std.specs.declared.cmp.Ordering.TheVariants.{Equal}
 use Rattle.std.specs.Ordering.{is_eq}
 use Rattle.std.specs.Cmp.{IsEquivalence, eq_by_cmp_equiv}
