@@ -8,7 +8,6 @@ use Rattle.edge_lattice.specs.declared.state.State.{State}
 use Rattle.edge_lattice.specs.declared.state.State.TheVariants.{Absent}
 use Rattle.grove_edits.specs.declared.edge.Edge.{Edge}
 use Rattle.grove_edits.specs.contracts.edge.EdgeOrd.TheImpl as edge_impl
-use Rattle.grove_edits.specs.Edge.{edge_cmp}
 use Rattle.grove_edits.specs.Graph.{is_same_edge, IsSame}
 use Rattle.grove_edits.proofs.Orders.{edge_cmp_exact, cmp_is_edge_cmp, same_edge_laws}
 use Rattle.graph_store.specs.Room.{GetsRoom}
