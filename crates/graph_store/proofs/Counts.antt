@@ -1,6 +1,5 @@
 -- Numbers kept for vertices, and how often the edges of a store name them.
 use Rattle.std.proofs.Common.{◌≡◌, ℕ, suc, ◌+◌, ◌*◌, ◌<◌, ◌≤◌, Bool, true, false, cond, List, [], ◌∷◌, Option, Some, None, Ordering, Less, Equal, Greater, is_eq, is_some, IsSome, unwrap_or, true≢false, length, refl, sym, ap, subst, ◌∙◌, inl, inr, ◌⊎◌, arith}
-use Rattle.std.specs.Cmp.{IsEquivalence, eq_by_cmp_equiv}
 use Rattle.std.specs.Map.{lookup, set_value}
 use Rattle.std.specs.Ordering.{match_ordering}
 use Rattle.std.specs.BTreeMap.{is_at, BTreeMap, get, insert_entry}
@@ -13,18 +12,16 @@ use Rattle.grove_edits.specs.contracts.vertex.VertexOrd.TheImpl as vertex_impl
 use Rattle.grove_edits.specs.contracts.edge.EdgeOrd.TheImpl as edge_impl
 use Rattle.grove_edits.specs.Vertex.{vertex_cmp}
 use Rattle.grove_edits.specs.Graph.{is_same_edge}
-use Rattle.grove_edits.proofs.Orders.{vertex_cmp_total, vertex_cmp_exact, cmp_is_vertex_cmp}
+use Rattle.grove_edits.proofs.Orders.{vertex_cmp_exact, cmp_is_vertex_cmp, one_edge, equal_from_test}
+use Rattle.walks.proofs.Vertices.{same_vertex_laws}
 use Rattle.walks.specs.Live.{is_same_vertex}
 use Rattle.graph_store.specs.Counts.{once, ends_at, weight, uses, count_at, count_of, KeepsCounts, IsCounted}
 use Rattle.graph_store.specs.Room.{GetsRoom, GetsEntry}
 use Rattle.graph_store.specs.Named.{is_present}
 use Rattle.graph_store.specs.Store.{Entries, entry_at, state_in, HasRoom}
-use Rattle.graph_store.proofs.Lookups.{lookup_congr, one_edge, test_is_same_edge, equal_from_test, entry_kept, entry_set}
+use Rattle.graph_store.proofs.Lookups.{lookup_congr, test_is_same_edge, entry_kept, entry_set}
 
 -- ---- one number set
-
-pub same_vertex_laws : IsEquivalence is_same_vertex
-same_vertex_laws = eq_by_cmp_equiv vertex_cmp_total
 
 pub one_vertex : (a b : Vertex) → is_same_vertex a b ≡ true → a ≡ b
 one_vertex a b same = vertex_cmp_exact a b (equal_from_test (vertex_cmp a b) same)

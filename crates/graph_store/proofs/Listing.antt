@@ -15,7 +15,7 @@ use Rattle.grove_edits.specs.Edit.{edit_edge, edit_kind}
 use Rattle.grove_edits.specs.Graph.{graph, state_of, is_same_edge, IsSame, Ascends, IsCanonical}
 use Rattle.graph_store.specs.Store.{Entries, state_in, only, well_formed}
 use Rattle.graph_store.specs.Listed.{IsEditOf, Lists}
-use Rattle.graph_store.proofs.Lookups.{one_edge}
+use Rattle.grove_edits.proofs.Orders.{one_edge}
 use Rattle.graph_store.proofs.Joins.{joined, joined-state_in, in_edge_order}
 
 -- an edge before all entries is before all that they list

@@ -1,6 +1,6 @@
 -- What a change of the code's map makes of the entries of a store.
 use Rattle.std.proofs.Common.{◌≡◌, Bool, true, false, cond, List, [], ◌∷◌, Option, Some, None, Ordering, Less, Equal, Greater, is_eq, is_some, IsSome, unwrap_or, refl, sym, ap, ◌∙◌, inl, inr, ◌⊎◌, BTreeMap}
-use Rattle.std.specs.Cmp.{IsTotalOrder, IsEquivalence, eq_by_cmp_equiv}
+use Rattle.std.specs.Cmp.{IsTotalOrder}
 use Rattle.std.specs.Map.{lookup, set_value}
 use Rattle.std.specs.BTreeMap.{is_at, get}
 use Rattle.std.proofs.lemmas.Map.{lookup-set_value}
@@ -8,9 +8,8 @@ use Rattle.edge_lattice.specs.declared.state.State.{State}
 use Rattle.edge_lattice.specs.declared.state.State.TheVariants.{Absent}
 use Rattle.grove_edits.specs.declared.edge.Edge.{Edge}
 use Rattle.grove_edits.specs.contracts.edge.EdgeOrd.TheImpl as edge_impl
-use Rattle.grove_edits.specs.Edge.{edge_cmp}
 use Rattle.grove_edits.specs.Graph.{is_same_edge, IsSame}
-use Rattle.grove_edits.proofs.Orders.{edge_cmp_total, edge_cmp_exact, cmp_is_edge_cmp}
+use Rattle.grove_edits.proofs.Orders.{edge_cmp_exact, cmp_is_edge_cmp, same_edge_laws}
 use Rattle.graph_store.specs.Room.{GetsRoom}
 use Rattle.graph_store.specs.Store.{Entries, entry_at, state_in, HasRoom, KeepsRoom, with_state}
 
@@ -37,18 +36,6 @@ gets_room {K} {X} {R} o k v m n changed absent q = by_test (R k q) refl where
   by_test Greater e = inl (changed q ∙ ap (λ t. cond (is_eq t) (Some v) (get R m q)) e)
 
 -- ---- edges
-
-pub same_edge_laws : IsEquivalence is_same_edge
-same_edge_laws = eq_by_cmp_equiv edge_cmp_total
-
-pub equal_from_test : (o : Ordering) → is_eq o ≡ true → o ≡ Equal
-equal_from_test Less e = absurd cc
-equal_from_test Equal e = refl
-equal_from_test Greater e = absurd cc
-
--- edges that the test finds the same are one
-pub one_edge : (a b : Edge) → is_same_edge a b ≡ true → a ≡ b
-one_edge a b same = edge_cmp_exact a b (equal_from_test (edge_cmp a b) same)
 
 pub test_is_same_edge : (e k : Edge) → is_at (edge_impl.ghosts.cmp e) k ≡ is_same_edge e k
 test_is_same_edge e k = ap is_eq (cmp_is_edge_cmp e k)

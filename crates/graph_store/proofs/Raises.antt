@@ -1,5 +1,5 @@
 -- Graphs of edits that a store raised, and of edges that are not well formed.
-use Rattle.std.proofs.Common.{◌≡◌, ◌≢◌, Bool, true, false, cond, List, [], ◌∷◌, ◌++◌, Option, Some, None, is_some, is_none, unwrap_or, true≢false, refl, sym, ap, ◌∙◌}
+use Rattle.std.proofs.Common.{◌≡◌, ◌≢◌, Bool, true, false, cond, List, [], ◌∷◌, ◌++◌, Option, Some, None, is_some, is_none, unwrap_or, refl, sym, ap, ◌∙◌}
 use Rattle.edge_lattice.specs.declared.state.State.{State}
 use Rattle.edge_lattice.specs.declared.state.State.TheVariants.{Absent}
 use Rattle.edge_lattice.specs.State.{state_join}
@@ -7,12 +7,10 @@ use Rattle.edge_lattice.proofs.States.{state_join_assoc, Absent-state_join}
 use Rattle.grove_edits.specs.declared.edge.Edge.{Edge}
 use Rattle.grove_edits.specs.declared.edit.Edit.{Edit}
 use Rattle.grove_edits.specs.Edge.{edge_fault}
-use Rattle.grove_edits.specs.Edit.{edit_edge, edit_kind}
-use Rattle.grove_edits.specs.Graph.{graph, graph_join, state_of, is_same_edge, IsSame, IsCanonical}
-use Rattle.grove_edits.proofs.Graphs.{graph-append}
+use Rattle.grove_edits.specs.Graph.{graph, graph_join, IsSame, IsCanonical}
+use Rattle.grove_edits.proofs.Graphs.{graph-append, unnamed}
 use Rattle.graph_store.specs.Raised.{IsRaised, AreRaised}
 use Rattle.graph_store.specs.Store.{Entries, entry_at, state_in, HasRoom, well_formed}
-use Rattle.graph_store.proofs.Lookups.{one_edge}
 use Rattle.graph_store.proofs.Joins.{join_nothing}
 
 pub has_room_from_state : (es : Entries) (e : Edge) → state_in es e ≢ Absent → HasRoom es e
@@ -34,14 +32,6 @@ raised_all (edit ∷ edits) before after steps e =
 
 pub raised_from_empty : (edits : List Edit) (after : Entries) → AreRaised edits [] after → IsSame (state_in after) (graph edits)
 raised_from_empty edits after steps e = raised_all edits [] after steps e ∙ Absent-state_join (graph edits e)
-
--- an edge that is not well formed is named by no edit
-unnamed : (edits : List Edit) (e : Edge) → is_none (edge_fault e) ≡ false → graph edits e ≡ Absent
-unnamed [] e ill = refl
-unnamed (edit ∷ edits) e ill = by_test (is_same_edge (edit_edge edit) e) refl (unnamed edits e ill) where
-  by_test : (b : Bool) → is_same_edge (edit_edge edit) e ≡ b → graph edits e ≡ Absent → state_join (cond b (state_of (edit_kind edit)) Absent) (graph edits e) ≡ Absent
-  by_test true same rest = absurd (true≢false (sym edit.well_formed ∙ ap (λ (f : Edge). is_none (edge_fault f)) (one_edge (edit_edge edit) e same) ∙ ill))
-  by_test false other rest = Absent-state_join (graph edits e) ∙ rest
 
 pub graph_is_well_formed : (edits : List Edit) → IsSame (well_formed (graph edits)) (graph edits)
 graph_is_well_formed edits e = by_test (is_none (edge_fault e)) refl where

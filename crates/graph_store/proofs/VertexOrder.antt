@@ -13,7 +13,7 @@ use Rattle.grove_names.specs.declared.name.Name.{Name}
 use Rattle.grove_names.specs.Name.{name_cmp}
 use Rattle.grove_names.proofs.Orders.{name_cmp_total}
 use Rattle.grove_sorts.specs.declared.ctor.Ctor.TheVariants.{Root}
-use Rattle.graph_store.proofs.Lookups.{one_edge}
+use Rattle.grove_edits.proofs.Orders.{one_edge}
 use Rattle.grove_sorts.specs.Ctor.{ctor_cmp}
 use Rattle.grove_edits.specs.declared.vertex.Vertex.{Vertex}
 use Rattle.grove_edits.specs.contracts.vertex.VertexOrd.TheImpl as vertex_impl
@@ -36,7 +36,8 @@ use Rattle.graph_store.specs.Vertices.{IsCountedFrom, IsCountedNamed, IsVertexNa
 use Rattle.graph_store.specs.declared.vertices.Named.TheVariants.{Zero, One, More}
 use Rattle.graph_store.proofs.Joins.{in_edge_order}
 use Rattle.graph_store.proofs.Names.{root_le, root_ctor_le, le_then, absent_not_present, present_from_state, less_from_test}
-use Rattle.graph_store.proofs.Counts.{one_vertex, same_vertex_laws}
+use Rattle.walks.proofs.Vertices.{same_vertex_laws}
+use Rattle.graph_store.proofs.Counts.{one_vertex}
 use Rattle.graph_store.proofs.Leasts.{pick, holds, found_later, found_behind, Fits, AreByName, pick_is_least, least_same, sorted_part, found_part}
 
 abbrev pub is_counted : ℕ → Bool

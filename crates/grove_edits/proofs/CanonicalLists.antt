@@ -20,7 +20,7 @@ use Rattle.grove_edits.specs.Edge.{edge_cmp}
 use Rattle.grove_edits.specs.Edit.{edit_edge, edit_kind, kind_number, edit_cmp}
 use Rattle.grove_edits.specs.Graph.{graph, state_of, is_same_edge, Ascends, IsCanonical, begins_with}
 use Rattle.grove_edits.specs.contracts.edit.EditOrd.TheImpl as edit_impl
-use Rattle.grove_edits.proofs.Orders.{edge_cmp_total, cmp_is_edit_cmp}
+use Rattle.grove_edits.proofs.Orders.{equal_from_test, edge_cmp_total, cmp_is_edit_cmp}
 use Rattle.grove_edits.proofs.Graphs.{asked}
 
 -- an edit does not come after another
@@ -59,11 +59,6 @@ less_from_tests : (o : Ordering) → is_gt o ≡ false → is_eq o ≡ false →
 less_from_tests Less g e = refl
 less_from_tests Equal g e = absurd cc
 less_from_tests Greater g e = absurd cc
-
-equal_from_test : (o : Ordering) → is_eq o ≡ true → o ≡ Equal
-equal_from_test Less e = absurd cc
-equal_from_test Equal e = refl
-equal_from_test Greater e = absurd cc
 
 not_greater_from_less : (o : Ordering) → o ≡ Less → is_gt o ≡ false
 not_greater_from_less o e = rw e refl

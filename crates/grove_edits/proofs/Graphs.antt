@@ -1,13 +1,15 @@
 -- Graphs of lists of edits: of lists one after the other, and of lists with the same edits.
-use Rattle.std.proofs.Common.{◌≡◌, ℕ, zero, suc, ◌<◌, cond, List, [], ◌∷◌, ◌++◌, length, get_or, sym, ap, ◌∙◌, arith}
+use Rattle.std.proofs.Common.{◌≡◌, ℕ, zero, suc, ◌<◌, Bool, true, false, cond, List, [], ◌∷◌, ◌++◌, is_none, true≢false, length, get_or, refl, sym, ap, ◌∙◌, arith}
 use Rattle.edge_lattice.specs.declared.state.State.{State}
 use Rattle.edge_lattice.specs.declared.state.State.TheVariants.{Absent}
 use Rattle.edge_lattice.specs.State.{state_join}
 use Rattle.edge_lattice.proofs.States.{state_join_assoc, state_join_comm, state_join_idem, Absent-state_join}
 use Rattle.grove_edits.specs.declared.edge.Edge.{Edge}
 use Rattle.grove_edits.specs.declared.edit.Edit.{Edit}
+use Rattle.grove_edits.specs.Edge.{edge_fault}
 use Rattle.grove_edits.specs.Edit.{edit_edge, edit_kind}
 use Rattle.grove_edits.specs.Graph.{graph, state_of, is_same_edge, IsSame, HasAll}
+use Rattle.grove_edits.proofs.Orders.{one_edge}
 
 -- what one edit asks of an edge
 abbrev pub asked : Edit → Edge → State
@@ -43,3 +45,11 @@ absorbed (x ∷ a) b e h =
 -- two lists with the same edits, in any order and with any repeats, have the same graph
 pub graph-same_edits : (a b : List Edit) → HasAll a b → HasAll b a → IsSame (graph a) (graph b)
 graph-same_edits a b ab ba e = sym (absorbed b a e ab) ∙ state_join_comm (graph b e) (graph a e) ∙ absorbed a b e ba
+
+-- an edge that is not well formed is named by no edit
+pub unnamed : (edits : List Edit) (e : Edge) → is_none (edge_fault e) ≡ false → graph edits e ≡ Absent
+unnamed [] e ill = refl
+unnamed (edit ∷ edits) e ill = by_test (is_same_edge (edit_edge edit) e) refl (unnamed edits e ill) where
+  by_test : (b : Bool) → is_same_edge (edit_edge edit) e ≡ b → graph edits e ≡ Absent → state_join (cond b (state_of (edit_kind edit)) Absent) (graph edits e) ≡ Absent
+  by_test true same rest = absurd (true≢false (sym edit.well_formed ∙ ap (λ (f : Edge). is_none (edge_fault f)) (one_edge (edit_edge edit) e same) ∙ ill))
+  by_test false other rest = Absent-state_join (graph edits e) ∙ rest

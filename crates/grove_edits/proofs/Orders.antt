@@ -1,9 +1,9 @@
 -- The orders of vertices, edges and edits: total, exact, and those of the code.
-use Rattle.std.proofs.Common.{◌≡◌, refl, ap, ◌∙◌}
+use Rattle.std.proofs.Common.{◌≡◌, true, refl, ap, ◌∙◌}
 use Rattle.std.specs.declared.cmp.Ordering.{Ordering}
 use Rattle.std.specs.declared.cmp.Ordering.TheVariants.{Less, Equal, Greater}
 use Rattle.std.specs.Ordering.{ordering_then, is_eq, nat_cmp}
-use Rattle.std.specs.Cmp.{IsTotalOrder}
+use Rattle.std.specs.Cmp.{IsTotalOrder, IsEquivalence, eq_by_cmp_equiv}
 use Rattle.std.proofs.lemmas.Cmp.{on_total, then_total}
 use Rattle.grove_names.specs.declared.name.Name.{Name}
 use Rattle.grove_names.specs.Name.{name_cmp}
@@ -75,6 +75,20 @@ edge_cmp_exact a b h =
     let three = both_equal (position_cmp a.position b.position) (vertex_cmp a.target b.target) two.1 in
     edge_from_fields a b (name_cmp_exact a.name b.name one.0) (vertex_cmp_exact a.source b.source two.0)
     (position_cmp_exact a.position b.position three.0) (vertex_cmp_exact a.target b.target three.1)
+
+-- ---- the test of edges
+
+pub same_edge_laws : IsEquivalence is_same_edge
+same_edge_laws = eq_by_cmp_equiv edge_cmp_total
+
+pub equal_from_test : (o : Ordering) → is_eq o ≡ true → o ≡ Equal
+equal_from_test Less e = absurd cc
+equal_from_test Equal e = refl
+equal_from_test Greater e = absurd cc
+
+-- edges that the test finds the same are one
+pub one_edge : (a b : Edge) → is_same_edge a b ≡ true → a ≡ b
+one_edge a b same = edge_cmp_exact a b (equal_from_test (edge_cmp a b) same)
 
 -- ---- the comparisons of the code
 

@@ -85,8 +85,8 @@ stands_at (suc levels) live r v vs outer descent apart enough =
     record {
       edges = child_edges-children_along live (forest_at levels live) (edges_under live v);
       children = good_children live (forest_at levels live) (edges_under live v)
-        (good_from_descent live r v vs (forest_at levels live) (edges_under live v) outer descent apart
-        (λ t longer further. stands_at levels live r t (v ∷ vs) outer longer further (omega arith)) (under_lead live v));
+          (good_from_descent live r v vs (forest_at levels live) (edges_under live v) outer descent apart
+          (λ t longer further. stands_at levels live r t (v ∷ vs) outer longer further (omega arith)) (under_lead live v));
     }
 
 -- what stands under a vertex, as far as it goes

@@ -3,3 +3,12 @@ pub mod InLive
 pub mod Descents
 pub mod Forests
 pub mod OneGrove
+pub mod Table
+pub mod WellSorted
+pub mod Recomposed
+pub mod Totals
+pub mod Weights
+pub mod EdgesUnder
+pub mod Heads
+pub mod EdgePlaces
+pub mod OneList

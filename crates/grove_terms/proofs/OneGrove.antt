@@ -325,20 +325,22 @@ trees_are c live (v ∷ vs) outer all =
 pub some_grove : (edits : List Edit) → (grove : Grove) × IsGrove (graph edits) grove
 some_grove edits =
     let live = live_of edits in
-    let vertices = vertices_of edits in
-    (record {
-      none = map (tree_of live) (of_class NoParent live vertices);
-      multi = map (tree_of live) (of_class Multi live vertices);
-      cycle = map (tree_of live) (of_class Cycle live vertices);
-    }, record {
-      live = live;
-      vertices = vertices;
-      are_live = live_are edits;
-      are_vertices = vertices_are edits;
-      none = trees_are NoParent live (of_class NoParent live vertices) (λ e. cc) (all_of_class NoParent live vertices);
-      multi = trees_are Multi live (of_class Multi live vertices) (λ e. cc) (all_of_class Multi live vertices);
-      cycle = trees_are Cycle live (of_class Cycle live vertices) (λ e. cc) (all_of_class Cycle live vertices);
-    })
+    let vertices = vertices_of edits in (
+      record {
+        none = map (tree_of live) (of_class NoParent live vertices);
+        multi = map (tree_of live) (of_class Multi live vertices);
+        cycle = map (tree_of live) (of_class Cycle live vertices);
+      },
+      record {
+        live = live;
+        vertices = vertices;
+        are_live = live_are edits;
+        are_vertices = vertices_are edits;
+        none = trees_are NoParent live (of_class NoParent live vertices) (λ e. cc) (all_of_class NoParent live vertices);
+        multi = trees_are Multi live (of_class Multi live vertices) (λ e. cc) (all_of_class Multi live vertices);
+        cycle = trees_are Cycle live (of_class Cycle live vertices) (λ e. cc) (all_of_class Cycle live vertices);
+      },
+    )
 
 -- ---- graphs that give each edge the same state have the same grove
 

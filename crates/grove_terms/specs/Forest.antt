@@ -61,3 +61,21 @@ IsWellSorted v none = Unit {0}
 IsWellSorted v (multi_ref e rest) = IsChildOf v e (child_edges rest) × IsWellSorted v rest
 IsWellSorted v (cycle_ref e rest) = IsChildOf v e (child_edges rest) × IsWellSorted v rest
 IsWellSorted v (tree e below rest) = IsChildOf v e (child_edges rest) × IsWellSorted e.target below × IsWellSorted v rest
+
+-- each edge in preorder
+abbrev pub all_edges : Forest → List Edge
+all_edges none = []
+all_edges (multi_ref e rest) = e ∷ all_edges rest
+all_edges (cycle_ref e rest) = e ∷ all_edges rest
+all_edges (tree e below rest) = e ∷ (all_edges below ++ all_edges rest)
+
+-- the edge of a place under a vertex: the name is told there, and the source, the position and the target are where it stands
+abbrev pub edge_at : Vertex → Edge → Edge
+edge_at v e = record { name = e.name; source = v; position = e.position; target = e.target }
+
+-- the edge of each place under a vertex, in preorder
+abbrev pub recomposed : Vertex → Forest → List Edge
+recomposed v none = []
+recomposed v (multi_ref e rest) = edge_at v e ∷ recomposed v rest
+recomposed v (cycle_ref e rest) = edge_at v e ∷ recomposed v rest
+recomposed v (tree e below rest) = edge_at v e ∷ (recomposed e.target below ++ recomposed v rest)

@@ -42,3 +42,11 @@ trees_edges (t ∷ ts) = node_edges t ++ trees_edges ts
 -- the edges at all places of a grove
 abbrev pub edges_in : Grove → List Edge
 edges_in grove = trees_edges grove.none ++ (trees_edges grove.multi ++ trees_edges grove.cycle)
+
+abbrev pub trees_nodes : List (List Node) → List Node
+trees_nodes [] = []
+trees_nodes (t ∷ ts) = t ++ trees_nodes ts
+
+-- the nodes of all trees of a grove
+abbrev pub nodes_in : Grove → List Node
+nodes_in grove = trees_nodes grove.none ++ (trees_nodes grove.multi ++ trees_nodes grove.cycle)

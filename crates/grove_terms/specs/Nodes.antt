@@ -1,11 +1,11 @@
 -- Trees as lists of nodes in preorder.
-use Rattle.std.specs.Prelude.{ℕ, zero, suc, ◌+◌, List, [], ◌∷◌, ◌++◌, Option, Some, None, if◌then◌else◌}
+use Rattle.std.specs.Prelude.{ℕ, zero, suc, ◌+◌, List, [], ◌∷◌, ◌++◌, Bool, false, Option, Some, None, if◌then◌else◌}
 use Rattle.grove_sorts.specs.declared.position.Position.{Position}
 use Rattle.grove_sorts.specs.declared.sort.Sort.{Sort}
 use Rattle.grove_sorts.specs.Ctor.{positions}
 use Rattle.grove_edits.specs.declared.vertex.Vertex.{Vertex as VertexOf}
 use Rattle.grove_edits.specs.declared.edge.Edge.{Edge}
-use Rattle.walks.specs.Live.{is_same_position}
+use Rattle.walks.specs.Live.{is_same_position, is_same_vertex}
 use Rattle.grove_terms.specs.declared.node.Node.{Node}
 use Rattle.grove_terms.specs.declared.node.What.{What}
 use Rattle.grove_terms.specs.declared.node.What.TheVariants.{Vertex, Hole, Conflict, MultiRef, CycleRef}
@@ -70,3 +70,11 @@ edge_before (Some e) es = e ∷ es
 abbrev pub node_edges : List Node → List Edge
 node_edges [] = []
 node_edges (n ∷ ns) = edge_before n.edge (node_edges ns)
+
+abbrev pub is_vertex_node : VertexOf → What → Bool
+is_vertex_node v (Vertex u) = is_same_vertex v u
+is_vertex_node v _ = false
+
+-- the node is this vertex, and heads a tree or stands in one with what is under it
+abbrev pub is_headed_by : VertexOf → Node → Bool
+is_headed_by v node = is_vertex_node v node.what

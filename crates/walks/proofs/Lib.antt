@@ -1,3 +1,6 @@
 pub mod Vertices
 pub mod Endings
 pub mod Up
+pub mod Returns
+pub mod Tops
+pub mod Chains

@@ -1,18 +1,16 @@
 -- Tests of vertices tell whether they are one.
-use Rattle.std.proofs.Common.{◌≡◌, true, refl, ap}
-use Rattle.std.specs.declared.cmp.Ordering.{Ordering}
-use Rattle.std.specs.declared.cmp.Ordering.TheVariants.{Less, Equal, Greater}
+use Rattle.std.proofs.Common.{◌≡◌, true, ap}
+use Rattle.std.specs.declared.cmp.Ordering.TheVariants.{Equal}
 use Rattle.std.specs.Ordering.{is_eq}
+use Rattle.std.specs.Cmp.{IsEquivalence, eq_by_cmp_equiv}
 use Rattle.std.proofs.lemmas.Cmp.{tied_itself}
 use Rattle.grove_edits.specs.declared.vertex.Vertex.{Vertex}
 use Rattle.grove_edits.specs.Vertex.{vertex_cmp}
-use Rattle.grove_edits.proofs.Orders.{vertex_cmp_exact, vertex_cmp_total}
+use Rattle.grove_edits.proofs.Orders.{vertex_cmp_exact, vertex_cmp_total, equal_from_test}
 use Rattle.walks.specs.Live.{is_same_vertex}
 
-equal_from_test : (o : Ordering) → is_eq o ≡ true → o ≡ Equal
-equal_from_test Less e = absurd cc
-equal_from_test Equal e = refl
-equal_from_test Greater e = absurd cc
+pub same_vertex_laws : IsEquivalence is_same_vertex
+same_vertex_laws = eq_by_cmp_equiv vertex_cmp_total
 
 -- vertices that the test finds the same are one
 pub same_vertex_exact : (a b : Vertex) → is_same_vertex a b ≡ true → a ≡ b
