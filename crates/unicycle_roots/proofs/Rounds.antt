@@ -28,7 +28,7 @@ pub record IsRound (edges : List Edge) (v hare tortoise : Vertex) (k : ℕ) : Ty
   pub greater : AllGreater edges v (k + k)
   pub apart : (i : ℕ) → 0 < i → i ≤ k → up edges i (Some v) ≡ up edges (i + i) (Some v) → ⊥
 
-some_same : (x y : Vertex) → Some x ≡ Some y → x ≡ y
+pub some_same : (x y : Vertex) → Some x ≡ Some y → x ≡ y
 some_same x y e = cc
 
 walk_len_pos : (edges : List Edge) (v : Vertex) → 0 < walk_len edges v
@@ -80,22 +80,22 @@ root_from_back edges v from n at next greater =
 
 -- ---- the walk does not come back
 
-both_true : (a b : Bool) → (a && b) ≡ true → (a ≡ true) × (b ≡ true)
+pub both_true : (a b : Bool) → (a && b) ≡ true → (a ≡ true) × (b ≡ true)
 both_true true b h = (refl, h)
 both_true false b h = absurd cc
 
 false_from : (b : Bool) → (b ≡ true → ⊥) → b ≡ false
 false_from b refuted = elim b as (λ x. b ≡ x → x ≡ false) [ true ↦ λ is. absurd (refuted is) | false ↦ λ _. refl ] refl
 
-vertex_of_some : (v : Vertex) (o : Option Vertex) → is_vertex_of v o ≡ true → o ≡ Some v
+pub vertex_of_some : (v : Vertex) (o : Option Vertex) → is_vertex_of v o ≡ true → o ≡ Some v
 vertex_of_some v None h = absurd cc
 vertex_of_some v (Some x) h = ap Some (same_vertex_exact x v h)
 
-root_back : (edges : List Edge) (v : Vertex) → is_cycle_root edges v ≡ true → up edges (walk_len edges v) (Some v) ≡ Some v
+pub root_back : (edges : List Edge) (v : Vertex) → is_cycle_root edges v ≡ true → up edges (walk_len edges v) (Some v) ≡ Some v
 root_back edges v is =
     sym (walk_last edges v) ∙ vertex_of_some v (above_last edges (walk edges v)) (both_true (is_vertex_of v (above_last edges (walk edges v))) (is_least v (walk edges v)) is).0
 
-root_least : (edges : List Edge) (v : Vertex) → is_cycle_root edges v ≡ true → is_least v (walk edges v) ≡ true
+pub root_least : (edges : List Edge) (v : Vertex) → is_cycle_root edges v ≡ true → is_least v (walk edges v) ≡ true
 root_least edges v is = (both_true (is_vertex_of v (above_last edges (walk edges v))) (is_least v (walk edges v)) is).1
 
 -- the walk of a cycle's root is longer than the steps up that led to greater vertices alone
