@@ -15,3 +15,6 @@ pub use classes::class_of;
 pub use no_memory::NoMemory;
 pub use roots::cycle_roots;
 pub use walks::Class;
+
+#[cfg(test)]
+mod tests;
