@@ -40,7 +40,7 @@ up_first edges o x i is =
 abbrev pub Reaches : List Edge → Vertex → Vertex → Type 0
 Reaches edges v x = (n : ℕ) × (up edges n (Some v) ≡ Some x)
 
-pub reaches_itself : (edges : List Edge) (v : Vertex) → Reaches edges v v
+reaches_itself : (edges : List Edge) (v : Vertex) → Reaches edges v v
 reaches_itself edges v = (0, refl)
 
 -- each vertex above is found within the walk
@@ -64,6 +64,10 @@ within_walk edges v (suc n) x at = by_last (up edges n (Some v)) (λ y is. withi
       let found = within y is in
       by_length y found.0 next found.1 found.2
 
+pub or_true : (b : Bool) → (b || true) ≡ true
+or_true true = refl
+or_true false = refl
+
 goes_stands : (edges : List Edge) (passed : List Vertex) (o : Option Vertex) (xs : List Vertex) → GoesOn edges passed o xs → (x : Vertex) (i : ℕ) → i < length xs → up edges i o ≡ Some x → stands_in x xs ≡ true
 goes_stands edges passed o [] g x i lt at = absurd (omega arith)
 goes_stands edges passed o (y ∷ ys) g x zero lt at =
@@ -71,10 +75,7 @@ goes_stands edges passed o (y ∷ ys) g x zero lt at =
     ap (λ z. is_same_vertex z x || stands_in x ys) one ∙ ap (λ b. b || stands_in x ys) (same_vertex_itself x)
 goes_stands edges passed o (y ∷ ys) g x (suc i) lt at =
     let rest = goes_stands edges (y ∷ passed) (above edges y) ys g.2 x i (omega arith) (sym (up_first edges o y i g.0) ∙ at) in
-    ap (λ b. is_same_vertex y x || b) rest ∙ or_true (is_same_vertex y x) where
-      or_true : (b : Bool) → (b || true) ≡ true
-      or_true true = refl
-      or_true false = refl
+    ap (λ b. is_same_vertex y x || b) rest ∙ or_true (is_same_vertex y x)
 
 stands_goes : (edges : List Edge) (passed : List Vertex) (o : Option Vertex) (xs : List Vertex) → GoesOn edges passed o xs → (x : Vertex) → stands_in x xs ≡ true → (i : ℕ) × (up edges i o ≡ Some x)
 stands_goes edges passed o [] g x is = absurd cc
@@ -159,9 +160,6 @@ back_from_return edges v n return = by_last (up edges (walk_len edges v) (Some v
 
 -- ---- roots
 
-pub on_cycle_from_root : (edges : List Edge) (r : Vertex) → is_cycle_root edges r ≡ true → ComesBack edges r
-on_cycle_from_root edges r root = root_back edges r root
-
 -- a root above a vertex is above each vertex above that one
 pub root_further : (edges : List Edge) (x y r : Vertex) → is_cycle_root edges r ≡ true → Reaches edges x r → Reaches edges x y → Reaches edges y r
 root_further edges x y r root (n, at) (m, there) =
@@ -191,7 +189,7 @@ no_root_below_none edges x r n root (m, at) none =
     ] refl
 
 -- a root is the least of the vertices above it
-pub root_is_least : (edges : List Edge) (r x : Vertex) → is_cycle_root edges r ≡ true → Reaches edges r x → is_gt (vertex_cmp r x) ≡ false
+root_is_least : (edges : List Edge) (r x : Vertex) → is_cycle_root edges r ≡ true → Reaches edges r x → is_gt (vertex_cmp r x) ≡ false
 root_is_least edges r x root (n, at) =
     let found = within_walk edges r n x at in
     walk_least edges r (root_least edges r root) found.0 x found.1 found.2

@@ -10,7 +10,7 @@ use Rattle.walks.specs.Class.{is_cycle_root, class, is_same_class, of_class}
 use Rattle.walks.specs.declared.class.Class.TheVariants.{Cycle}
 use Rattle.walks.proofs.Vertices.{same_vertex_exact, same_vertex_itself}
 use Rattle.unicycle_roots.specs.Met.{leads_to, met_by, KeepsMet, AreNumbered, HasEnded}
-use Rattle.unicycle_roots.proofs.Cycles.{reaches_from_leads, leads_to_itself, one_root, class_is_cycle}
+use Rattle.unicycle_roots.proofs.Cycles.{or_true, reaches_from_leads, leads_to_itself, one_root, class_is_cycle}
 use Rattle.unicycle_roots.proofs.Meetings.{Met}
 
 -- those of the first i vertices have been walked up from
@@ -19,15 +19,6 @@ pub record AreFound (edges : List Edge) (vertices roots : List Vertex) (met : Me
   pub settled : (v r : Vertex) (k : ℕ) → met_by met v ≡ Some k → is_cycle_root edges r ≡ true → leads_to edges v r ≡ true → stands_in r roots ≡ true
   pub numbered : AreNumbered i met
   pub starts : (k : ℕ) (d : Vertex) → k < i → IsSome (met_by met (get_or vertices k d))
-
-pub found_first : (edges : List Edge) (vertices roots : List Vertex) (met : Met) → roots ≡ [] → met ≡ [] → AreFound edges vertices roots met 0
-found_first edges vertices roots met no_roots none_met =
-    record {
-      sound = λ r stands. let empty = ap (stands_in r) no_roots in absurd cc;
-      settled = λ v r k is. let empty = ap (λ m. met_by m v) none_met in absurd cc;
-      numbered = λ v k is. let empty = ap (λ m. met_by m v) none_met in absurd cc;
-      starts = λ k d lt. absurd (omega arith);
-    }
 
 -- ---- one vertex more
 
@@ -92,10 +83,6 @@ found_one edges vertices roots then before after i j start entry root found at k
       numbered = more_numbered i j before after kept found.numbered e;
       starts = more_starts i j vertices start before after kept at new found.starts e;
     }
-  where
-    or_true : (b : Bool) → (b || true) ≡ true
-    or_true true = refl
-    or_true false = refl
 
 -- ---- all vertices
 
@@ -126,10 +113,6 @@ filter_same p q (x ∷ xs) same =
     let rest = filter_same p q xs (λ v stands. same v (ap (λ b. is_same_vertex x v || b) stands ∙ or_true (is_same_vertex x v))) in
     let here = same x (ap (λ b. b || stands_in x xs) (same_vertex_itself x)) in
     ap (λ b. cond b (x ∷ filter p xs) (filter p xs)) here ∙ ap (λ ys. cond (q x) (x ∷ ys) ys) rest
-  where
-    or_true : (b : Bool) → (b || true) ≡ true
-    or_true true = refl
-    or_true false = refl
 
 pub roots_are_cycles : (edges : List Edge) (vertices roots : List Vertex) → ((v : Vertex) → stands_in v vertices ≡ true → stands_in v roots ≡ is_cycle_root edges v)
     → filter (λ v. stands_in v roots) vertices ≡ of_class Cycle edges vertices

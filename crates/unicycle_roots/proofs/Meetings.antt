@@ -1,5 +1,5 @@
 -- A walk up that gives a number to each vertex that it meets first.
-use Rattle.std.proofs.Common.{◌≡◌, ℕ, zero, suc, ◌+◌, ◌*◌, ◌<◌, ◌≤◌, true, false, cond, refl, sym, ap, ◌∙◌, arith, inl, inr, ◌⊎◌, is_some, IsSome}
+use Rattle.std.proofs.Common.{◌≡◌, ℕ, suc, ◌+◌, ◌*◌, ◌<◌, ◌≤◌, true, false, cond, refl, sym, ap, ◌∙◌, arith, inl, inr, ◌⊎◌, is_some, IsSome}
 use Rattle.std.specs.Prelude.{List, Option, None, Some}
 use Rattle.grove_edits.specs.declared.vertex.Vertex.{Vertex}
 use Rattle.grove_edits.specs.declared.edge.Edge.{Edge}
@@ -8,7 +8,7 @@ use Rattle.walks.specs.Walk.{above}
 use Rattle.walks.specs.Class.{is_cycle_root}
 use Rattle.walks.proofs.Vertices.{same_vertex_exact, same_vertex_itself}
 use Rattle.walks.proofs.Up.{up, walk_len, walk_back}
-use Rattle.unicycle_roots.specs.Met.{leads_to, met_by, KeepsMet, AreNumbered, HasEnded}
+use Rattle.unicycle_roots.specs.Met.{leads_to, met_by, KeepsMet, HasEnded}
 use Rattle.unicycle_roots.proofs.Rounds.{some_same, up_from}
 use Rattle.unicycle_roots.proofs.Cycles.{Reaches, leads_from_reaches, reaches_from_leads, back_from_return, cycle_from_back, root_further, no_root_below_none}
 
@@ -34,18 +34,6 @@ pub record IsEntered (edges : List Edge) (first at : Vertex) (number : ℕ) (bef
   pub counted : now ≡ start + 2 * n
   pub kept : KeepsMet number before after
   pub below : (v : Vertex) → met_by after v ≡ Some number → Reaches edges v at
-
-pub meeting_first : (edges : List Edge) (first : Vertex) (number : ℕ) (before : Met) (start : ℕ) → AreNumbered number before → IsMeeting edges first first number before before start start
-meeting_first edges first number before start numbered =
-    record {
-      n = 0;
-      there = refl;
-      passed = λ i x lt _. absurd (omega arith);
-      within = omega arith;
-      counted = omega arith;
-      kept = λ v. inl refl;
-      below = λ v is. let lt = numbered v number is in absurd (omega arith);
-    }
 
 -- ---- a vertex gets the number
 
@@ -159,14 +147,6 @@ ended_at_earlier edges first at number walk before after start now meeting is ot
   where
     same_number : Some walk ≡ Some number → walk ≡ number
     same_number e = cc
-
--- the first vertex was met
-pub first_met : (edges : List Edge) (first at : Vertex) (number walk : ℕ) (before after : Met) (start now : ℕ) → IsMeeting edges first at number before after start now
-    → met_by after at ≡ Some walk → IsSome (met_by after first)
-first_met edges first at number walk before after start now meeting is = by_steps meeting.n meeting.there meeting.passed where
-  by_steps : (n : ℕ) → up edges n (Some first) ≡ Some at → ((i : ℕ) (x : Vertex) → i < n → up edges i (Some first) ≡ Some x → IsSome (met_by after x)) → IsSome (met_by after first)
-  by_steps zero there passed = some_from (met_by after first) walk (ap (met_by after) (some_same first at there) ∙ is)
-  by_steps (suc n) there passed = passed 0 first (omega arith) refl
 
 pub first_entered : (edges : List Edge) (first at : Vertex) (number : ℕ) (before after : Met) (start now : ℕ) → IsEntered edges first at number before after start now → IsSome (met_by after first)
 first_entered edges first at number before after start now entered = entered.passed 0 first (omega arith) refl

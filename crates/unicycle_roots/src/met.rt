@@ -17,6 +17,7 @@ fn met_by(met: &BTreeMap<Vertex, usize>, vertex: &Vertex) -> Option<usize>
     met.get(vertex).copied()
 }
 
+/// Gives a vertex a number.
 fn enter(met: &mut BTreeMap<Vertex, usize>, vertex: &Vertex, number: usize) -> Result<(), NoMemory>
     ensures { OnOk result ((v : Vertex) → met_by met.new.entries v ≡ (if is_same_vertex vertex.now v then Some number else met_by met.old.entries v)) }
 {

@@ -12,12 +12,14 @@ use std::collections::{BTreeMap, BTreeSet};
 use std::sync::ledger::Ledger;
 use walks::{Class, ParentOf, Steps};
 
+/// Whether a vertex stands in a set.
 fn holds(roots: &BTreeSet<Vertex>, vertex: &Vertex) -> bool
     ensures { result ≡ stands_in vertex.now roots.now.keys }
 {
     roots.contains(vertex)
 }
 
+/// Adds a vertex to a set, which may have it already.
 fn add(roots: &mut BTreeSet<Vertex>, root: Vertex) -> Result<(), NoMemory>
     ensures { OnOk result ((v : Vertex) → stands_in v roots.new.keys ≡ (is_same_vertex root v || stands_in v roots.old.keys)) }
 {
@@ -44,6 +46,7 @@ fn roots_above<P: ParentOf, L: Ledger>(
     Ok(roots)
 }
 
+/// Those of some vertices that stand in a set, in the order of the vertices.
 fn held(
     alloc: Global,
     vertices: &[Vertex],
