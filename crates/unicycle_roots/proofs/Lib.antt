@@ -1,1 +1,6 @@
 pub mod Rounds
+pub mod Cycles
+pub mod Around
+pub mod Meetings
+pub mod Found
+pub mod Keys

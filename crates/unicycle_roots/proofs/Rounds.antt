@@ -34,15 +34,15 @@ both_true false b h = absurd cc
 false_from : (b : Bool) → (b ≡ true → ⊥) → b ≡ false
 false_from b refuted = elim b as (λ x. b ≡ x → x ≡ false) [ true ↦ λ is. absurd (refuted is) | false ↦ λ _. refl ] refl
 
-vertex_of_some : (v : Vertex) (o : Option Vertex) → is_vertex_of v o ≡ true → o ≡ Some v
+pub vertex_of_some : (v : Vertex) (o : Option Vertex) → is_vertex_of v o ≡ true → o ≡ Some v
 vertex_of_some v None h = absurd cc
 vertex_of_some v (Some x) h = ap Some (same_vertex_exact x v h)
 
-root_back : (edges : List Edge) (v : Vertex) → is_cycle_root edges v ≡ true → up edges (walk_len edges v) (Some v) ≡ Some v
+pub root_back : (edges : List Edge) (v : Vertex) → is_cycle_root edges v ≡ true → up edges (walk_len edges v) (Some v) ≡ Some v
 root_back edges v is =
     sym (walk_last edges v) ∙ vertex_of_some v (above_last edges (walk edges v)) (both_true (is_vertex_of v (above_last edges (walk edges v))) (is_least v (walk edges v)) is).0
 
-root_least : (edges : List Edge) (v : Vertex) → is_cycle_root edges v ≡ true → is_least v (walk edges v) ≡ true
+pub root_least : (edges : List Edge) (v : Vertex) → is_cycle_root edges v ≡ true → is_least v (walk edges v) ≡ true
 root_least edges v is = (both_true (is_vertex_of v (above_last edges (walk edges v))) (is_least v (walk edges v)) is).1
 
 -- the walk of a cycle's root is longer than the steps up that led to greater vertices alone

@@ -1,1 +1,2 @@
 pub mod StepUp
+pub mod Met

@@ -1,10 +1,20 @@
 //! The class of a vertex, by a walk up its live parent edges: whether it heads a tree of the grove, and why. The walk keeps no
-//! list. It stands on whatever tells a vertex's parents.
+//! list. Also the roots of all cycles, for which no chain of vertices is walked up twice. Both stand on whatever tells a vertex's
+//! parents.
 #![tactic(auto)]
 
 mod classes;
+mod cycle;
 mod cycle_root;
+mod met;
+mod no_memory;
+mod roots;
 mod step_up;
 
 pub use classes::class_of;
+pub use no_memory::NoMemory;
+pub use roots::cycle_roots;
 pub use walks::Class;
+
+#[cfg(test)]
+mod tests;

@@ -1,4 +1,5 @@
-ghost use Rattle.std.specs.Prelude.{◌≡◌, ◌+◌, ◌<◌, ◌≤◌, None, Some, OnSome};
+ghost use Rattle.std.specs.Prelude.{◌≡◌, ◌+◌, ◌<◌, ◌≤◌, None, Some, OnSome, if◌then◌else◌};
+ghost use Rattle.std.specs.Ordering.{is_gt};
 ghost use Rattle.grove_edits.specs.declared.vertex.Vertex.{Vertex};
 ghost use Rattle.grove_edits.specs.Vertex.{vertex_cmp};
 ghost use Rattle.walks.specs.Live.{is_same_vertex};
@@ -31,6 +32,16 @@ pub(crate) fn is_same(a: &Vertex, b: &Vertex) -> bool
     ensures { result ≡ is_same_vertex a.now b.now }
 {
     order(a, b) == Ordering::Equal
+}
+
+/// The lesser of two vertices, and the first of two that are one.
+pub(crate) fn lesser(a: &Vertex, b: &Vertex) -> Vertex
+    ensures { result ≡ (if is_gt (vertex_cmp a.now b.now) then b.now else a.now) }
+{
+    match order(a, b) {
+        Ordering::Less | Ordering::Equal => *a,
+        Ordering::Greater => *b,
+    }
 }
 
 /// The source of the one live parent edge, if there is exactly one.

@@ -1,0 +1,35 @@
+use Rattle.std.proofs.Common.{subst, sym, ◌∙◌}
+use Rattle.unicycle_roots.proofs.Around.{IsAround, around_first, around_next, root_from_around, above_from_around, around_ends}
+use Rattle.unicycle_roots.proofs.cycle.root_of_cycle.Goals as goal
+
+pub loop-above-init : goal.loop-above-init
+loop-above-init g c = around_first (g.P.ParentOf.live c.args.parents.now) c.args.entry.now c.args.steps.now
+
+pub returns-then-is_same-clause-root : goal.returns-then-is_same-clause-root
+returns-then-is_same-clause-root g c =
+    root_from_around (g.P.ParentOf.live c.args.parents.now) c.args.entry.now c.loop-above.at c.loop-above.least c.in-Some.above c.args.steps.now c.loop-above.steps
+    c.requires c.loop-above.invariant (sym c.in-Some.ensures.above) (sym c.is_same.ensures ∙ c.if-is_same.true)
+
+pub returns-then-is_same-clause-above : goal.returns-then-is_same-clause-above
+returns-then-is_same-clause-above g c =
+    above_from_around (g.P.ParentOf.live c.args.parents.now) c.args.entry.now c.loop-above.at c.loop-above.least c.args.steps.now c.loop-above.steps c.loop-above.invariant
+
+pub loop-above-preserved : goal.loop-above-preserved
+loop-above-preserved g c =
+    let live = g.P.ParentOf.live c.args.parents.now in
+    let v = c.args.entry.now in
+    let then = c.vertex_above.new.steps in
+    let start = c.args.steps.now in
+    let next = around_next live v c.loop-above.at c.loop-above.least c.in-Some.above start c.loop-above.steps then
+    c.requires c.loop-above.invariant (sym c.in-Some.ensures.above) (sym c.is_same.ensures ∙ c.if-is_same.false)
+    c.in-Some.ensures.ticks_where_above in
+    subst (λ least. IsAround live v c.in-Some.above least start then) (sym c.lesser-least.ensures) next
+
+pub returns-clause-root : goal.returns-clause-root
+returns-clause-root g c =
+    absurd (around_ends (g.P.ParentOf.live c.args.parents.now) c.args.entry.now c.loop-above.at c.loop-above.least c.args.steps.now c.loop-above.steps
+    c.requires c.loop-above.invariant (sym c.in_default.ensures.above))
+
+pub returns-clause-above : goal.returns-clause-above
+returns-clause-above g c =
+    above_from_around (g.P.ParentOf.live c.args.parents.now) c.args.entry.now c.loop-above.at c.loop-above.least c.args.steps.now c.loop-above.steps c.loop-above.invariant

@@ -1,0 +1,10 @@
+use Rattle.std.proofs.Common.{◌+◌, ◌*◌, ◌-◌}
+use Rattle.walks.proofs.Up.{walk_len}
+use Rattle.unicycle_roots.proofs.Around.{IsAround}
+use Rattle.unicycle_roots.proofs.cycle.root_of_cycle.Given as goal
+
+abbrev pub invariant-loop-above : goal.invariant-loop-above
+invariant-loop-above g l = IsAround (g.P.ParentOf.live l.parents) l.entry l.at l.least l.fn.steps l.steps
+
+abbrev pub decreases-loop-above : goal.decreases-loop-above
+decreases-loop-above g l = l.fn.steps + 2 * walk_len (g.P.ParentOf.live l.parents) l.entry - l.steps

@@ -1,0 +1,38 @@
+-- The vertices that walks up have met, each with the number of the walk that met it first.
+use Rattle.std.specs.Prelude.{◌≡◌, ◌<◌, ◌⊎◌, ℕ, Bool, true, List, Option, None, Some}
+use Rattle.std.specs.Map.{lookup}
+use Rattle.grove_edits.specs.declared.vertex.Vertex.{Vertex}
+use Rattle.grove_edits.specs.declared.edge.Edge.{Edge}
+use Rattle.walks.specs.Live.{is_same_vertex, stands_in}
+use Rattle.walks.specs.Walk.{walk, above_last}
+use Rattle.walks.specs.Class.{is_vertex_of, is_cycle_root}
+
+-- the second vertex stands on the walk up from the first
+abbrev pub leads_to : List Edge → Vertex → Vertex → Bool
+leads_to edges v x = stands_in x (walk edges v)
+
+-- the walk up from the vertex comes back to it
+abbrev pub is_on_cycle : List Edge → Vertex → Bool
+is_on_cycle edges v = is_vertex_of v (above_last edges (walk edges v))
+
+-- the number of the walk that met the vertex first
+abbrev pub met_by : List (Vertex × ℕ) → Vertex → Option ℕ
+met_by met v = lookup (is_same_vertex v) met
+
+-- each vertex that was met keeps its number, and each other may have got this one
+abbrev pub KeepsMet : ℕ → List (Vertex × ℕ) → List (Vertex × ℕ) → Type 0
+KeepsMet number before after = (v : Vertex) → (met_by after v ≡ met_by before v) ⊎ ((met_by before v ≡ None) × (met_by after v ≡ Some number))
+
+-- the numbers of the walks so far are less
+abbrev pub AreNumbered : ℕ → List (Vertex × ℕ) → Type 0
+AreNumbered number met = (v : Vertex) (k : ℕ) → met_by met v ≡ Some k → k < number
+
+-- how a walk ended that gave what it met a number: it came back to a vertex, or each cycle's root above what it met
+-- is above a vertex that an earlier walk met
+abbrev pub HasEnded : List Edge → ℕ → List (Vertex × ℕ) → List (Vertex × ℕ) → Option Vertex → Type 0
+HasEnded edges number before after None =
+    (v r : Vertex) → met_by after v ≡ Some number → is_cycle_root edges r ≡ true → leads_to edges v r ≡ true
+    → (x : Vertex) × (k : ℕ) × (met_by before x ≡ Some k) × (leads_to edges x r ≡ true)
+HasEnded edges number before after (Some x) =
+    (is_on_cycle edges x ≡ true)
+    × ((v r : Vertex) → met_by after v ≡ Some number → is_cycle_root edges r ≡ true → leads_to edges v r ≡ true → leads_to edges x r ≡ true)

@@ -1,0 +1,30 @@
+ghost use Rattle.std.specs.Prelude.{◌≡◌, true};
+ghost use Rattle.walks.specs.Class.{is_cycle_root};
+ghost use Rattle.unicycle_roots.specs.Met.{is_on_cycle, leads_to};
+
+use crate::step_up::{is_same, lesser, vertex_above};
+use grove_edits::Vertex;
+use std::sync::ledger::Ledger;
+use walks::{ParentOf, Steps};
+
+/// The root of the cycle on which a vertex stands, by going round once.
+pub(crate) fn root_of_cycle<P: ParentOf, L: Ledger>(
+    entry: &Vertex,
+    parents: &P,
+    steps: &mut Steps<L>,
+) -> Vertex
+    requires { is_on_cycle (P.live parents.now) entry.now ≡ true }
+    ensures root { is_cycle_root (P.live parents.now) result ≡ true }
+    ensures above { leads_to (P.live parents.now) entry.now result ≡ true }
+{
+    let mut least = *entry;
+    let mut at = *entry;
+    while let Some(above) = vertex_above(&at, parents, steps) {
+        if is_same(&above, entry) {
+            return least;
+        }
+        least = lesser(&least, &above);
+        at = above;
+    }
+    least
+}
