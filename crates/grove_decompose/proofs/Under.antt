@@ -19,79 +19,12 @@ use Rattle.walks.specs.Live.{holds_edge, is_same_vertex, parents_of}
 use Rattle.walks.specs.Walk.{only_source, above, above_last, walk}
 use Rattle.walks.specs.Class.{is_vertex_of, is_least, is_cycle_root, class_by, class}
 use Rattle.walks.proofs.Vertices.{same_vertex_exact, same_vertex_itself, vertex_cmp_itself}
-use Rattle.walks.proofs.Up.{up, next_above, up-shift, walk_len, walk_last, walk_least}
+use Rattle.walks.proofs.Up.{up, next_above, up-shift}
+use Rattle.unicycle_roots.proofs.Cycles.{no_root_below_none, one_root}
 use Rattle.grove_terms.specs.declared.node.What.{What}
 use Rattle.grove_terms.specs.declared.node.What.TheVariants as whats
 use Rattle.grove_terms.proofs.InLive.{stands_among, same_edge_exact}
 use Rattle.grove_decompose.specs.Tasks.{what_by, IsUnder}
-
--- ---- going up round a cycle
-
-up_up : (live : List Edge) (o : Option Vertex) (a b : ℕ) → up live (a + b) o ≡ up live b (up live a o)
-up_up live o a zero = simp unary_clauses
-up_up live o a (suc b) = simp unary_clauses (ap (next_above live) (up_up live o a b))
-
-rounds : (live : List Edge) (o : Option Vertex) (len q k : ℕ) → up live len o ≡ o → up live (q * len + k) o ≡ up live k o
-rounds live o len zero k back = let e : 0 * len + k ≡ k = omega arith in ap (λ i. up live i o) e
-rounds live o len (suc q) k back =
-    let e : suc q * len + k ≡ len + (q * len + k) = omega arith in
-    ap (λ i. up live i o) e ∙ up_up live o len (q * len + k) ∙ ap (up live (q * len + k)) back ∙ rounds live o len q k back
-
--- what is reached from a vertex that is reached again is reached within one round
-within_round : (live : List Edge) (o : Option Vertex) (len n : ℕ) → 0 < len → up live len o ≡ o → (m : ℕ) × (m < len) × (up live m o ≡ up live n o)
-within_round live o len n pos back =
-    let whole : len * (n / len) + n % len ≡ n = omega arith in
-    let small : n % len < len = omega arith in
-    let e : (n / len) * len + n % len ≡ n = omega arith in
-    (n % len, small, sym (rounds live o len (n / len) (n % len) back) ∙ ap (λ i. up live i o) e)
-
--- ---- roots of cycles
-
-both_true : (a b : Bool) → (a && b) ≡ true → (a ≡ true) × (b ≡ true)
-both_true true b h = (refl, h)
-both_true false b h = absurd cc
-
-vertex_of_some : (v : Vertex) (o : Option Vertex) → is_vertex_of v o ≡ true → o ≡ Some v
-vertex_of_some v None h = absurd cc
-vertex_of_some v (Some x) h = ap Some (same_vertex_exact x v h)
-
-root_back : (live : List Edge) (v : Vertex) → is_cycle_root live v ≡ true → up live (walk_len live v) (Some v) ≡ Some v
-root_back live v is =
-    sym (walk_last live v) ∙ vertex_of_some v (above_last live (walk live v)) (both_true (is_vertex_of v (above_last live (walk live v))) (is_least v (walk live v)) is).0
-
-root_least : (live : List Edge) (v : Vertex) → is_cycle_root live v ≡ true → is_least v (walk live v) ≡ true
-root_least live v is = (both_true (is_vertex_of v (above_last live (walk live v))) (is_least v (walk live v)) is).1
-
-walk_len_pos : (live : List Edge) (v : Vertex) → 0 < walk_len live v
-walk_len_pos live v = omega arith
-
-some_same : (x y : Vertex) → Some x ≡ Some y → x ≡ y
-some_same x y e = cc
-
--- the root of a cycle comes before no vertex on it that it is after
-root_le : (live : List Edge) (v x : Vertex) (n : ℕ) → is_cycle_root live v ≡ true → up live n (Some v) ≡ Some x → is_gt (vertex_cmp v x) ≡ false
-root_le live v x n is at =
-    let near = within_round live (Some v) (walk_len live v) n (walk_len_pos live v) (root_back live v is) in
-    walk_least live v (root_least live v is) near.0 x near.1 (near.2 ∙ at)
-
-equal_from_neither : (v x : Vertex) → is_gt (vertex_cmp v x) ≡ false → is_gt (vertex_cmp x v) ≡ false → v ≡ x
-equal_from_neither v x a b = vertex_cmp_exact v x (by_order (vertex_cmp v x) refl a (ap is_gt (vertex_cmp_total.antisymm x v) ∙ refl)) where
-  by_order : (o : Ordering) → vertex_cmp v x ≡ o → is_gt o ≡ false → is_gt (vertex_cmp x v) ≡ is_gt (ordering_reverse (vertex_cmp v x)) → vertex_cmp v x ≡ Equal
-  by_order Less e kept turned = let clash : is_gt (vertex_cmp x v) ≡ true = turned ∙ ap (λ o. is_gt (ordering_reverse o)) e in absurd cc
-  by_order Equal e kept turned = e
-  by_order Greater e kept turned = absurd cc
-
--- two roots of one cycle are one
-one_root : (live : List Edge) (v x : Vertex) (n : ℕ) → is_cycle_root live v ≡ true → is_cycle_root live x ≡ true → up live n (Some v) ≡ Some x → v ≡ x
-one_root live v x n is_v is_x at = equal_from_neither v x (root_le live v x n is_v at) (root_le live x v (walk_len live v - near.0) is_x there) where
-  near : (m : ℕ) × (m < walk_len live v) × (up live m (Some v) ≡ up live n (Some v))
-  near = within_round live (Some v) (walk_len live v) n (walk_len_pos live v) (root_back live v is_v)
-
-  there : up live (walk_len live v - near.0) (Some x) ≡ Some v
-  there =
-      let lt = near.1 in
-      let e : near.0 + (walk_len live v - near.0) ≡ walk_len live v = omega arith in
-      ap (up live (walk_len live v - near.0)) (sym (near.2 ∙ at)) ∙ sym (up_up live (Some v) near.0 (walk_len live v - near.0)) ∙ ap (λ i. up live i (Some v)) e ∙ root_back live v is_v
 
 -- ---- what a child is
 
@@ -105,37 +38,14 @@ not_inner (p ∷ q ∷ ps) b x is outer = absurd cc
 head_is_root : (live : List Edge) (v x : Vertex) → above live v ≡ Some x → (class live v ≡ Inner → ⊥) → is_cycle_root live v ≡ true
 head_is_root live v x is outer = not_inner (parents_of v live) (is_cycle_root live v) x is outer
 
--- from the root of a cycle one goes up for ever
-goes_up : (live : List Edge) (v r : Vertex) (n : ℕ) → is_cycle_root live v ≡ true → up live n (Some v) ≡ Some r → (x : Vertex) × (above live r ≡ Some x)
-goes_up live v r n is at = by_next (above live r) refl where
-  no_end : above live r ≡ None → ⊥
-  no_end none =
-      let ended : up live (suc n) (Some v) ≡ None = ap (next_above live) at ∙ none in
-      let far : up live (n * walk_len live v + walk_len live v) (Some v) ≡ Some v = rounds live (Some v) (walk_len live v) n (walk_len live v) (root_back live v is) ∙ root_back live v is in
-      let pos = walk_len_pos live v in
-      let more : suc n ≤ n * walk_len live v + walk_len live v = enough n (walk_len live v) pos in
-      let e : suc n + (n * walk_len live v + walk_len live v - suc n) ≡ n * walk_len live v + walk_len live v = omega arith in
-      let stays : up live (suc n + (n * walk_len live v + walk_len live v - suc n)) (Some v) ≡ None =
-          up_up live (Some v) (suc n) (n * walk_len live v + walk_len live v - suc n) ∙ ap (up live (n * walk_len live v + walk_len live v - suc n)) ended ∙ none_stays (n * walk_len live v + walk_len live v - suc n) in
-      let there = ap (λ i. up live i (Some v)) e in
-      cc where
-        none_stays : (k : ℕ) → up live k None ≡ None
-        none_stays zero = refl
-        none_stays (suc k) = ap (next_above live) (none_stays k)
-
-        enough : (n len : ℕ) → 0 < len → suc n ≤ n * len + len
-        enough zero len pos = omega arith
-        enough (suc n) len pos = let rest = enough n len pos in let e : suc n * len ≡ n * len + len = omega arith in omega arith
-
-  by_next : (o : Option Vertex) → above live r ≡ o → (x : Vertex) × (above live r ≡ Some x)
-  by_next None none = absurd (no_end none)
-  by_next (Some x) some = (x, some)
-
 root_of_tree : (live : List Edge) (t s r : Vertex) → (class live r ≡ Inner → ⊥) → IsUnder live r s → above live t ≡ Some s → is_cycle_root live t ≡ true → t ≡ r
-root_of_tree live t s r outer under is root =
-    let at : up live (suc under.steps) (Some t) ≡ Some r = sym (up-shift live (Some t) under.steps) ∙ ap (up live under.steps) is ∙ under.leads in
-    let further = goes_up live t r (suc under.steps) root at in
-    one_root live t r (suc under.steps) root (head_is_root live r further.0 further.1 outer) at
+root_of_tree live t s r outer under is root = by_next (above live r) refl where
+  at : up live (suc under.steps) (Some t) ≡ Some r
+  at = sym (up-shift live (Some t) under.steps) ∙ ap (up live under.steps) is ∙ under.leads
+
+  by_next : (o : Option Vertex) → above live r ≡ o → t ≡ r
+  by_next None none = absurd (no_root_below_none live t t (suc (suc under.steps)) root (0, refl) (ap (next_above live) at ∙ none))
+  by_next (Some x) some = one_root live t t r root (head_is_root live r x some outer) (0, refl) (suc under.steps, at)
 
 sole_by : (e : Edge) (ps : List Edge) → holds_edge e ps ≡ true → ((a b : Edge) → first_two ps ≡ More a b → ⊥) → only_source ps ≡ Some e.source
 sole_by e [] held few = absurd cc
