@@ -6,3 +6,6 @@ pub mod Leasts
 pub mod Names
 pub mod Counts
 pub mod VertexOrder
+pub mod Parts
+pub mod Maxima
+pub mod AuthorNames

@@ -58,12 +58,12 @@ all_before : (v : Vertex) (ks : List Vertex) → AllByRecursion (λ k. vertex_im
 all_before v [] h = tt
 all_before v (k ∷ ks) h = (sym (cmp_is_vertex_cmp v k) ∙ h.0, all_before v ks h.1)
 
-in_vertex_order : (ks : List Vertex) → IsStrictlySortedBy vertex_impl.ghosts.cmp ks → IsStrictlySortedBy vertex_cmp ks
+pub in_vertex_order : (ks : List Vertex) → IsStrictlySortedBy vertex_impl.ghosts.cmp ks → IsStrictlySortedBy vertex_cmp ks
 unfolding IsStrictlySortedBy
 in_vertex_order [] up = tt
 in_vertex_order (k ∷ ks) up = (all_before k ks up.0, in_vertex_order ks up.1)
 
-from_start : (from : Bound Vertex) (e : Vertex) → range_contains vertex_impl.ghosts.cmp from Unbounded e ≡ is_from_start vertex_cmp from e
+pub from_start : (from : Bound Vertex) (e : Vertex) → range_contains vertex_impl.ghosts.cmp from Unbounded e ≡ is_from_start vertex_cmp from e
 from_start (Included a) e = ap (λ o. is_le o && true) (cmp_is_vertex_cmp a e) ∙ and_true (is_le (vertex_cmp a e)) where
   and_true : (b : Bool) → (b && true) ≡ b
   and_true true = refl
@@ -74,15 +74,15 @@ from_start (Excluded a) e = ap (λ o. is_lt o && true) (cmp_is_vertex_cmp a e) �
   and_true false = refl
 from_start Unbounded e = refl
 
-count_above : (o : Option ℕ) → holds is_counted o ≡ true → 0 < unwrap_or o 0
+pub count_above : (o : Option ℕ) → holds is_counted o ≡ true → 0 < unwrap_or o 0
 count_above None h = absurd (true≢false (sym h))
 count_above (Some n) h = ltb-true 0 n h
 
-counted_above : (o : Option ℕ) → 0 < unwrap_or o 0 → holds is_counted o ≡ true
+pub counted_above : (o : Option ℕ) → 0 < unwrap_or o 0 → holds is_counted o ≡ true
 counted_above None h = absurd (omega arith)
 counted_above (Some n) h = lt-ltb 0 n h
 
-both_from_chosen : (b : Bool) (o : Option ℕ) → holds is_counted (cond b o None) ≡ true → (b ≡ true) × (holds is_counted o ≡ true)
+pub both_from_chosen : (b : Bool) (o : Option ℕ) → holds is_counted (cond b o None) ≡ true → (b ≡ true) × (holds is_counted o ≡ true)
 both_from_chosen true o h = (refl, h)
 both_from_chosen false o h = absurd (true≢false (sym h))
 
@@ -192,7 +192,7 @@ uses_from_end (x ∷ es) v e found is = by_test (is_same_edge e x.0) refl found 
   by_test true same found rest = more (weight x.1 x.0 v) (uses es v) (subst (λ (f : Edge). 0 < weight x.1 f v) (one_edge e x.0 same) (weight_above x.1 e v found is))
   by_test false other found rest = later (weight x.1 x.0 v) (uses es v) (rest found is)
 
-counted_is_vertex : (es : Entries) (cs : List (Vertex × ℕ)) → IsStrictlySortedBy edge_cmp (keys_of es) → IsCounted es cs → (n : Name) (v : Vertex) → IsCountedNamed cs n v → IsVertexNamed es n v
+pub counted_is_vertex : (es : Entries) (cs : List (Vertex × ℕ)) → IsStrictlySortedBy edge_cmp (keys_of es) → IsCounted es cs → (n : Name) (v : Vertex) → IsCountedNamed cs n v → IsVertexNamed es n v
 counted_is_vertex es cs up counted n v h = (h.0, cases h.1) where
   cases : (v ≡ root) ⊎ (0 < count_of cs v) → IsVertexOf (state_in es) v
   cases (inl is) = inl is
@@ -200,7 +200,7 @@ counted_is_vertex es cs up counted n v h = (h.0, cases h.1) where
       let found = end_from_uses es v up (subst (λ m. 0 < m) (counted.exact v) above) in
       inr (found.0, absent_not_present (entry_at es found.0) found.1, found.2)
 
-vertex_is_counted : (es : Entries) (cs : List (Vertex × ℕ)) → IsCounted es cs → (n : Name) (v : Vertex) → IsVertexNamed es n v → IsCountedNamed cs n v
+pub vertex_is_counted : (es : Entries) (cs : List (Vertex × ℕ)) → IsCounted es cs → (n : Name) (v : Vertex) → IsVertexNamed es n v → IsCountedNamed cs n v
 vertex_is_counted es cs counted n v h = (h.0, cases h.1) where
   cases : IsVertexOf (state_in es) v → (v ≡ root) ⊎ (0 < count_of cs v)
   cases (inl is) = inl is

@@ -7,3 +7,4 @@ pub mod Least
 pub mod Named
 pub mod Counts
 pub mod Vertices
+pub mod Greatest

@@ -5,7 +5,9 @@ ghost use Rattle.grove_edits.specs.declared.edit.Edit.{Edit};
 ghost use Rattle.grove_edits.specs.Edge.{edge_cmp};
 ghost use Rattle.grove_edits.specs.Edit.{edit_edge, edit_kind};
 ghost use Rattle.grove_edits.specs.Graph.{IsSame, IsCanonical, graph, graph_join, state_of};
+ghost use Rattle.walks.specs.Whole.{AreVertices, AreLive};
 ghost use Rattle.graph_store.specs.Change.{change_from};
+ghost use Rattle.graph_store.specs.Greatest.{IsGreatest, IsNameOf};
 ghost use Rattle.graph_store.specs.Least.{IsLeast};
 ghost use Rattle.graph_store.specs.Listed.{IsEditOf};
 ghost use Rattle.graph_store.specs.Named.{IsNamed};
@@ -14,7 +16,8 @@ ghost use Rattle.graph_store.specs.Store.{state_in, HasRoom, KeepsRoom, only, wi
 
 use crate::change::Change;
 use crate::ends::{make_room_at_ends, recount};
-use crate::named::{bound_after, first_named};
+use crate::greatest::{greatest_of_edges, greatest_of_vertices};
+use crate::named::{ROOT, bound_after, first_named};
 use crate::no_memory::NoMemory;
 use crate::room_map::RoomMap;
 use crate::vertices::{Named, first_counted, first_vertex};
@@ -97,6 +100,19 @@ impl GraphStore {
         self.raise_to(&edit.edge(), asked_by(edit.kind()))
     }
 
+    /// Joins what each of these edits asks to the graph.
+    pub fn raise_each(&mut self, edits: &[Edit]) -> Result<(), NoMemory>
+        ensures joined { OnOk result (IsSame (state_in self.new) (graph_join (state_in self.old) (graph edits.now))) }
+        ensures unchanged { OnErr result (IsSame (state_in self.new) (state_in self.old)) }
+        ensures room_stays { KeepsRoom self.old self.new }
+    {
+        self.reserve_for_edits(edits)?;
+        for edit in edits {
+            self.raise(edit);
+        }
+        Ok(())
+    }
+
     /// Joins another graph to this one.
     pub fn merge(&mut self, other: &GraphStore) -> Result<(), NoMemory>
         ensures joined { OnOk result (IsSame (state_in self.new) (graph_join (state_in self.old) (state_in other.now))) }
@@ -144,6 +160,47 @@ impl GraphStore {
         }
     }
 
+    /// All vertices of the graph, in vertex order: the vertex `0.0 root`, and the ends of the edges that are not Absent.
+    pub fn vertices(&self, alloc: Global) -> Result<Vec<Vertex>, NoMemory>
+        ensures vertices { IfOk result (λ list. AreVertices (state_in self.now) list.items) }
+    {
+        // The edges are in order, each with one state.
+        let _edges = self.states.len();
+        let mut vertices = Vec::new(alloc);
+        // The root is the least vertex, whatever its count.
+        vertices.push(ROOT)?;
+        let others = (Bound::Excluded(ROOT), Bound::Unbounded);
+        for (vertex, count) in self.ends.entries().range(others) {
+            if *count > 0 {
+                vertices.push(*vertex)?;
+            }
+        }
+        Ok(vertices)
+    }
+
+    /// All live edges of the graph, in edge order.
+    pub fn live_edges(&self, alloc: Global) -> Result<Vec<Edge>, NoMemory>
+        ensures live { IfOk result (λ list. AreLive (state_in self.now) list.items) }
+    {
+        let mut edges = Vec::new(alloc);
+        for (edge, state) in self.states.entries() {
+            if *state == State::Live {
+                edges.push(*edge)?;
+            }
+        }
+        Ok(edges)
+    }
+
+    /// The greatest counter of this author in any name of the graph, be it of a vertex or of an edge, deleted or not.
+    /// It is 0 where no name is by this author.
+    pub fn greatest(&self, author: u32) -> u64
+        ensures { IsGreatest (IsNameOf (state_in self.now)) author result }
+    {
+        // The edges are in order, each with one state.
+        let _edges = self.states.len();
+        greatest_of_edges(&self.states, author).max(greatest_of_vertices(&self.ends, author))
+    }
+
     fn make_room(&mut self, edge: &Edge) -> Result<(), NoMemory>
         ensures room { OnOk result (HasRoom self.new edge.now) }
         ensures room_stays { KeepsRoom self.old self.new }
@@ -166,6 +223,17 @@ impl GraphStore {
         }
         self.put_back(edge, asked);
         Change::Raised { old }
+    }
+
+    fn reserve_for_edits(&mut self, edits: &[Edit]) -> Result<(), NoMemory>
+        ensures room { OnOk result (All (λ edit. HasRoom self.new (edit_edge edit)) edits.now) }
+        ensures room_stays { KeepsRoom self.old self.new }
+        ensures unchanged { IsSame (state_in self.new) (state_in self.old) }
+    {
+        for edit in edits {
+            self.make_room(&edit.edge())?;
+        }
+        Ok(())
     }
 
     fn reserve_for_all(&mut self, other: &GraphStore) -> Result<(), NoMemory>

@@ -6,6 +6,7 @@
 mod change;
 mod ends;
 mod graph_store;
+mod greatest;
 mod laws;
 mod named;
 mod no_memory;

@@ -124,3 +124,63 @@ fn vertices_are_found_by_name(rt: HostRuntime) -> Result<(), Fail> {
     );
     Ok(())
 }
+
+fn child(name: u64, source: Vertex, position: Position, ctor: Ctor) -> Edge {
+    Edge {
+        name: Name {
+            author: 1,
+            counter: name,
+        },
+        source,
+        position,
+        target: Vertex {
+            name: Name {
+                author: 2,
+                counter: 1,
+            },
+            ctor,
+        },
+    }
+}
+
+#[test]
+fn a_deleted_edge_keeps_its_counter(rt: HostRuntime) -> Result<(), Fail> {
+    let deletion = Edit::delete(below_root(1, Ctor::Num(7)))?;
+    let mut store = GraphStore::new(rt.alloc());
+    assert_eq!(rt; store.greatest(1), 0);
+    raise(&mut store, &deletion)?;
+    assert_eq!(rt; store.greatest(1), 2);
+    assert_eq!(rt; store.greatest(2), 0);
+    Ok(())
+}
+
+#[test]
+fn the_parts_of_a_graph_are_listed(rt: HostRuntime) -> Result<(), Fail> {
+    let first = below_root(1, Ctor::Ap);
+    let root = first.source;
+    let ap = first.target;
+    let second = child(3, ap, Position::Fun, Ctor::Num(1));
+    let third = child(4, ap, Position::Arg, Ctor::Num(2));
+    let mut store = GraphStore::new(rt.alloc());
+    let edits = [
+        Edit::insert(third)?,
+        Edit::insert(first)?,
+        Edit::insert(second)?,
+    ];
+    store.raise_each(&edits)?;
+    let name = second.target.name;
+    assert_eq!(rt;
+        store.vertices_named(name),
+        Named::More(second.target, third.target)
+    );
+    let edges = store.live_edges(rt.alloc())?;
+    assert_eq!(rt; edges.as_slice(), [first, second, third].as_slice());
+    let vertices = store.vertices(rt.alloc())?;
+    assert_eq!(rt;
+        vertices.as_slice(),
+        [root, ap, second.target, third.target].as_slice()
+    );
+    assert_eq!(rt; store.greatest(1), 4);
+    assert_eq!(rt; store.greatest(2), 1);
+    Ok(())
+}

@@ -2,13 +2,13 @@
 #![tactic(auto)]
 
 mod child;
-// mod decomposition;
+mod decomposition;
 mod descent;
 mod heads;
 mod no_memory;
 mod place;
 mod task;
 
-// pub use decomposition::decompose;
+pub use decomposition::decompose;
 pub use no_memory::NoMemory;
 

@@ -32,6 +32,12 @@ impl From<graph_store::NoMemory> for NoMemory {
     }
 }
 
+impl From<unicycle_roots::NoMemory> for NoMemory {
+    fn from(_error: unicycle_roots::NoMemory) -> NoMemory {
+        NoMemory
+    }
+}
+
 impl From<grove_terms::NoMemory> for NoMemory {
     fn from(_error: grove_terms::NoMemory) -> NoMemory {
         NoMemory

@@ -1,0 +1,58 @@
+ghost use Rattle.std.specs.Prelude.{◌≡◌, ◌<◌, IfOk};
+ghost use Rattle.walks.specs.Whole.{AreLive};
+ghost use Rattle.edge_index.specs.Lists.{live};
+ghost use Rattle.graph_store.specs.Store.{state_in};
+ghost use Rattle.grove_terms.specs.Grove.{IsGrove};
+
+use crate::descent::trees_of;
+use crate::heads::find_heads;
+use crate::no_memory::NoMemory;
+use child_index::ChildIndex;
+use graph_store::GraphStore;
+use grove_terms::Grove;
+use parent_index::ParentIndex;
+use std::alloc::Global;
+use std::marker::Brand;
+use std::sync::ledger::{Blank, Ledger};
+use unicycle_roots::cycle_roots;
+use walks::Steps;
+
+/// The grove of the graph that a store holds, of which the indexes hold the live edges. Its time is about linear in the number of
+/// edges, and it does not recurse.
+pub fn decompose(
+    alloc: Global,
+    store: &GraphStore,
+    children: &ChildIndex,
+    parents: &ParentIndex,
+) -> Result<Grove, NoMemory>
+    requires children { AreLive (state_in store.now) (live children.now) }
+    requires parents { AreLive (state_in store.now) (live parents.now) }
+    ensures grove { IfOk result (λ grove. IsGrove (state_in store.now) grove) }
+{
+    decompose_counting::<Brand>(alloc, store, children, parents, Blank::new(1))
+}
+
+fn decompose_counting<L: Ledger>(
+    alloc: Global,
+    store: &GraphStore,
+    children: &ChildIndex,
+    parents: &ParentIndex,
+    blank: Blank,
+) -> Result<Grove, NoMemory>
+    requires name { blank.name ≡ L.name }
+    requires parts { blank.parts ≡ L.parts }
+    requires some { 0 < blank.parts }
+    requires children { AreLive (state_in store.now) (live children.now) }
+    requires parents { AreLive (state_in store.now) (live parents.now) }
+    ensures grove { IfOk result (λ grove. IsGrove (state_in store.now) grove) }
+{
+    let mut steps = Steps::<L>::new(blank);
+    let vertices = store.vertices(alloc)?;
+    let heads = find_heads(alloc, &vertices, parents, &mut steps)?;
+    let cycles = cycle_roots(alloc, &vertices, parents, &mut steps)?;
+    Ok(Grove {
+        none: trees_of(alloc, &heads.none, children, parents, &mut steps)?,
+        multi: trees_of(alloc, &heads.multi, children, parents, &mut steps)?,
+        cycle: trees_of(alloc, &cycles, children, parents, &mut steps)?,
+    })
+}
