@@ -4,12 +4,14 @@ use Rattle.grove_sorts.specs.Ctor.{positions}
 use Rattle.grove_edits.specs.declared.vertex.Vertex.{Vertex}
 use Rattle.grove_edits.specs.declared.edge.Edge.{Edge}
 use Rattle.std.specs.List.{AllByRecursion}
+use Rattle.walks.specs.declared.class.Class.{Class}
 use Rattle.walks.specs.declared.class.Class.TheVariants.{Inner}
-use Rattle.walks.specs.Class.{class}
+use Rattle.walks.specs.Class.{class, of_class}
 use Rattle.grove_terms.specs.declared.node.Node.{Node}
 use Rattle.grove_terms.specs.Nodes.{head_node, nodes_under, tree_nodes}
 use Rattle.grove_terms.specs.Grove.{IsTreeOf, AreTreesOf}
 use Rattle.grove_terms.proofs.Forests.{forest_of, root_stands}
+use Rattle.grove_terms.proofs.OneGrove.{all_of_class}
 use Rattle.grove_decompose.specs.declared.task.Task.{Task}
 use Rattle.grove_decompose.specs.Tasks.{todo, task_nodes, place_tasks, step_nodes, step_tasks, IsSound}
 use Rattle.grove_decompose.proofs.Places.{todo-append, under-tasks}
@@ -82,3 +84,15 @@ pub all_trees : (live : List Edge) (all left : List Vertex) (trees : List (List 
 all_trees live all left trees so_far none =
     let at : AreSoFar live all [] trees = subst (λ (vs : List Vertex). AreSoFar live all vs trees) none so_far in
     subst (AreTreesOf live all) (append-nil trees) (at.trees [] tt)
+
+outer_from : (c : Class) (live : List Edge) (vs : List Vertex) → (c ≡ Inner → ⊥) → AllByRecursion (λ v. class live v ≡ c) vs → AllByRecursion (λ v. class live v ≡ Inner → ⊥) vs
+outer_from c live [] other all = tt
+outer_from c live (v ∷ vs) other all = (λ inner. other (sym all.0 ∙ inner), outer_from c live vs other all.1)
+
+-- vertices of another class are not inner
+pub outer_of_class : (c : Class) (live : List Edge) (vertices roots : List Vertex) → (c ≡ Inner → ⊥) → roots ≡ of_class c live vertices → AllByRecursion (λ v. class live v ≡ Inner → ⊥) roots
+outer_of_class c live vertices roots other are =
+    subst (AllByRecursion (λ v. class live v ≡ Inner → ⊥)) (sym are) (outer_from c live (of_class c live vertices) other (all_of_class c live vertices))
+
+pub trees_along : (live : List Edge) (roots vs : List Vertex) (trees : List (List Node)) → roots ≡ vs → AreTreesOf live roots trees → AreTreesOf live vs trees
+trees_along live roots vs trees are of_roots = subst (λ (us : List Vertex). AreTreesOf live us trees) are of_roots
