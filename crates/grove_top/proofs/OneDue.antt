@@ -1,22 +1,27 @@
 -- For any words and bytes one status and one text are due.
 use Rattle.std.specs.declared.alloc.Global.{Global}
-use Rattle.std.proofs.Common.{◌≡◌, ◌⊎◌, inl, inr, ℕ, List, refl, sym, ap, subst, ◌∙◌, arith}
+use Rattle.std.proofs.Common.{◌≡◌, ◌⊎◌, inl, inr, ℕ, List, [], ◌∷◌, refl, sym, ap, subst, ◌∙◌, arith}
 use Rattle.std.specs.Prelude.{String}
 use Rattle.grove_edits.specs.declared.edit.Edit.{Edit}
 use Rattle.grove_edits.specs.Graph.{graph, IsCanonical, HasSameEdits}
 use Rattle.grove_edits.proofs.Graphs.{graph-same_edits}
 use Rattle.grove_edits.proofs.Unique.{canonical_once}
+use Rattle.grove_terms.specs.Grove.{IsGrove}
+use Rattle.grove_terms.proofs.OneGrove.{one_grove, same_edits_same_grove}
+use Rattle.grove_printer.specs.Print.{print_text}
 use Rattle.edit_text.specs.declared.line_fault.LineFault.{LineFault}
 use Rattle.edit_text.specs.declared.line_fault.LineFault.TheVariants as lines
 use Rattle.edit_text.specs.Text.{text_of, IsMalformed, HasRest}
 use Rattle.edit_text.proofs.TextsOfEdits.{one_list, not_malformed, no_rest, one_line, malformed_or_rest, one_rest}
 use Rattle.grove_top.specs.FaultOfLine.{fault_of_line}
-use Rattle.grove_top.specs.Words.{AreMerge}
+use Rattle.grove_top.specs.declared.command.Command.{Command}
+use Rattle.grove_top.specs.declared.command.Command.TheVariants.{Merge, Show}
+use Rattle.grove_top.specs.Words.{word_of, AreOf, AreOfNone}
 use Rattle.grove_top.specs.declared.outcome.Fault.{Fault}
 use Rattle.grove_top.specs.declared.outcome.Fault.TheVariants.{Syntax, BadVertex, NoPosition, WrongSort, Rest}
 use Rattle.grove_top.specs.declared.outcome.Status.{Status}
 use Rattle.grove_top.specs.declared.outcome.Status.TheVariants.{Done, Usage, Malformed, TooLong, ReadFault, WriteFault, NoMemory}
-use Rattle.grove_top.specs.Due.{IsDue, IsMergeDue, IsMerged, IsFirstFault, malformed_text, usage_text}
+use Rattle.grove_top.specs.Due.{IsDue, IsCommandDue, IsMerged, IsShown, IsAnswered, IsFirstFault, malformed_text, usage_text}
 
 -- a fault of a text is that of a line, or a rest
 fault_split : (text : List ℕ) (line : ℕ) (fault : Fault) → IsFirstFault text line fault → ((fault ≡ Rest) × HasRest text line) ⊎ ((of_line : LineFault) × (fault ≡ fault_of_line of_line) × IsMalformed text line of_line)
@@ -47,11 +52,12 @@ no_fault_by edits line fault (inr bad) = not_malformed edits line bad.0 bad.2
 pub no_fault : (edits : List Edit) (line : ℕ) (fault : Fault) → IsFirstFault (text_of edits) line fault → ⊥
 no_fault edits line fault h = no_fault_by edits line fault (fault_split (text_of edits) line fault h)
 
-merged_or_fault : (text merged : List ℕ) (line : ℕ) (fault : Fault) → IsMerged text merged → IsFirstFault text line fault → ⊥
-merged_or_fault text merged line fault is_merged h = no_fault is_merged.edits line fault (subst (λ (t : List ℕ). IsFirstFault t line fault) is_merged.spelled h)
+answered_or_fault : (command : Command) (text answer : List ℕ) (line : ℕ) (fault : Fault) → IsAnswered command text answer → IsFirstFault text line fault → ⊥
+answered_or_fault Merge text answer line fault is h = no_fault is.edits line fault (subst (λ (t : List ℕ). IsFirstFault t line fault) is.spelled h)
+answered_or_fault Show text answer line fault is h = no_fault is.edits line fault (subst (λ (t : List ℕ). IsFirstFault t line fault) is.spelled h)
 
 -- texts that spell the same edits merge to the same text
-pub merged_alike : (a b : List Edit) (x y : List ℕ) → HasSameEdits a b → IsMerged (text_of a) x → IsMerged (text_of b) y → x ≡ y
+merged_alike : (a b : List Edit) (x y : List ℕ) → HasSameEdits a b → IsMerged (text_of a) x → IsMerged (text_of b) y → x ≡ y
 merged_alike a b x y same of_a of_b =
     let edits_a : a ≡ of_a.edits = one_list a of_a.edits of_a.spelled in
     let edits_b : b ≡ of_b.edits = one_list b of_b.edits of_b.spelled in
@@ -60,49 +66,80 @@ merged_alike a b x y same of_a of_b =
     let moved : IsCanonical (graph b) of_a.canonical = record { in_order = canonical_a.in_order; same = λ e. canonical_a.same e ∙ graph-same_edits a b same.0 same.1 e } in
     of_a.written ∙ ap text_of (canonical_once (graph b) of_a.canonical of_b.canonical moved canonical_b) ∙ sym of_b.written
 
--- a text merges to one text
-one_merged : (text x y : List ℕ) → IsMerged text x → IsMerged text y → x ≡ y
-one_merged text x y a b =
+-- texts that spell the same edits show the same text
+shown_alike : (a b : List Edit) (x y : List ℕ) → HasSameEdits a b → IsShown (text_of a) x → IsShown (text_of b) y → x ≡ y
+shown_alike a b x y same of_a of_b =
+    let edits_a : a ≡ of_a.edits = one_list a of_a.edits of_a.spelled in
+    let edits_b : b ≡ of_b.edits = one_list b of_b.edits of_b.spelled in
+    let grove_a : IsGrove (graph a) of_a.grove = subst (λ (edits : List Edit). IsGrove (graph edits) of_a.grove) (sym edits_a) of_a.is_grove in
+    let grove_b : IsGrove (graph b) of_b.grove = subst (λ (edits : List Edit). IsGrove (graph edits) of_b.grove) (sym edits_b) of_b.is_grove in
+    of_a.written ∙ ap print_text (same_edits_same_grove a b of_a.grove of_b.grove same grove_a grove_b) ∙ sym of_b.written
+
+-- texts that spell the same edits get the same answer
+pub answered_alike : (command : Command) (a b : List Edit) (x y : List ℕ) → HasSameEdits a b → IsAnswered command (text_of a) x → IsAnswered command (text_of b) y → x ≡ y
+answered_alike Merge a b x y same of_a of_b = merged_alike a b x y same of_a of_b
+answered_alike Show a b x y same of_a of_b = shown_alike a b x y same of_a of_b
+
+-- a text gets one answer
+one_answer : (command : Command) (text x y : List ℕ) → IsAnswered command text x → IsAnswered command text y → x ≡ y
+one_answer Merge text x y a b =
     let edits : a.edits ≡ b.edits = one_list a.edits b.edits (sym a.spelled ∙ b.spelled) in
     let moved : IsCanonical (graph b.edits) a.canonical = subst (λ (es : List Edit). IsCanonical (graph es) a.canonical) edits a.is_canonical in
     a.written ∙ ap text_of (canonical_once (graph b.edits) a.canonical b.canonical moved b.is_canonical) ∙ sym b.written
+one_answer Show text x y a b =
+    let edits : a.edits ≡ b.edits = one_list a.edits b.edits (sym a.spelled ∙ b.spelled) in
+    let moved : IsGrove (graph b.edits) a.grove = subst (λ (es : List Edit). IsGrove (graph es) a.grove) edits a.is_grove in
+    a.written ∙ ap print_text (one_grove (graph b.edits) a.grove b.grove moved b.is_grove) ∙ sym b.written
 
 malformed_alike : (m n : ℕ) (f g : Fault) → m ≡ n → f ≡ g → (Malformed m f ≡ Malformed n g) × (malformed_text m f ≡ malformed_text n g)
 malformed_alike m n f g e d = (ap (λ k. Malformed k f) e ∙ ap (Malformed n) d, ap (λ k. malformed_text k f) e ∙ ap (malformed_text n) d)
 
-one_merge_due : (text x y : List ℕ) (s t : Status) → IsMergeDue text s x → IsMergeDue text t y → (s ≡ t) × (x ≡ y)
-one_merge_due text x y Done Done a b = (refl, one_merged text x y a.1 b.1)
-one_merge_due text x y Done (Malformed n g) a b = absurd (merged_or_fault text x n g a.1 b.1)
-one_merge_due text x y Done TooLong a b = let short = a.0 in let long = b.0 in absurd (omega arith)
-one_merge_due text x y Done Usage a b = absurd b
-one_merge_due text x y Done ReadFault a b = absurd b
-one_merge_due text x y Done WriteFault a b = absurd b
-one_merge_due text x y Done NoMemory a b = absurd b
-one_merge_due text x y (Malformed m f) Done a b = absurd (merged_or_fault text y m f b.1 a.1)
-one_merge_due text x y (Malformed m f) (Malformed n g) a b =
+one_command_due : (command : Command) (text x y : List ℕ) (s t : Status) → IsCommandDue command text s x → IsCommandDue command text t y → (s ≡ t) × (x ≡ y)
+one_command_due command text x y Done Done a b = (refl, one_answer command text x y a.1 b.1)
+one_command_due command text x y Done (Malformed n g) a b = absurd (answered_or_fault command text x n g a.1 b.1)
+one_command_due command text x y Done TooLong a b = let short = a.0 in let long = b.0 in absurd (omega arith)
+one_command_due command text x y Done Usage a b = absurd b
+one_command_due command text x y Done ReadFault a b = absurd b
+one_command_due command text x y Done WriteFault a b = absurd b
+one_command_due command text x y Done NoMemory a b = absurd b
+one_command_due command text x y (Malformed m f) Done a b = absurd (answered_or_fault command text y m f b.1 a.1)
+one_command_due command text x y (Malformed m f) (Malformed n g) a b =
     let both = one_fault text m n f g a.1 b.1 in
     let alike = malformed_alike m n f g both.0 both.1 in
     (alike.0, a.2 ∙ alike.1 ∙ sym b.2)
-one_merge_due text x y (Malformed m f) TooLong a b = let short = a.0 in let long = b.0 in absurd (omega arith)
-one_merge_due text x y (Malformed m f) Usage a b = absurd b
-one_merge_due text x y (Malformed m f) ReadFault a b = absurd b
-one_merge_due text x y (Malformed m f) WriteFault a b = absurd b
-one_merge_due text x y (Malformed m f) NoMemory a b = absurd b
-one_merge_due text x y TooLong Done a b = let long = a.0 in let short = b.0 in absurd (omega arith)
-one_merge_due text x y TooLong (Malformed n g) a b = let long = a.0 in let short = b.0 in absurd (omega arith)
-one_merge_due text x y TooLong TooLong a b = (refl, a.1 ∙ sym b.1)
-one_merge_due text x y TooLong Usage a b = absurd b
-one_merge_due text x y TooLong ReadFault a b = absurd b
-one_merge_due text x y TooLong WriteFault a b = absurd b
-one_merge_due text x y TooLong NoMemory a b = absurd b
-one_merge_due text x y Usage t a b = absurd a
-one_merge_due text x y ReadFault t a b = absurd a
-one_merge_due text x y WriteFault t a b = absurd a
-one_merge_due text x y NoMemory t a b = absurd a
+one_command_due command text x y (Malformed m f) TooLong a b = let short = a.0 in let long = b.0 in absurd (omega arith)
+one_command_due command text x y (Malformed m f) Usage a b = absurd b
+one_command_due command text x y (Malformed m f) ReadFault a b = absurd b
+one_command_due command text x y (Malformed m f) WriteFault a b = absurd b
+one_command_due command text x y (Malformed m f) NoMemory a b = absurd b
+one_command_due command text x y TooLong Done a b = let long = a.0 in let short = b.0 in absurd (omega arith)
+one_command_due command text x y TooLong (Malformed n g) a b = let long = a.0 in let short = b.0 in absurd (omega arith)
+one_command_due command text x y TooLong TooLong a b = (refl, a.1 ∙ sym b.1)
+one_command_due command text x y TooLong Usage a b = absurd b
+one_command_due command text x y TooLong ReadFault a b = absurd b
+one_command_due command text x y TooLong WriteFault a b = absurd b
+one_command_due command text x y TooLong NoMemory a b = absurd b
+one_command_due command text x y Usage t a b = absurd a
+one_command_due command text x y ReadFault t a b = absurd a
+one_command_due command text x y WriteFault t a b = absurd a
+one_command_due command text x y NoMemory t a b = absurd a
 
--- what is due is the usage line, or is due for merge
+-- the words are those of one command at most
+one_command_by : (c d : Command) → word_of c ≡ word_of d → c ≡ d
+one_command_by Merge Merge e = refl
+one_command_by Merge Show e = absurd cc
+one_command_by Show Merge e = absurd cc
+one_command_by Show Show e = refl
+
+tail_same : (x y : List ℕ) → x ∷ [] ≡ y ∷ [] → x ≡ y
+tail_same x y e = cc
+
+one_command : (words : List (String Global)) (c d : Command) → AreOf c words → AreOf d words → c ≡ d
+one_command words c d a b = one_command_by c d (tail_same (word_of c) (word_of d) (sym a ∙ b))
+
+-- what is due is the usage line, or is due for a command
 abbrev Split : List (String Global) → List ℕ → Status → List ℕ → Type 0
-Split words text status due = ((status ≡ Usage) × ¬ AreMerge words × (due ≡ usage_text)) ⊎ (AreMerge words × IsMergeDue text status due)
+Split words text status due = ((status ≡ Usage) × AreOfNone words × (due ≡ usage_text)) ⊎ ((command : Command) × AreOf command words × IsCommandDue command text status due)
 
 due_split : (words : List (String Global)) (text due : List ℕ) (status : Status) → IsDue words text status due → Split words text status due
 due_split words text due Done h = inr h
@@ -115,9 +152,11 @@ due_split words text due NoMemory h = inr h
 
 one_due_by : (words : List (String Global)) (text x y : List ℕ) (s t : Status) → Split words text s x → Split words text t y → (s ≡ t) × (x ≡ y)
 one_due_by words text x y s t (inl a) (inl b) = (a.0 ∙ sym b.0, a.2 ∙ sym b.2)
-one_due_by words text x y s t (inl a) (inr b) = absurd (a.1 b.0)
-one_due_by words text x y s t (inr a) (inl b) = absurd (b.1 a.0)
-one_due_by words text x y s t (inr a) (inr b) = one_merge_due text x y s t a.1 b.1
+one_due_by words text x y s t (inl a) (inr b) = absurd (a.1 b.0 b.1)
+one_due_by words text x y s t (inr a) (inl b) = absurd (b.1 a.0 a.1)
+one_due_by words text x y s t (inr a) (inr b) =
+    let same : a.0 ≡ b.0 = one_command words a.0 b.0 a.1 b.1 in
+    one_command_due b.0 text x y s t (subst (λ (c : Command). IsCommandDue c text s x) same a.2) b.2
 
 pub one_due : (words : List (String Global)) (text : List ℕ) (s t : Status) (x y : List ℕ) → IsDue words text s x → IsDue words text t y → (s ≡ t) × (x ≡ y)
 one_due words text s t x y a b = one_due_by words text x y s t (due_split words text x s a) (due_split words text y t b)

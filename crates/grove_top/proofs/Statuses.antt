@@ -6,10 +6,11 @@ use Rattle.grove_io.specs.Outside.{HasRisen, Gave, Took, IsAtEnd}
 use Rattle.grove_top.specs.declared.limit.TheConstants.{MOST_BYTES}
 use Rattle.grove_top.specs.declared.outcome.Status.{Status}
 use Rattle.grove_top.specs.declared.outcome.Status.TheVariants.{Done, Usage, Malformed, TooLong, ReadFault, WriteFault, NoMemory}
-use Rattle.grove_top.specs.Words.{AreMerge}
+use Rattle.grove_top.specs.declared.command.Command.{Command}
+use Rattle.grove_top.specs.Words.{AreOf, AreOfNone}
 use Rattle.grove_edits.specs.declared.edit.Edit.{Edit}
 use Rattle.edit_text.specs.Text.{text_of}
-use Rattle.grove_top.specs.Due.{IsDue, IsMergeDue, IsFirstFault, usage_text, too_long_text}
+use Rattle.grove_top.specs.Due.{IsDue, IsCommandDue, IsFirstFault, usage_text, too_long_text}
 use Rattle.grove_top.proofs.OneDue.{no_fault}
 use Rattle.grove_top.specs.Meets.{Outside, Meets}
 
@@ -30,45 +31,45 @@ pub gave_nothing : (left : Option (List ℕ)) → Gave left [] left
 gave_nothing None = refl
 gave_nothing (Some bytes) = refl
 
-pub usage_meets : (words : List (String Global)) (before after : Outside) (result : Status) → ¬ AreMerge words → before.left ≡ after.left → Wrote Usage usage_text before after result → Meets words before after result
+pub usage_meets : (words : List (String Global)) (before after : Outside) (result : Status) → AreOfNone words → before.left ≡ after.left → Wrote Usage usage_text before after result → Meets words before after result
 usage_meets words before after result none same wrote =
     let gave : Gave before.left [] after.left = subst (Gave before.left []) same (gave_nothing before.left) in
     wrote_meets words before after Usage result [] usage_text gave (none, refl)
     (λ took. (record { text = []; due = usage_text; gave = gave; is_due = (none, refl); took = took }, refl)) wrote
 
-pub too_long_meets : (words : List (String Global)) (before after : Outside) (result : Status) (text : List ℕ) → AreMerge words → length text ≡ MOST_BYTES + 1 → Gave before.left text after.left
+pub too_long_meets : (words : List (String Global)) (before after : Outside) (result : Status) (text : List ℕ) (command : Command) → AreOf command words → length text ≡ MOST_BYTES + 1 → Gave before.left text after.left
     → Wrote TooLong too_long_text before after result → Meets words before after result
-too_long_meets words before after result text merge long gave wrote =
+too_long_meets words before after result text command are long gave wrote =
     let more : MOST_BYTES < length text = omega arith in
-    wrote_meets words before after TooLong result text too_long_text gave (merge, (more, refl))
-    (λ took. (record { text = text; due = too_long_text; gave = gave; is_due = (merge, (more, refl)); took = took }, long)) wrote
+    wrote_meets words before after TooLong result text too_long_text gave (command, are, (more, refl))
+    (λ took. (record { text = text; due = too_long_text; gave = gave; is_due = (command, are, (more, refl)); took = took }, long)) wrote
 
-pub merge_due : (words : List (String Global)) (text due : List ℕ) (status : Status) → AreMerge words → IsMergeDue text status due → IsDue words text status due
-merge_due words text due Done merge is_due = (merge, is_due)
-merge_due words text due Usage merge is_due = absurd is_due
-merge_due words text due (Malformed line fault) merge is_due = (merge, is_due)
-merge_due words text due TooLong merge is_due = (merge, is_due)
-merge_due words text due ReadFault merge is_due = absurd is_due
-merge_due words text due WriteFault merge is_due = absurd is_due
-merge_due words text due NoMemory merge is_due = absurd is_due
+pub command_due : (words : List (String Global)) (text due : List ℕ) (status : Status) (command : Command) → AreOf command words → IsCommandDue command text status due → IsDue words text status due
+command_due words text due Done command are is_due = (command, are, is_due)
+command_due words text due Usage command are is_due = absurd is_due
+command_due words text due (Malformed line fault) command are is_due = (command, are, is_due)
+command_due words text due TooLong command are is_due = (command, are, is_due)
+command_due words text due ReadFault command are is_due = absurd is_due
+command_due words text due WriteFault command are is_due = absurd is_due
+command_due words text due NoMemory command are is_due = absurd is_due
 
-whole_meets : (words : List (String Global)) (before after : Outside) (text due : List ℕ) (status : Status) → AreMerge words → length text ≤ MOST_BYTES → Gave before.left text after.left → IsAtEnd after.left
-    → IsMergeDue text status due → Took before.taken due after.taken → Meets words before after status
-whole_meets words before after text due Done merge short gave at_end is_due took =
-    record { answers = record { text = text; due = due; gave = gave; is_due = (merge, is_due); took = took }; at_end = at_end }
-whole_meets words before after text due Usage merge short gave at_end is_due took = absurd is_due
-whole_meets words before after text due (Malformed line fault) merge short gave at_end is_due took =
-    record { answers = record { text = text; due = due; gave = gave; is_due = (merge, is_due); took = took }; at_end = at_end }
-whole_meets words before after text due TooLong merge short gave at_end is_due took = let long = is_due.0 in absurd (omega arith)
-whole_meets words before after text due ReadFault merge short gave at_end is_due took = absurd is_due
-whole_meets words before after text due WriteFault merge short gave at_end is_due took = absurd is_due
-whole_meets words before after text due NoMemory merge short gave at_end is_due took = absurd is_due
+whole_meets : (words : List (String Global)) (before after : Outside) (text due : List ℕ) (status : Status) (command : Command) → AreOf command words → length text ≤ MOST_BYTES → Gave before.left text after.left
+    → IsAtEnd after.left → IsCommandDue command text status due → Took before.taken due after.taken → Meets words before after status
+whole_meets words before after text due Done command are short gave at_end is_due took =
+    record { answers = record { text = text; due = due; gave = gave; is_due = (command, are, is_due); took = took }; at_end = at_end }
+whole_meets words before after text due Usage command are short gave at_end is_due took = absurd is_due
+whole_meets words before after text due (Malformed line fault) command are short gave at_end is_due took =
+    record { answers = record { text = text; due = due; gave = gave; is_due = (command, are, is_due); took = took }; at_end = at_end }
+whole_meets words before after text due TooLong command are short gave at_end is_due took = let long = is_due.0 in absurd (omega arith)
+whole_meets words before after text due ReadFault command are short gave at_end is_due took = absurd is_due
+whole_meets words before after text due WriteFault command are short gave at_end is_due took = absurd is_due
+whole_meets words before after text due NoMemory command are short gave at_end is_due took = absurd is_due
 
-pub merge_meets : (words : List (String Global)) (before after : Outside) (text due written : List ℕ) (status result : Status) → AreMerge words → length text ≤ MOST_BYTES → Gave before.left text after.left → IsAtEnd after.left
-    → IsMergeDue text status due → written ≡ due → Wrote status written before after result → Meets words before after result
-merge_meets words before after text due written status result merge short gave at_end is_due same wrote =
-    wrote_meets words before after status result text due gave (merge_due words text due status merge is_due)
-    (whole_meets words before after text due status merge short gave at_end is_due)
+pub command_meets : (words : List (String Global)) (before after : Outside) (text due written : List ℕ) (status result : Status) (command : Command) → AreOf command words → length text ≤ MOST_BYTES
+    → Gave before.left text after.left → IsAtEnd after.left → IsCommandDue command text status due → written ≡ due → Wrote status written before after result → Meets words before after result
+command_meets words before after text due written status result command are short gave at_end is_due same wrote =
+    wrote_meets words before after status result text due gave (command_due words text due status command are is_due)
+    (whole_meets words before after text due status command are short gave at_end is_due)
     (subst (λ (t : List ℕ). Wrote status t before after result) same wrote)
 
 -- ---- a good input is answered
@@ -86,19 +87,19 @@ gave_part : (told text : List ℕ) (left : Option (List ℕ)) → Gave (Some tol
 gave_part told text None gave = absurd cc
 gave_part told text (Some rest) gave = omega (arith, ap length (some_is told (text ++ rest) gave), length-append text rest)
 
-pub complete : (words : List (String Global)) (before after : Outside) (status : Status) (edits : List Edit) → Meets words before after status → AreMerge words
+pub complete : (words : List (String Global)) (before after : Outside) (status : Status) (command : Command) (edits : List Edit) → Meets words before after status → AreOf command words
     → before.left ≡ Some (text_of edits) → length (text_of edits) ≤ MOST_BYTES → ¬ HasRisen before.read_faults after.read_faults → ¬ HasRisen before.write_faults after.write_faults
     → (status ≡ Done) ⊎ (status ≡ NoMemory)
-complete words before after Done edits meets merge told short no_read no_write = inl refl
-complete words before after Usage edits meets merge told short no_read no_write = absurd (meets.0.is_due.0 merge)
-complete words before after (Malformed line fault) edits meets merge told short no_read no_write =
+complete words before after Done command edits meets are told short no_read no_write = inl refl
+complete words before after Usage command edits meets are told short no_read no_write = absurd (meets.0.is_due.0 command are)
+complete words before after (Malformed line fault) command edits meets are told short no_read no_write =
     let answers = meets.answers in
     let all : text_of edits ≡ answers.text = gave_all (text_of edits) answers.text after.left (subst (λ left. Gave left answers.text after.left) told answers.gave) meets.at_end in
-    absurd (no_fault edits line fault (subst (λ (t : List ℕ). IsFirstFault t line fault) (sym all) answers.is_due.1.1))
-complete words before after TooLong edits meets merge told short no_read no_write =
+    absurd (no_fault edits line fault (subst (λ (t : List ℕ). IsFirstFault t line fault) (sym all) answers.is_due.2.1))
+complete words before after TooLong command edits meets are told short no_read no_write =
     let few : length meets.0.text ≤ length (text_of edits) = gave_part (text_of edits) meets.0.text after.left (subst (λ left. Gave left meets.0.text after.left) told meets.0.gave) in
     let long = meets.1 in
     absurd (omega arith)
-complete words before after ReadFault edits meets merge told short no_read no_write = absurd (no_read meets.0)
-complete words before after WriteFault edits meets merge told short no_read no_write = absurd (no_write meets.failed)
-complete words before after NoMemory edits meets merge told short no_read no_write = inr refl
+complete words before after ReadFault command edits meets are told short no_read no_write = absurd (no_read meets.0)
+complete words before after WriteFault command edits meets are told short no_read no_write = absurd (no_write meets.failed)
+complete words before after NoMemory command edits meets are told short no_read no_write = inr refl

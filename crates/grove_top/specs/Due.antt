@@ -3,6 +3,9 @@ use Rattle.std.specs.declared.alloc.Global.{Global}
 use Rattle.std.specs.Prelude.{String, ◌≡◌, ℕ, ◌<◌, ◌≤◌, List, [], ◌∷◌, ◌++◌, length, codes, decimal}
 use Rattle.grove_edits.specs.declared.edit.Edit.{Edit}
 use Rattle.grove_edits.specs.Graph.{graph, IsCanonical}
+use Rattle.grove_terms.specs.declared.grove.Grove.{Grove}
+use Rattle.grove_terms.specs.Grove.{IsGrove}
+use Rattle.grove_printer.specs.Print.{print_text}
 use Rattle.edit_text.specs.declared.line_fault.LineFault.TheVariants as lines
 use Rattle.edit_text.specs.Text.{text_of, IsMalformed, HasRest}
 use Rattle.grove_top.specs.declared.limit.TheConstants.{MOST_BYTES}
@@ -10,7 +13,9 @@ use Rattle.grove_top.specs.declared.outcome.Fault.{Fault}
 use Rattle.grove_top.specs.declared.outcome.Fault.TheVariants.{Syntax, BadVertex, NoPosition, WrongSort, Rest}
 use Rattle.grove_top.specs.declared.outcome.Status.{Status}
 use Rattle.grove_top.specs.declared.outcome.Status.TheVariants.{Done, Usage, Malformed, TooLong, ReadFault, WriteFault, NoMemory}
-use Rattle.grove_top.specs.Words.{AreMerge}
+use Rattle.grove_top.specs.declared.command.Command.{Command}
+use Rattle.grove_top.specs.declared.command.Command.TheVariants.{Merge, Show}
+use Rattle.grove_top.specs.Words.{AreOf, AreOfNone}
 
 -- what is written where the words are those of no command
 abbrev pub usage_text : List ℕ
@@ -47,17 +52,30 @@ pub record IsMerged (text merged : List ℕ) : Type 0 where
   pub is_canonical : IsCanonical (graph edits) canonical
   pub written : merged ≡ text_of canonical
 
--- what is due for the words of `merge`
-abbrev pub IsMergeDue : List ℕ → Status → List ℕ → Type 0
-IsMergeDue text TooLong due = (MOST_BYTES < length text) × (due ≡ too_long_text)
-IsMergeDue text (Malformed line fault) due = (length text ≤ MOST_BYTES) × IsFirstFault text line fault × (due ≡ malformed_text line fault)
-IsMergeDue text Done due = (length text ≤ MOST_BYTES) × IsMerged text due
-IsMergeDue text Usage due = ⊥
-IsMergeDue text ReadFault due = ⊥
-IsMergeDue text WriteFault due = ⊥
-IsMergeDue text NoMemory due = ⊥
+-- the print text of the grove of the graph of the edits that a text spells
+pub record IsShown (text shown : List ℕ) : Type 0 where
+  pub edits : List Edit
+  pub grove : Grove
+  pub spelled : text ≡ text_of edits
+  pub is_grove : IsGrove (graph edits) grove
+  pub written : shown ≡ print_text grove
+
+-- what a command makes of a good text
+abbrev pub IsAnswered : Command → List ℕ → List ℕ → Type 0
+IsAnswered Merge text answer = IsMerged text answer
+IsAnswered Show text answer = IsShown text answer
+
+-- what is due for the words of a command
+abbrev pub IsCommandDue : Command → List ℕ → Status → List ℕ → Type 0
+IsCommandDue command text TooLong due = (MOST_BYTES < length text) × (due ≡ too_long_text)
+IsCommandDue command text (Malformed line fault) due = (length text ≤ MOST_BYTES) × IsFirstFault text line fault × (due ≡ malformed_text line fault)
+IsCommandDue command text Done due = (length text ≤ MOST_BYTES) × IsAnswered command text due
+IsCommandDue command text Usage due = ⊥
+IsCommandDue command text ReadFault due = ⊥
+IsCommandDue command text WriteFault due = ⊥
+IsCommandDue command text NoMemory due = ⊥
 
 -- what is due for any words: the usage line where they are those of no command
 abbrev pub IsDue : List (String Global) → List ℕ → Status → List ℕ → Type 0
-IsDue words text Usage due = ¬ AreMerge words × (due ≡ usage_text)
-IsDue words text status due = AreMerge words × IsMergeDue text status due
+IsDue words text Usage due = AreOfNone words × (due ≡ usage_text)
+IsDue words text status due = (command : Command) × AreOf command words × IsCommandDue command text status due

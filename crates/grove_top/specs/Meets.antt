@@ -5,7 +5,8 @@ use Rattle.grove_io.specs.Outside.{HasRisen, Gave, Took, IsAtEnd}
 use Rattle.grove_top.specs.declared.limit.TheConstants.{MOST_BYTES}
 use Rattle.grove_top.specs.declared.outcome.Status.{Status}
 use Rattle.grove_top.specs.declared.outcome.Status.TheVariants.{Done, Usage, Malformed, TooLong, ReadFault, WriteFault, NoMemory}
-use Rattle.grove_top.specs.Words.{AreMerge}
+use Rattle.grove_top.specs.declared.command.Command.{Command}
+use Rattle.grove_top.specs.Words.{AreOf}
 use Rattle.grove_top.specs.Due.{IsDue}
 
 -- a source and a sink at one moment: the bytes left and taken, where they are told, and the counts of faults
@@ -42,7 +43,7 @@ pub record IsCutOff (words : List (String Global)) (before after : Outside) : Ty
 
 -- nothing was written, for words of a command
 pub record IsSilent (words : List (String Global)) (before after : Outside) : Type 0 where
-  pub command : AreMerge words
+  pub command : (command : Command) × AreOf command words
   pub took : Took before.taken [] after.taken
 
 abbrev pub Meets : List (String Global) → Outside → Outside → Status → Type 0

@@ -1,39 +1,77 @@
 ghost use Rattle.std.specs.Prelude.{◌≡◌, ◌≤◌, length, IfOk};
+ghost use Rattle.graph_store.specs.Store.{state_in};
+ghost use Rattle.walks.specs.Whole.{AreLive};
 ghost use Rattle.grove_top.specs.declared.limit.TheConstants.{MOST_BYTES};
-ghost use Rattle.grove_top.specs.Due.{IsMergeDue, malformed_text, fault_word};
+ghost use Rattle.grove_top.specs.Due.{IsCommandDue, malformed_text, fault_word};
+ghost use Rattle.grove_top.specs.Graph.{IsAnswerOf, IsCanonicalText, IsPrintText};
 
+use crate::command::Command;
+use crate::graph::read_graph;
 use crate::no_memory::NoMemory;
 use crate::outcome::{Fault, Status};
-use edit_text::{TextFault, read_edits, write_edits};
+use child_index::ChildIndex;
+use edit_text::{TextFault, write_edits};
+use graph_store::GraphStore;
+use grove_decompose::decompose;
+use grove_printer::print_grove;
+use parent_index::ParentIndex;
 use std::alloc::Global;
 use text_parts::write_number;
 
 /// A status, and the whole text to write with it.
 #[derive(Drop)]
-pub struct Due {
-    pub status: Status,
-    pub text: Vec<u8>,
+pub(crate) struct Due {
+    pub(crate) status: Status,
+    pub(crate) text: Vec<u8>,
 }
 
-/// What is due for `merge` on an input of at most `MOST_BYTES` bytes.
-pub fn merge(alloc: Global, text: &[u8]) -> Result<Due, NoMemory>
+/// What is due for a command on an input of at most `MOST_BYTES` bytes.
+pub(crate) fn due(alloc: Global, command: Command, text: &[u8]) -> Result<Due, NoMemory>
     requires { length text.now ≤ MOST_BYTES }
-    ensures { IfOk result (λ due. IsMergeDue text.now due.status due.text.items) }
+    ensures { IfOk result (λ due. IsCommandDue command text.now due.status due.text.items) }
 {
-    match read_edits(alloc, text) {
-        Ok(edits) => {
-            let canonical = edits.into_canonical(alloc)?;
-            let mut merged = Vec::new(alloc);
-            write_edits(canonical.as_slice(), &mut merged)?;
+    match read_graph(alloc, text) {
+        Ok(store) => {
+            let text = answer(alloc, command, &store)?;
             Ok(Due {
                 status: Status::Done,
-                text: merged,
+                text,
             })
         }
         Err(TextFault::Malformed { line, fault }) => malformed(alloc, line, Fault::from(fault)),
         Err(TextFault::Rest { line }) => malformed(alloc, line, Fault::Rest),
         Err(TextFault::NoMemory) => Err(NoMemory),
     }
+}
+
+fn answer(alloc: Global, command: Command, store: &GraphStore) -> Result<Vec<u8>, NoMemory>
+    ensures { IfOk result (λ text. IsAnswerOf command (state_in store.now) text.items) }
+{
+    match command {
+        Command::Merge => canonical_text(alloc, store),
+        Command::Show => print_text(alloc, store),
+    }
+}
+
+fn canonical_text(alloc: Global, store: &GraphStore) -> Result<Vec<u8>, NoMemory>
+    ensures { IfOk result (λ text. IsCanonicalText (state_in store.now) text.items) }
+{
+    let canonical = store.in_order(alloc)?;
+    let mut text = Vec::new(alloc);
+    write_edits(canonical.as_slice(), &mut text)?;
+    Ok(text)
+}
+
+fn print_text(alloc: Global, store: &GraphStore) -> Result<Vec<u8>, NoMemory>
+    ensures { IfOk result (λ text. IsPrintText (state_in store.now) text.items) }
+{
+    let live = store.live_edges(alloc)?;
+    let children = ChildIndex::of(alloc, &live)?;
+    let parents = ParentIndex::of(alloc, &live)?;
+    let grove = decompose(alloc, store, &children, &parents)?;
+    let mut text = Vec::new(alloc);
+    print_grove(&grove, &mut text)?;
+    Ok(text)
 }
 
 fn malformed(alloc: Global, line: u64, fault: Fault) -> Result<Due, NoMemory>

@@ -2,13 +2,16 @@
 //! What is written is what the definitions say is due for the words and the bytes; the program stands on this crate.
 #![tactic(auto)]
 
+mod command;
 mod commands;
+mod graph;
 mod laws;
 mod limit;
 mod no_memory;
 mod outcome;
 mod top;
 
+pub use command::Command;
 pub use laws::{one_text_is_due, same_edits_same_text};
 pub use limit::MOST_BYTES;
 pub use outcome::{Fault, Outcome, Status};

@@ -32,14 +32,38 @@ impl From<text_parts::NoMemory> for NoMemory {
     }
 }
 
-impl From<grove_edits::NoMemory> for NoMemory {
-    fn from(_error: grove_edits::NoMemory) -> NoMemory {
+impl From<edit_text::NoMemory> for NoMemory {
+    fn from(_error: edit_text::NoMemory) -> NoMemory {
         NoMemory
     }
 }
 
-impl From<edit_text::NoMemory> for NoMemory {
-    fn from(_error: edit_text::NoMemory) -> NoMemory {
+impl From<graph_store::NoMemory> for NoMemory {
+    fn from(_error: graph_store::NoMemory) -> NoMemory {
+        NoMemory
+    }
+}
+
+impl From<child_index::NoMemory> for NoMemory {
+    fn from(_error: child_index::NoMemory) -> NoMemory {
+        NoMemory
+    }
+}
+
+impl From<parent_index::NoMemory> for NoMemory {
+    fn from(_error: parent_index::NoMemory) -> NoMemory {
+        NoMemory
+    }
+}
+
+impl From<grove_decompose::NoMemory> for NoMemory {
+    fn from(_error: grove_decompose::NoMemory) -> NoMemory {
+        NoMemory
+    }
+}
+
+impl From<grove_printer::NoMemory> for NoMemory {
+    fn from(_error: grove_printer::NoMemory) -> NoMemory {
         NoMemory
     }
 }

@@ -1,13 +1,15 @@
-ghost use Rattle.std.specs.Prelude.{◌≡◌, ◌≢◌, ◌⊎◌, ◌<◌, ◌≤◌, ◌↔◌, ℕ, List, Some, length, take, IsTrue};
+ghost use Rattle.std.specs.Prelude.{◌≡◌, ◌≢◌, ◌⊎◌, ◌<◌, ◌≤◌, ◌↔◌, ℕ, List, [], ◌∷◌, Some, length, take, map, string_bytes, IsTrue, IfSome, IfNone};
 ghost use Rattle.grove_io.specs.Outside.{HasRisen, Gave, Took};
 ghost use Rattle.grove_edits.specs.declared.edit.Edit.{Edit};
 ghost use Rattle.edit_text.specs.Text.{text_of};
 ghost use Rattle.grove_top.specs.declared.limit.TheConstants.{MOST_BYTES};
-ghost use Rattle.grove_top.specs.Words.{AreMerge};
+ghost use Rattle.grove_top.specs.declared.command.Command.{Command};
+ghost use Rattle.grove_top.specs.Words.{AreOf, AreOfNone};
 ghost use Rattle.grove_top.specs.Due.{IsDue, usage_text, too_long_text};
 ghost use Rattle.grove_top.specs.Meets.{Meets};
 
-use crate::commands::merge;
+use crate::command::Command;
+use crate::commands::due;
 use crate::limit::MOST_BYTES;
 use crate::outcome::{Outcome, Status};
 use grove_io::{InputFault, Sink, Source, read_all, write_out};
@@ -34,7 +36,7 @@ pub fn run<S: Source, K: Sink>(
     ensures reads_nothing { result.status ≡ Status.Usage → source.new ≡ source.old }
 
     // A good input is answered, unless the outside fails or memory runs out.
-    ensures complete { (edits : List Edit) → AreMerge words.now → S.left source.old ≡ Some (text_of edits) → length (text_of edits) ≤ MOST_BYTES
+    ensures complete { (command : Command) (edits : List Edit) → AreOf command words.now → S.left source.old ≡ Some (text_of edits) → length (text_of edits) ≤ MOST_BYTES
         → ¬ HasRisen (S.faults source.old) (S.faults source.new) → ¬ HasRisen (K.faults sink.old) (K.faults sink.new)
         → (result.status ≡ Status.Done) ⊎ (result.status ≡ Status.NoMemory) }
 
@@ -64,11 +66,11 @@ fn answer<S: Source, K: Sink>(
         → ((text due : List ℕ) (status : Status) → Gave (S.left source.old) text (S.left source.new) → IsDue words.now text status due → length due ≤ room)
         → K.faults sink.new ≡ K.faults sink.old }
 {
-    if !is_merge(words) {
+    let Some(command) = command_of(words) else {
         return write(sink, Status::Usage, USAGE);
-    }
+    };
     match read_all(alloc, source, MOST_BYTES) {
-        Ok(text) => match merge(alloc, &text) {
+        Ok(text) => match due(alloc, command, &text) {
             Ok(due) => write(sink, due.status, &due.text),
             Err(_) => Status::NoMemory,
         },
@@ -78,11 +80,25 @@ fn answer<S: Source, K: Sink>(
     }
 }
 
-fn is_merge(words: &[String]) -> bool
-    ensures { IsTrue result ↔ AreMerge words.now }
+fn command_of(words: &[String]) -> Option<Command>
+    ensures found { IfSome result (λ command. AreOf command words.now) }
+    ensures none { IfNone result (AreOfNone words.now) }
+{
+    if is_word(words, "merge") {
+        Some(Command::Merge)
+    } else if is_word(words, "show") {
+        Some(Command::Show)
+    } else {
+        None
+    }
+}
+
+// Whether the words are this one alone.
+fn is_word(words: &[String], word: &str) -> bool
+    ensures { IsTrue result ↔ (map string_bytes words.now ≡ word.now ∷ []) }
 {
     match words {
-        [word] => word.as_str() == "merge",
+        [only] => only.as_str() == word,
         _ => false,
     }
 }

@@ -1,0 +1,33 @@
+-- The graph that a text spells, and what the commands make of a graph.
+use Rattle.std.specs.Prelude.{◌≡◌, ℕ, List}
+use Rattle.grove_edits.specs.declared.edit.Edit.{Edit}
+use Rattle.grove_edits.specs.Graph.{Graph, graph, IsSame, IsCanonical}
+use Rattle.edit_text.specs.Text.{text_of}
+use Rattle.graph_store.specs.Store.{well_formed}
+use Rattle.grove_terms.specs.declared.grove.Grove.{Grove}
+use Rattle.grove_terms.specs.Grove.{IsGrove}
+use Rattle.grove_printer.specs.Print.{print_text}
+use Rattle.grove_top.specs.declared.command.Command.{Command}
+use Rattle.grove_top.specs.declared.command.Command.TheVariants.{Merge, Show}
+
+-- the graph is that of the edits that the text spells
+pub record IsGraphOf (text : List ℕ) (g : Graph) : Type 0 where
+  pub edits : List Edit
+  pub spelled : text ≡ text_of edits
+  pub same : IsSame g (graph edits)
+
+-- the text of the canonical list of a graph
+pub record IsCanonicalText (g : Graph) (answer : List ℕ) : Type 0 where
+  pub canonical : List Edit
+  pub is_canonical : IsCanonical (well_formed g) canonical
+  pub written : answer ≡ text_of canonical
+
+-- the print text of the grove of a graph
+pub record IsPrintText (g : Graph) (answer : List ℕ) : Type 0 where
+  pub grove : Grove
+  pub is_grove : IsGrove g grove
+  pub written : answer ≡ print_text grove
+
+abbrev pub IsAnswerOf : Command → Graph → List ℕ → Type 0
+IsAnswerOf Merge g answer = IsCanonicalText g answer
+IsAnswerOf Show g answer = IsPrintText g answer

@@ -1,0 +1,40 @@
+ghost use Rattle.std.specs.Prelude.{◌≤◌, length, IfOk, IfErr};
+ghost use Rattle.edit_text.specs.Text.{HasTextFault};
+ghost use Rattle.graph_store.specs.Store.{state_in};
+ghost use Rattle.grove_top.specs.declared.limit.TheConstants.{MOST_BYTES};
+ghost use Rattle.grove_top.specs.Graph.{IsGraphOf};
+
+use edit_stream::{EditStream, FeedFault, FinishFault};
+use edit_text::TextFault;
+use graph_store::GraphStore;
+use grove_edits::EditList;
+use std::alloc::Global;
+
+/// The graph of the edits that a text spells, or the first line that spells none.
+pub(crate) fn read_graph(alloc: Global, text: &[u8]) -> Result<GraphStore, TextFault>
+    requires { length text.now ≤ MOST_BYTES }
+    ensures graph { IfOk result (λ store. IsGraphOf text.now (state_in store)) }
+    ensures fault { IfErr result (HasTextFault text.now) }
+{
+    let mut stream = EditStream::new(alloc);
+    let mut edits = EditList::new(alloc);
+    match stream.feed(text, &mut edits) {
+        Ok(()) => {}
+        Err(FeedFault::Malformed { line, fault }) => {
+            return Err(TextFault::Malformed { line, fault });
+        }
+        Err(FeedFault::NoMemory) => return Err(TextFault::NoMemory),
+    }
+    match stream.finish() {
+        Ok(()) => {}
+        Err(FinishFault::Malformed { line, fault }) => {
+            return Err(TextFault::Malformed { line, fault });
+        }
+        Err(FinishFault::Rest { line }) => return Err(TextFault::Rest { line }),
+    }
+    let mut store = GraphStore::new(alloc);
+    match store.raise_each(edits.as_slice()) {
+        Ok(()) => Ok(store),
+        Err(_) => Err(TextFault::NoMemory),
+    }
+}
