@@ -1,33 +1,138 @@
+ghost use Rattle.std.specs.Prelude.{◌≡◌, ◌<◌, false, OnOk};
+ghost use Rattle.walks.specs.Live.{holds_edge};
+ghost use Rattle.edge_index.specs.Ordered.{with_edge};
+ghost use Rattle.edge_index.specs.Lists.{live};
+
 use super::*;
 use grove_edits::{Edge, Vertex};
 use grove_names::Name;
 use grove_sorts::{Ctor, Position};
+use std::marker::Brand;
+use std::process::Abort;
+use std::sync::ledger::{Blank, Ledger};
+use std::test::Fail;
+use walks::Steps;
+
+const ROOT: Vertex = Vertex {
+    name: Name {
+        author: 0,
+        counter: 0,
+    },
+    ctor: Ctor::Root,
+};
+
+const PLUS: Vertex = Vertex {
+    name: Name {
+        author: 1,
+        counter: 1,
+    },
+    ctor: Ctor::Plus,
+};
+
+const SEVEN: Vertex = Vertex {
+    name: Name {
+        author: 1,
+        counter: 3,
+    },
+    ctor: Ctor::Num(7),
+};
+
+const TO_PLUS: Edge = Edge {
+    name: Name {
+        author: 1,
+        counter: 2,
+    },
+    source: ROOT,
+    position: Position::Main,
+    target: PLUS,
+};
+
+const LEFT: Edge = Edge {
+    name: Name {
+        author: 1,
+        counter: 4,
+    },
+    source: PLUS,
+    position: Position::Left,
+    target: SEVEN,
+};
+
+const RIGHT: Edge = Edge {
+    name: Name {
+        author: 1,
+        counter: 5,
+    },
+    source: PLUS,
+    position: Position::Right,
+    target: SEVEN,
+};
+
+const LEFT_AGAIN: Edge = Edge {
+    name: Name {
+        author: 1,
+        counter: 6,
+    },
+    source: PLUS,
+    position: Position::Left,
+    target: SEVEN,
+};
+
+fn put(index: &mut ChildIndex, edge: &Edge) -> Result<(), NoMemory>
+    requires new { holds_edge edge.now (live index.old) ≡ false }
+    ensures added { OnOk result (live index.new ≡ with_edge edge.now (live index.old)) }
+{
+    index.reserve_for(&[*edge])?;
+    index.add(edge);
+    Ok(())
+}
+
+fn compare<L: Ledger, R: Abort>(
+    rt: &R,
+    blank: Blank,
+    index: &ChildIndex,
+    vertex: &Vertex,
+    position: Position,
+    children: &[Edge],
+)
+    requires name { blank.name ≡ L.name }
+    requires parts { blank.parts ≡ L.parts }
+    requires some { 0 < blank.parts }
+{
+    let mut steps = Steps::<L>::new(blank);
+    assert_eq!(rt; index.children(vertex, position, &mut steps), children);
+}
+
+fn check_children<R: Abort>(
+    rt: &R,
+    index: &ChildIndex,
+    vertex: &Vertex,
+    position: Position,
+    children: &[Edge],
+) {
+    compare::<Brand, R>(rt, Blank::new(1), index, vertex, position, children)
+}
 
 #[test]
-fn room_is_made(rt: HostRuntime) {
-    let root = Vertex {
-        name: Name {
-            author: 0,
-            counter: 0,
-        },
-        ctor: Ctor::Root,
-    };
-    let number = Vertex {
-        name: Name {
-            author: 1,
-            counter: 1,
-        },
-        ctor: Ctor::Num(7),
-    };
-    let edge = Edge {
-        name: Name {
-            author: 1,
-            counter: 2,
-        },
-        source: root,
-        position: Position::Main,
-        target: number,
-    };
+fn children_are_told(rt: HostRuntime) -> Result<(), Fail> {
     let mut index = ChildIndex::new(rt.alloc());
-    assert!(rt; index.reserve_for(&[edge, edge]).is_ok());
+    put(&mut index, &RIGHT)?;
+    put(&mut index, &LEFT)?;
+    put(&mut index, &TO_PLUS)?;
+    check_children(&rt, &index, &PLUS, Position::Left, &[LEFT]);
+    check_children(&rt, &index, &PLUS, Position::Right, &[RIGHT]);
+    check_children(&rt, &index, &ROOT, Position::Main, &[TO_PLUS]);
+    check_children(&rt, &index, &SEVEN, Position::Main, &[]);
+    index.remove(&LEFT);
+    check_children(&rt, &index, &PLUS, Position::Left, &[]);
+    Ok(())
+}
+
+#[test]
+fn edges_with_the_same_ends_are_all_kept(rt: HostRuntime) -> Result<(), Fail> {
+    let mut index = ChildIndex::new(rt.alloc());
+    put(&mut index, &LEFT_AGAIN)?;
+    put(&mut index, &RIGHT)?;
+    put(&mut index, &LEFT)?;
+    check_children(&rt, &index, &PLUS, Position::Left, &[LEFT, LEFT_AGAIN]);
+    Ok(())
 }

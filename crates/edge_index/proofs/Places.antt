@@ -1,15 +1,48 @@
 -- The place of an edge in a list in edge order.
-use Rattle.std.proofs.Common.{◌≡◌, suc, ◌<◌, ◌≤◌, true, false, cond, List, [], ◌∷◌, length, refl, sym, ap, subst, ◌∙◌, arith}
+use Rattle.std.proofs.Common.{◌≡◌, ℕ, zero, suc, ◌+◌, ◌<◌, ◌≤◌, true, false, cond, List, [], ◌∷◌, length, get_or, refl, sym, ap, subst, ◌∙◌, arith}
 use Rattle.std.specs.Prelude.{◌||◌, not, insert, remove}
-use Rattle.std.specs.List.{AllByRecursion}
+use Rattle.std.specs.List.{AllByRecursion, prefix_len}
+use Rattle.std.specs.List.Sorted.{IsPartitionedBy}
+use Rattle.std.specs.declared.cmp.Ordering.{Ordering}
 use Rattle.std.specs.declared.cmp.Ordering.TheVariants.{Less, Equal, Greater}
+use Rattle.std.specs.Ordering.{is_lt, ordering_reverse}
 use Rattle.grove_edits.specs.declared.edge.Edge.{Edge}
 use Rattle.grove_edits.specs.Edge.{edge_cmp}
 use Rattle.grove_edits.specs.Graph.{is_same_edge}
-use Rattle.grove_edits.proofs.Orders.{edge_cmp_exact}
+use Rattle.grove_edits.proofs.Orders.{edge_cmp_total, edge_cmp_exact}
 use Rattle.walks.specs.Live.{IsInEdgeOrder, holds_edge}
 use Rattle.edge_index.specs.Ordered.{put_before, with_edge, without_edge, place, place_by}
 use Rattle.edge_index.proofs.Ordered.{same_edge_itself, not_held_before, without_none, not_same_from_greater, all_after}
+
+less_from_test : (o : Ordering) → is_lt o ≡ true → o ≡ Less
+less_from_test Less is = refl
+less_from_test Equal is = absurd cc
+less_from_test Greater is = absurd cc
+
+after_first : (x : Edge) (xs : List Edge) → AllByRecursion (λ later. edge_cmp x later ≡ Less) xs → (j : ℕ) (d : Edge) → j < length xs → edge_cmp x (get_or xs j d) ≡ Less
+after_first x [] all j d lt = absurd (omega arith)
+after_first x (y ∷ ys) all zero d lt = all.0
+after_first x (y ∷ ys) all (suc j) d lt = after_first x ys all.1 j d (omega arith)
+
+-- where an edge of a list in edge order comes before an edge, so do all earlier ones
+pub parted : (e : Edge) (xs : List Edge) → IsInEdgeOrder xs → IsPartitionedBy (λ x. is_lt (edge_cmp x e)) xs
+parted e [] order i j d le lt before = absurd (omega arith)
+parted e (x ∷ xs) order zero zero d le lt before = before
+parted e (x ∷ xs) order zero (suc j) d le lt before =
+    ap is_lt (edge_cmp_total.trans x (get_or xs j d) e (after_first x xs order.0 j d (omega arith)) (less_from_test (edge_cmp (get_or xs j d) e) before))
+parted e (x ∷ xs) order (suc i) zero d le lt before = absurd (omega arith)
+parted e (x ∷ xs) order (suc i) (suc j) d le lt before = parted e xs order.1 i j d (omega arith) (omega arith) before
+
+-- the place is how many first edges come before the edge
+pub place_is : (e : Edge) (xs : List Edge) → prefix_len (λ x. is_lt (edge_cmp x e)) xs ≡ place e xs
+place_is e [] = refl
+place_is e (x ∷ xs) =
+    rw (edge_cmp_total.antisymm x e)
+    (elim (edge_cmp e x) as (λ o. cond (is_lt (ordering_reverse o)) (1 + prefix_len (λ x. is_lt (edge_cmp x e)) xs) 0 ≡ place_by o (place e xs)) [
+      | Less ↦ refl
+      | Equal ↦ refl
+      | Greater ↦ let rest = place_is e xs in omega arith
+    ])
 
 pub place_le : (e : Edge) (xs : List Edge) → place e xs ≤ length xs
 place_le e [] = omega arith

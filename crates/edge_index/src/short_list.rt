@@ -34,14 +34,10 @@ fn order(a: &Edge, b: &Edge) -> Ordering
 }
 
 fn place_in(list: &[Edge], edge: &Edge) -> usize
+    requires { IsInEdgeOrder list.now }
     ensures { result ≡ place edge.now list.now }
 {
-    for (index, held) in list.iter().enumerate() {
-        if order(edge, held) != Ordering::Greater {
-            return index;
-        }
-    }
-    list.len()
+    list.partition_point(|held| order(held, edge).is_lt())
 }
 
 impl ShortList {

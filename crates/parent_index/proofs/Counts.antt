@@ -18,7 +18,6 @@ use Rattle.grove_edits.proofs.Orders.{vertex_cmp_total}
 use Rattle.walks.specs.Live.{is_same_vertex, stands_in, targets_of, holds_edge}
 use Rattle.walks.proofs.Vertices.{same_vertex_exact, same_vertex_itself}
 use Rattle.walks.proofs.Endings.{length-AllStandIn}
-
 use Rattle.edge_index.specs.Lists.{Kept, Lists, edges_of, edges_at, live, used_keys, IsByKey}
 use Rattle.edge_index.proofs.Ordered.{same_edge_exact, same_edge_itself}
 use Rattle.edge_index.proofs.Lookups.{holds-live}
