@@ -1,9 +1,9 @@
-ghost use Rattle.std.specs.Prelude.{◌≡◌, ◌+◌, ◌<◌, ◌≤◌, [], true, false, if◌then◌else◌, count_by, OnOk, IsSome};
+ghost use Rattle.std.specs.Prelude.{◌≡◌, ◌+◌, ◌<◌, ◌≤◌, [], true, false, if◌then◌else◌, count_by, IfOk, OnOk, IsSome};
 ghost use Rattle.std.specs.Map.{lookup};
 ghost use Rattle.std.specs.BTreeMap.{is_at};
 ghost use Rattle.std.specs.Ordering.{is_eq};
 ghost use Rattle.edge_index.specs.Ordered.{with_edge, without_edge};
-ghost use Rattle.walks.specs.Live.{holds_edge};
+ghost use Rattle.walks.specs.Live.{IsInEdgeOrder, holds_edge};
 ghost use Rattle.edge_index.specs.Lists.{live, room_at, with_key, edges_at, used_keys, IsByKey};
 
 use crate::no_memory::NoMemory;
@@ -58,6 +58,28 @@ impl<K: Keyed> EdgeIndex<K> {
             alloc,
             lists: BTreeMap::new(alloc),
         }
+    }
+
+    /// The index of some edges that are in edge order.
+    pub fn of(alloc: Global, edges: &[Edge]) -> Result<EdgeIndex<K>, NoMemory>
+        requires { IsInEdgeOrder edges.now }
+        ensures live { IfOk result (λ index. live index ≡ edges.now) }
+    {
+        let mut index = EdgeIndex::new(alloc);
+        for edge in edges {
+            index.append(edge)?;
+        }
+        Ok(index)
+    }
+
+    /// Adds an edge, and takes memory where there is no room.
+    fn append(&mut self, edge: &Edge) -> Result<(), NoMemory>
+        requires { holds_edge edge.now (live self.old) ≡ false }
+        ensures added { OnOk result (live self.new ≡ with_edge edge.now (live self.old)) }
+    {
+        self.reserve(&K::of(edge), 1)?;
+        self.add(edge);
+        Ok(())
     }
 
     /// The edges with a key, in edge order.
