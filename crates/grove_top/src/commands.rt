@@ -26,7 +26,7 @@ pub(crate) struct Due {
 }
 
 /// What is due for a command on an input of at most `MOST_BYTES` bytes.
-pub(crate) fn due(alloc: Global, command: Command, text: &[u8]) -> Result<Due, NoMemory>
+pub(crate) fn form_due(alloc: Global, command: Command, text: &[u8]) -> Result<Due, NoMemory>
     requires { length text.now ≤ MOST_BYTES }
     ensures { IfOk result (λ due. IsCommandDue command text.now due.status due.text.items) }
 {

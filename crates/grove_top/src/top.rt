@@ -9,7 +9,7 @@ ghost use Rattle.grove_top.specs.Due.{IsDue, usage_text, too_long_text};
 ghost use Rattle.grove_top.specs.Meets.{Meets};
 
 use crate::command::Command;
-use crate::commands::due;
+use crate::commands::form_due;
 use crate::limit::MOST_BYTES;
 use crate::outcome::{Outcome, Status};
 use grove_io::{InputFault, Sink, Source, read_all, write_out};
@@ -70,7 +70,7 @@ fn answer<S: Source, K: Sink>(
         return write(sink, Status::Usage, USAGE);
     };
     match read_all(alloc, source, MOST_BYTES) {
-        Ok(text) => match due(alloc, command, &text) {
+        Ok(text) => match form_due(alloc, command, &text) {
             Ok(due) => write(sink, due.status, &due.text),
             Err(_) => Status::NoMemory,
         },

@@ -1,0 +1,5 @@
+use Rattle.grove_top.proofs.Answered.{answer_told}
+use Rattle.grove_top.proofs.commands.form_due.Goals as goal
+
+pub returns-in_ok-text-in-Ok : goal.returns-in_ok-text-in-Ok
+returns-in_ok-text-in-Ok c = (c.requires, answer_told c.args.command c.args.text.now c.in_ok-text-in-Ok.text.items c.in-Ok.store c.in-Ok.ensures.graph c.in_ok-text-in-Ok.ensures)
