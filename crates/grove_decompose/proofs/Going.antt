@@ -40,12 +40,12 @@ gone_on live root tree more tasks rest left task listing is listed leaves =
     let behind : AreSound live root (length more) (step_tasks live task) = subst (λ n. AreSound live root n (step_tasks live task)) (sym long) (rest_is_sound live root (length tree) task sound) in
     record {
       nodes =
-        ap (λ xs. xs ++ todo live left) listed ∙ ap (λ ts. (tree ++ step_nodes live task) ++ todo live ts) leaves
-        ∙ ap (λ xs. (tree ++ step_nodes live task) ++ xs) (todo-append live rest (step_tasks live task))
-        ∙ append_assoc tree (step_nodes live task) (todo live (step_tasks live task) ++ todo live rest)
-        ∙ ap (λ xs. tree ++ xs) (sym (append_assoc (step_nodes live task) (todo live (step_tasks live task)) (todo live rest)) ∙ ap (λ xs. xs ++ todo live rest) (taken live root (length tree) task sound)
-        ∙ sym (todo-append live rest (task ∷ [])) ∙ ap (todo live) (sym is))
-        ∙ listing.nodes;
+          ap (λ xs. xs ++ todo live left) listed ∙ ap (λ ts. (tree ++ step_nodes live task) ++ todo live ts) leaves
+          ∙ ap (λ xs. (tree ++ step_nodes live task) ++ xs) (todo-append live rest (step_tasks live task))
+          ∙ append_assoc tree (step_nodes live task) (todo live (step_tasks live task) ++ todo live rest)
+          ∙ ap (λ xs. tree ++ xs) (sym (append_assoc (step_nodes live task) (todo live (step_tasks live task)) (todo live rest)) ∙ ap (λ xs. xs ++ todo live rest) (taken live root (length tree) task sound)
+          ∙ sym (todo-append live rest (task ∷ [])) ∙ ap (todo live) (sym is))
+          ∙ listing.nodes;
       sound = subst (AreSound live root (length more)) (sym leaves) (sound_append live root (length more) rest (step_tasks live task) (all_still_sound live root (length tree) (length more) rest (omega arith) before) behind);
     }
 

@@ -12,3 +12,5 @@ mod task;
 pub use decomposition::decompose;
 pub use no_memory::NoMemory;
 
+#[cfg(test)]
+mod tests;

@@ -12,5 +12,8 @@ pub(crate) enum Task {
         depth: u64,
     },
     /// A child, and what stands under it.
-    Child { edge: Edge, depth: u64 },
+    Child {
+        edge: Edge,
+        depth: u64,
+    },
 }

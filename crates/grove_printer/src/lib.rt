@@ -8,3 +8,5 @@ mod print;
 pub use no_memory::NoMemory;
 pub use print::print_grove;
 
+#[cfg(test)]
+mod tests;

@@ -2,6 +2,7 @@ use super::*;
 use grove_io::{MemorySink, MemorySource};
 use std::alloc::Global;
 use std::test::Fail;
+use text_parts::write_number;
 
 const DELETED_WINS: &[u8] = b"-1.2 0.0 root main 1.1 num:7
 +1.2 0.0 root main 1.1 num:7
@@ -121,5 +122,89 @@ fn other_words_are_told_the_usage(rt: HostRuntime) -> Result<(), Fail> {
         sink.taken(),
         b"usage: grove merge | show | check | run | gen N\n".as_slice()
     );
+    Ok(())
+}
+
+// What a command writes for a text, into a sink that takes all at once.
+fn written(alloc: Global, word: &str, text: &[u8]) -> Result<Vec<u8>, Fail> {
+    let mut words = Vec::new(alloc);
+    words.push(String::from_str(alloc, word)?)?;
+    let mut source = MemorySource::new(text.to_vec(alloc)?, 65536, Vec::new(alloc));
+    let mut sink = MemorySink::new(alloc, 4_194_304, 65536, Vec::new(alloc))?;
+    let outcome = run(alloc, &words, &mut source, &mut sink);
+    match outcome.status {
+        Status::Done => Ok(sink.taken().to_vec(alloc)?),
+        _ => Err("the command is not done")?,
+    }
+}
+
+#[test]
+fn groves_are_shown(rt: HostRuntime) -> Result<(), Fail> {
+    let cases: [(&[u8], &[u8]); 6] = [
+        (
+            b"",
+            b"none 1\n0 - - 0.0 root\n1 main - - hole\nmulti 0\ncycle 0\n",
+        ),
+        (
+            b"+1.2 0.0 root main 1.1 num:7\n+2.2 0.0 root main 2.1 true\n",
+            b"none 1\n0 - - 0.0 root\n1 main - - conflict:2\n2 main 1.2 1.1 num:7\n2 main 2.2 2.1 true\nmulti 0\ncycle 0\n",
+        ),
+        (
+            b"+1.2 0.0 root main 1.1 plus\n+1.4 1.1 plus left 1.3 num:7\n+1.5 1.1 plus right 1.3 num:7\n",
+            b"none 1\n0 - - 0.0 root\n1 main 1.2 1.1 plus\n2 left 1.4 1.3 multi:num:7\n2 right 1.5 1.3 multi:num:7\nmulti 1\n0 - - 1.3 num:7\ncycle 0\n",
+        ),
+        (
+            b"+1.2 0.0 root main 1.1 pair\n-1.4 1.1 pair first 1.3 fst\n-1.6 1.1 pair second 1.5 snd\n+2.1 1.5 snd of 1.3 fst\n+3.1 1.3 fst of 1.5 snd\n",
+            b"none 1\n0 - - 0.0 root\n1 main 1.2 1.1 pair\n2 first - - hole\n2 second - - hole\nmulti 0\ncycle 1\n0 - - 1.3 fst\n1 of 3.1 1.5 snd\n2 of 2.1 1.3 cycle:fst\n",
+        ),
+        (
+            b"+1.2 1.1 fst of 1.1 fst\n",
+            b"none 1\n0 - - 0.0 root\n1 main - - hole\nmulti 0\ncycle 1\n0 - - 1.1 fst\n1 of 1.2 1.1 cycle:fst\n",
+        ),
+        (
+            b"+1.2 1.1 fst of 1.1 fst\n+1.3 0.0 root main 1.1 fst\n",
+            b"none 1\n0 - - 0.0 root\n1 main 1.3 1.1 multi:fst\nmulti 1\n0 - - 1.1 fst\n1 of 1.2 1.1 multi:fst\ncycle 0\n",
+        ),
+    ];
+    for (text, want) in cases {
+        let shown = written(rt.alloc(), "show", text)?;
+        assert_eq!(rt; shown.as_slice(), want);
+    }
+    Ok(())
+}
+
+// So many vertices `fst` below the root, each under the one before.
+fn chain(alloc: Global, count: u64) -> Result<Vec<u8>, Fail> {
+    let mut text = Vec::from_slice(alloc, b"+2.1 0.0 root main 1.1 fst\n")?;
+    for number in 1..count {
+        text.extend_from_slice(b"+3.")?;
+        write_number(number, &mut text)?;
+        text.extend_from_slice(b" 1.")?;
+        write_number(number, &mut text)?;
+        text.extend_from_slice(b" fst of 1.")?;
+        write_number(number + 1, &mut text)?;
+        text.extend_from_slice(b" fst\n")?;
+    }
+    Ok(text)
+}
+
+#[test]
+fn a_deep_chain_is_shown(rt: HostRuntime) -> Result<(), Fail> {
+    let text = chain(rt.alloc(), 50_000)?;
+    let shown = written(rt.alloc(), "show", &text)?;
+    assert!(rt; shown.ends_with(b"\n50001 of - - hole\nmulti 0\ncycle 0\n"));
+    Ok(())
+}
+
+#[test]
+fn a_failing_sink_keeps_what_it_took(rt: HostRuntime) -> Result<(), Fail> {
+    let alloc = rt.alloc();
+    let mut words = Vec::new(alloc);
+    words.push(String::from_str(alloc, "show")?)?;
+    let mut source = MemorySource::new(Vec::new(alloc), 1, Vec::new(alloc));
+    let mut sink = MemorySink::new(alloc, 4096, 4, [3].to_vec(alloc)?)?;
+    let outcome = run(alloc, &words, &mut source, &mut sink);
+    assert_eq!(rt; outcome.status, Status::WriteFault);
+    assert_eq!(rt; sink.taken(), b"none 1\n0".as_slice());
     Ok(())
 }

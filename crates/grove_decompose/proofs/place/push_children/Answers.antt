@@ -11,5 +11,5 @@ loop-index-preserved c =
     record {
       within = omega arith;
       tasks = pushed c.loop-index.tasks.items c.push.new.self.items (child_tasks c.args.depth (take (c.loop-index.index - 1) c.args.edges.now)) _ _ _ c.in_ok-push.ensures.items
-        (ap (λ i. child_tasks c.args.depth (take i c.args.edges.now)) (sym before) ∙ next) c.loop-index.invariant.tasks;
+          (ap (λ i. child_tasks c.args.depth (take i c.args.edges.now)) (sym before) ∙ next) c.loop-index.invariant.tasks;
     }

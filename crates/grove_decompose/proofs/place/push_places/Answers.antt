@@ -12,5 +12,5 @@ loop-index-preserved-in-Continue-1 c =
     record {
       within = omega arith;
       tasks = pushed c.loop-index.tasks.items c.push.new.self.items (place_tasks c.args.vertex.now c.args.depth (take (c.loop-index.index - 1) (positions c.args.vertex.now.ctor))) _ _ _ c.in_ok-push.ensures.items
-        (ap (λ i. place_tasks c.args.vertex.now c.args.depth (take i (positions c.args.vertex.now.ctor))) (sym before) ∙ next) c.loop-index.invariant.tasks;
+          (ap (λ i. place_tasks c.args.vertex.now c.args.depth (take i (positions c.args.vertex.now.ctor))) (sym before) ∙ next) c.loop-index.invariant.tasks;
     }
