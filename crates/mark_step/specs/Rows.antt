@@ -42,10 +42,10 @@ pub data Synthesises (scope : Scope) (b : Bound) : Ctor → List Judgement → T
   syn_plus : (left right : Typ) → Synthesises scope b Plus (ana scope typ.Num left ∷ ana scope typ.Num right ∷ []) typ.Num mark.None
   syn_true : Synthesises scope b LitTrue [] typ.Boolean mark.None
   syn_false : Synthesises scope b LitFalse [] typ.Boolean mark.None
-  syn_if : (test yes other both : Typ) → meet yes other ≡ Some both
-      → Synthesises scope b Choose (ana scope typ.Boolean test ∷ syn scope yes ∷ syn scope other ∷ []) both mark.None
-  syn_if_branches : (test yes other : Typ) → is_consistent yes other ≡ false
-      → Synthesises scope b Choose (ana scope typ.Boolean test ∷ syn scope yes ∷ syn scope other ∷ []) typ.Unknown mark.Branches
+  syn_if : (test when_true when_false both : Typ) → meet when_true when_false ≡ Some both
+      → Synthesises scope b Choose (ana scope typ.Boolean test ∷ syn scope when_true ∷ syn scope when_false ∷ []) both mark.None
+  syn_if_branches : (test when_true when_false : Typ) → is_consistent when_true when_false ≡ false
+      → Synthesises scope b Choose (ana scope typ.Boolean test ∷ syn scope when_true ∷ syn scope when_false ∷ []) typ.Unknown mark.Branches
   syn_pair : (first second : Typ) → Synthesises scope b Pair (syn scope first ∷ syn scope second ∷ []) (typ.Pair Product first second) mark.None
   syn_fst : (of first second : Typ) → matched_parts Product of ≡ Some (first, second)
       → Synthesises scope b Fst (syn scope of ∷ []) first mark.None
@@ -71,8 +71,8 @@ pub data Analyses (scope : Scope) (b : Bound) (against : Typ) : Ctor → List Ju
       → Analyses scope b against Lam (ana (body_scope b scope) to body ∷ []) against mark.Ascription
   ana_lam_against : (body : Typ) → matched_parts Arrow against ≡ None
       → Analyses scope b against Lam (ana (body_scope b scope) typ.Unknown body ∷ []) against mark.LamAgainst
-  ana_if : (test yes other : Typ)
-      → Analyses scope b against Choose (ana scope typ.Boolean test ∷ ana scope against yes ∷ ana scope against other ∷ []) against mark.None
+  ana_if : (test when_true when_false : Typ)
+      → Analyses scope b against Choose (ana scope typ.Boolean test ∷ ana scope against when_true ∷ ana scope against when_false ∷ []) against mark.None
   ana_pair : (left right first second : Typ) → matched_parts Product against ≡ Some (left, right)
       → Analyses scope b against Pair (ana scope left first ∷ ana scope right second ∷ []) against mark.None
   ana_pair_against : (first second : Typ) → matched_parts Product against ≡ None

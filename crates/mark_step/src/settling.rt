@@ -139,17 +139,17 @@ fn application(types: &TypeTable, function: TypeId) -> Settled
 fn conditional(
     alloc: Global,
     types: &mut TypeTable,
-    yes: TypeId,
-    other: TypeId,
+    when_true: TypeId,
+    when_false: TypeId,
 ) -> Result<Settled, NoMemory>
-    requires yes { IsTypeOf types.old yes }
-    requires other { IsTypeOf types.old other }
+    requires when_true { IsTypeOf types.old when_true }
+    requires when_false { IsTypeOf types.old when_false }
     ensures marked { IfOk result (λ s. marked_at types.new s
-        ≡ or_mark (meet (type_at types.old yes) (type_at types.old other)) Mark.Branches) }
+        ≡ or_mark (meet (type_at types.old when_true) (type_at types.old when_false)) Mark.Branches) }
     ensures number { IfOk result (λ s. IsTypeOf types.new s.typ) }
     ensures kept { KeepsTypes types.old types.new }
 {
-    let both = types.meet(alloc, yes, other)?;
+    let both = types.meet(alloc, when_true, when_false)?;
     Ok(or_mark(types, both, Mark::Branches))
 }
 
