@@ -1,0 +1,110 @@
+-- The rules of marking as functions: what is demanded of the next child of an expression, and which type and mark the expression gets
+-- once its children have types.
+use Rattle.std.specs.Prelude.{ℕ, Bool, true, false, List, [], ◌∷◌, Option, None, Some, unwrap_or, if◌then◌else◌}
+use Rattle.std.specs.Option.{option_map}
+use Rattle.std.specs.List.{slice_index_or}
+use Rattle.grove_sorts.specs.declared.ctor.Ctor.{Ctor}
+use Rattle.grove_sorts.specs.declared.ctor.Ctor.TheVariants.{Var, Lam, Ap, Num, Plus, LitTrue, LitFalse, Choose, Pair, Fst, Snd}
+use Rattle.type_core.specs.declared.former.Former.{Former}
+use Rattle.type_core.specs.declared.former.Former.TheVariants.{Arrow, Product}
+use Rattle.type_core.specs.Typ.{Typ, matched_parts, is_consistent, meet}
+use Rattle.type_core.specs.Typ as typ
+use Rattle.mark_step.specs.declared.node.Mark.{Mark}
+use Rattle.mark_step.specs.declared.node.Mark.TheVariants as mark
+use Rattle.mark_step.specs.Scope.{Scope, type_of_name, bindings_inside}
+use Rattle.mark_step.specs.Expression.{Wanted, Synthesise, Analyse, Bound, Expression, Demanded, Marked, marked, unmarked}
+
+-- the parts of a type of this form, both unknown where it has none
+abbrev pub parts_or_unknown : Former → Typ → Typ × Typ
+parts_or_unknown f t = unwrap_or (matched_parts f t) (typ.Unknown, typ.Unknown)
+
+abbrev pub wanted_of_body : Wanted → Wanted
+wanted_of_body Synthesise = Synthesise
+wanted_of_body (Analyse t) = Analyse (parts_or_unknown Arrow t).1
+
+-- of the function, and of the argument of a function of this type
+abbrev pub wanted_in_application : List Typ → Wanted
+wanted_in_application [] = Synthesise
+wanted_in_application (f ∷ _) = Analyse (parts_or_unknown Arrow f).0
+
+-- of the condition, and of a branch
+abbrev pub wanted_in_conditional : Wanted → List Typ → Wanted
+wanted_in_conditional w [] = Analyse typ.Boolean
+wanted_in_conditional w (_ ∷ _) = w
+
+-- of the first part, and of the second
+abbrev pub wanted_in_pair : Wanted → List Typ → Wanted
+wanted_in_pair Synthesise _ = Synthesise
+wanted_in_pair (Analyse t) [] = Analyse (parts_or_unknown Product t).0
+wanted_in_pair (Analyse t) (_ ∷ _) = Analyse (parts_or_unknown Product t).1
+
+-- what is wanted of the child that comes next after children of these types, where this is wanted of the expression
+abbrev pub wanted_next : Ctor → Wanted → List Typ → Wanted
+wanted_next Lam w before = wanted_of_body w
+wanted_next Ap w before = wanted_in_application before
+wanted_next Plus w before = Analyse typ.Num
+wanted_next Choose w before = wanted_in_conditional w before
+wanted_next Pair w before = wanted_in_pair w before
+wanted_next _ w before = Synthesise
+
+-- what is demanded of the child that comes next after children of these types
+abbrev pub demand : Expression → List Typ → Demanded
+demand e before = record { scope = bindings_inside e.ctor e.bound.name e.bound.typ e.scope; wanted = wanted_next e.ctor e.wanted before }
+
+-- the type, where there is one, and else the unknown type with the mark
+abbrev pub or_mark : Option Typ → Mark → Marked
+or_mark (Some t) m = unmarked t
+or_mark None m = marked typ.Unknown m
+
+abbrev pub child : List Typ → ℕ → Typ
+child done i = slice_index_or done i typ.Unknown
+
+-- what an expression synthesises whose children have these types
+abbrev pub synthesised : Ctor → Scope → Bound → List Typ → Marked
+synthesised (Var x) scope b done = or_mark (type_of_name scope x) mark.Free
+synthesised Lam scope b done = unmarked (typ.Pair Arrow b.typ (child done 0))
+synthesised Ap scope b done = or_mark (option_map (λ p. p.1) (matched_parts Arrow (child done 0))) mark.NotArrow
+synthesised (Num n) scope b done = unmarked typ.Num
+synthesised Plus scope b done = unmarked typ.Num
+synthesised LitTrue scope b done = unmarked typ.Boolean
+synthesised LitFalse scope b done = unmarked typ.Boolean
+synthesised Choose scope b done = or_mark (meet (child done 1) (child done 2)) mark.Branches
+synthesised Pair scope b done = unmarked (typ.Pair Product (child done 0) (child done 1))
+synthesised Fst scope b done = or_mark (option_map (λ p. p.0) (matched_parts Product (child done 0))) mark.NotProduct
+synthesised Snd scope b done = or_mark (option_map (λ p. p.1) (matched_parts Product (child done 0))) mark.NotProduct
+synthesised _ scope b done = unmarked typ.Unknown
+
+-- the mark of a function that ascribes a type, by the parts of the type that it is analysed against
+abbrev pub function_mark : Typ → Option (Typ × Typ) → Mark
+function_mark ascribed None = mark.LamAgainst
+function_mark ascribed (Some p) = if is_consistent ascribed p.0 then mark.None else mark.Ascription
+
+-- the mark of a pair, by the parts of the type that it is analysed against
+abbrev pub pair_mark : Option (Typ × Typ) → Mark
+pair_mark None = mark.PairAgainst
+pair_mark (Some p) = mark.None
+
+-- a mark of synthesis, or else that of a synthesised type which may be consistent with the one wanted
+abbrev pub mark_against : Mark → Bool → Mark
+mark_against mark.None true = mark.None
+mark_against mark.None false = mark.Inconsistent
+mark_against m _ = m
+
+-- what was synthesised, analysed against a type
+abbrev pub against : Typ → Marked → Marked
+against t found = marked found.typ (mark_against found.mark (is_consistent found.typ t))
+
+-- what an expression gets that is analysed against a type and whose children have these types
+abbrev pub analysed : Ctor → Scope → Bound → Typ → List Typ → Marked
+analysed Lam scope b t done = marked t (function_mark b.typ (matched_parts Arrow t))
+analysed Choose scope b t done = unmarked t
+analysed Pair scope b t done = marked t (pair_mark (matched_parts Product t))
+analysed ctor scope b t done = against t (synthesised ctor scope b done)
+
+abbrev pub settled_as : Wanted → Ctor → Scope → Bound → List Typ → Marked
+settled_as Synthesise ctor scope b done = synthesised ctor scope b done
+settled_as (Analyse t) ctor scope b done = analysed ctor scope b t done
+
+-- the type and the mark of an expression whose children have these types
+abbrev pub settled : Expression → List Typ → Marked
+settled e done = settled_as e.wanted e.ctor e.scope e.bound done

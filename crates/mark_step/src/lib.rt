@@ -1,0 +1,21 @@
+//! The rule of one node of bidirectional marking with types and error marks: how each child of an expression is judged, by what is
+//! wanted of the expression and the types of the children before it, and which type and which mark the expression gets once all its
+//! children have types. The walks that mark whole trees call it node by node.
+#![tactic(auto)]
+
+mod children;
+mod laws;
+mod no_memory;
+mod node;
+mod settling;
+
+pub use children::child_demand;
+pub use laws::{
+    each_expression_follows_one_row, look_ups_are_innermost, no_expression_has_two_marks,
+};
+pub use no_memory::NoMemory;
+pub use node::{Binder, Demand, Mark, Mode, NodeView, Settled, WIDEST};
+pub use settling::settle;
+
+#[cfg(test)]
+mod tests;

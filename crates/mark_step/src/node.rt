@@ -1,0 +1,88 @@
+ghost use Rattle.std.specs.Prelude.{◌≡◌, Some, None, IsSome};
+ghost use Rattle.std.specs.List.{slice_index_or};
+
+use ctx_table::CtxId;
+use grove_sorts::{Ctor, Ident};
+use type_core::TypeId;
+
+/// How many positions a constructor has at most.
+pub const WIDEST: usize = 3;
+
+/// What is wanted of an expression.
+#[derive(Clone, Copy, Debug, PartialEq, Eq)]
+pub enum Mode {
+    /// To synthesise a type.
+    Syn,
+    /// To be analysed against this type.
+    Ana(TypeId),
+}
+
+/// What is wrong with an expression.
+#[derive(Clone, Copy, Debug, PartialEq, Eq)]
+pub enum Mark {
+    /// Nothing.
+    None,
+    /// A variable that nothing binds.
+    Free,
+    /// An application of what is no function.
+    NotArrow,
+    /// A part of what is no pair.
+    NotProduct,
+    /// A conditional whose branches have inconsistent types.
+    Branches,
+    /// A function against a type of no functions.
+    LamAgainst,
+    /// A function that ascribes a type to its parameter which is inconsistent with the one wanted.
+    Ascription,
+    /// A pair against a type of no pairs.
+    PairAgainst,
+    /// An expression whose type is inconsistent with the one wanted.
+    Inconsistent,
+}
+
+/// What a function binds. Other constructors bind nothing, and do not use it.
+#[derive(Clone, Copy, Debug, PartialEq, Eq)]
+pub struct Binder {
+    /// The name at its param position, where one sole pattern stands there.
+    pub name: Option<Ident>,
+    /// The type of its type position.
+    pub typ: TypeId,
+}
+
+/// A node as its rule sees it.
+#[derive(Clone, Copy, Debug, PartialEq, Eq)]
+pub struct NodeView {
+    pub ctor: Ctor,
+    pub ctx: CtxId,
+    pub mode: Mode,
+    pub binder: Binder,
+    /// The types of the expressions among its children that are marked already, by the index of their position.
+    pub done: [Option<TypeId>; WIDEST],
+}
+
+/// How a child is judged.
+#[derive(Clone, Copy, Debug, PartialEq, Eq)]
+pub struct Demand {
+    pub ctx: CtxId,
+    pub mode: Mode,
+}
+
+/// The type that a node shows, and its mark.
+#[derive(Clone, Copy, Debug, PartialEq, Eq)]
+pub struct Settled {
+    pub typ: TypeId,
+    pub mark: Mark,
+}
+
+impl NodeView {
+    // The type of the expression at the position with this index.
+    pub(crate) fn child_type(&self, index: usize) -> TypeId
+        requires { IsSome (slice_index_or self.now.done index None) }
+        ensures { slice_index_or self.now.done index None ≡ Some result }
+    {
+        match self.done[index] {
+            Some(typ) => typ,
+            None => unreachable!(),
+        }
+    }
+}
