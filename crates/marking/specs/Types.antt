@@ -1,0 +1,58 @@
+-- What stands at the positions of a vertex, where it is one tree: types, and the names of patterns.
+use Rattle.std.specs.Prelude.{ℕ, zero, suc, Option, None, Some, if◌then◌else◌}
+use Rattle.grove_sorts.specs.declared.ident.Ident.{Ident}
+use Rattle.grove_sorts.specs.declared.ctor.Ctor.{Ctor}
+use Rattle.grove_sorts.specs.declared.ctor.Ctor.TheVariants.{PVar, TNum, TBool, TArrow, TProd}
+use Rattle.grove_sorts.specs.declared.position.Position.{Position}
+use Rattle.grove_sorts.specs.declared.position.Position.TheVariants.{Param, Annot, Left, Right, Dom, Cod}
+use Rattle.walks.specs.Live.{is_same_position}
+use Rattle.grove_terms.specs.Forest.{Forest, none, multi_ref, cycle_ref, tree}
+use Rattle.grove_terms.specs.Nodes.{count_at}
+use Rattle.type_core.specs.declared.former.Former.TheVariants.{Arrow, Product}
+use Rattle.type_core.specs.Typ.{Typ, Unknown, Num, Boolean, Pair}
+use Rattle.mark_step.specs.Expression.{Bound}
+
+-- what an only child gives, and else something given
+abbrev pub if_sole : {T : Type 0} → ℕ → T → T → T
+if_sole zero found other = other
+if_sole (suc zero) found other = found
+if_sole (suc (suc _)) found other = other
+
+-- the type that a constructor of types makes of the types at its positions
+abbrev pub type_made : Ctor → (Position → Typ) → Typ
+type_made TNum at = Num
+type_made TBool at = Boolean
+type_made TArrow at = Pair Arrow (at Dom) (at Cod)
+type_made TProd at = Pair Product (at Left) (at Right)
+type_made _ at = Unknown
+
+-- the type of the tree that is a child at a position; a reference has none
+abbrev pub child_type : Forest → Position → Typ
+child_type none p = Unknown
+child_type (multi_ref e rest) p = child_type rest p
+child_type (cycle_ref e rest) p = child_type rest p
+child_type (tree e below rest) p =
+    if is_same_position e.position p then type_made e.target.ctor (λ q. if_sole (count_at below q) (child_type below q) Unknown) else child_type rest p
+
+-- the type of a type position: that of the tree there, where it is an only child, and else unknown
+abbrev pub type_in : Forest → Position → Typ
+type_in f p = if_sole (count_at f p) (child_type f p) Unknown
+
+-- the type of a tree of types
+abbrev pub tree_type : Ctor → Forest → Typ
+tree_type ctor f = type_made ctor (type_in f)
+
+abbrev pub pattern_name : Ctor → Option Ident
+pattern_name (PVar x) = Some x
+pattern_name _ = None
+
+-- the name of the pattern that is a child at a position; a reference has none
+abbrev pub child_name : Forest → Position → Option Ident
+child_name none p = None
+child_name (multi_ref e rest) p = child_name rest p
+child_name (cycle_ref e rest) p = child_name rest p
+child_name (tree e below rest) p = if is_same_position e.position p then pattern_name e.target.ctor else child_name rest p
+
+-- what a function with these children binds: the name at its parameter, where that is an only child and a tree, and the type at its type
+abbrev pub bound_in : Forest → Bound
+bound_in f = record { name = if_sole (count_at f Param) (child_name f Param) None; typ = type_in f Annot }
