@@ -1,3 +1,4 @@
 pub mod Types
 pub mod Marking
+pub mod Rules
 pub mod Grove

@@ -6,7 +6,6 @@ use Rattle.grove_sorts.specs.declared.sort.Sort.TheVariants.{Top, Exp, Pat, Typ 
 use Rattle.grove_sorts.specs.declared.ctor.Ctor.{Ctor}
 use Rattle.grove_sorts.specs.Ctor.{positions, sort_of_ctor}
 use Rattle.grove_edits.specs.declared.vertex.Vertex.{Vertex as VertexOf}
-use Rattle.grove_edits.specs.declared.edge.Edge.{Edge}
 use Rattle.walks.specs.Live.{is_same_position}
 use Rattle.grove_terms.specs.declared.node.Node.{Node}
 use Rattle.grove_terms.specs.declared.node.What.TheVariants.{Vertex, Hole, Conflict, MultiRef, CycleRef}
@@ -16,7 +15,7 @@ use Rattle.type_core.specs.Typ.{Typ, Unknown}
 use Rattle.mark_step.specs.declared.node.Mark.{Mark}
 use Rattle.mark_step.specs.declared.node.Mark.TheVariants as mark
 use Rattle.mark_step.specs.Scope.{Scope}
-use Rattle.mark_step.specs.Expression.{Wanted, Synthesise, Bound, Expression, Demanded, Marked}
+use Rattle.mark_step.specs.Expression.{Wanted, Synthesise, Expression, Demanded, Marked}
 use Rattle.mark_step.specs.Step.{demand, settled}
 use Rattle.mark_step.specs.Rows.{is_exp}
 use Rattle.marking.specs.Types.{if_sole, tree_type, bound_in}

@@ -4,4 +4,4 @@
 
 mod laws;
 
-pub use laws::marking_erases;
+pub use laws::{each_expression_has_one_type, marking_erases};
