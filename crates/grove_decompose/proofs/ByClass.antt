@@ -1,9 +1,9 @@
 -- Vertices by class, one after the other.
-use Rattle.std.proofs.Common.{◌≡◌, Bool, true, false, cond, List, [], ◌∷◌, ◌++◌, refl, sym, ap, subst, ◌∙◌, append_assoc}
+use Rattle.std.proofs.Common.{◌≡◌, Bool, true, false, cond, List, [], ◌∷◌, ◌++◌, refl, sym, ap, ◌∙◌, append_assoc}
 use Rattle.grove_edits.specs.declared.vertex.Vertex.{Vertex}
 use Rattle.grove_edits.specs.declared.edge.Edge.{Edge}
 use Rattle.walks.specs.declared.class.Class.{Class}
-use Rattle.walks.specs.declared.class.Class.TheVariants.{NoParent, Multi, Cycle, Inner}
+use Rattle.walks.specs.declared.class.Class.TheVariants.{NoParent, Multi}
 use Rattle.walks.specs.declared.few.Few.{Few}
 use Rattle.walks.specs.declared.few.Few.TheVariants.{Zero, One, More}
 use Rattle.walks.specs.Few.{first_two}

@@ -1,5 +1,5 @@
 -- The nodes that are listed and those that tasks are for are together those of the tree.
-use Rattle.std.proofs.Common.{◌≡◌, ℕ, ◌+◌, ◌<◌, ◌≤◌, List, [], ◌∷◌, ◌++◌, length, refl, sym, ap, subst, ◌∙◌, append-nil, append_assoc, arith, length-append}
+use Rattle.std.proofs.Common.{◌≡◌, ◌+◌, ◌<◌, List, [], ◌∷◌, ◌++◌, length, refl, sym, ap, subst, ◌∙◌, append-nil, append_assoc, arith, length-append}
 use Rattle.grove_sorts.specs.Ctor.{positions}
 use Rattle.grove_edits.specs.declared.vertex.Vertex.{Vertex}
 use Rattle.grove_edits.specs.declared.edge.Edge.{Edge}
@@ -8,14 +8,14 @@ use Rattle.walks.specs.declared.class.Class.{Class}
 use Rattle.walks.specs.declared.class.Class.TheVariants.{Inner}
 use Rattle.walks.specs.Class.{class, of_class}
 use Rattle.grove_terms.specs.declared.node.Node.{Node}
-use Rattle.grove_terms.specs.Nodes.{head_node, nodes_under, tree_nodes}
+use Rattle.grove_terms.specs.Nodes.{head_node, tree_nodes}
 use Rattle.grove_terms.specs.Grove.{IsTreeOf, AreTreesOf}
 use Rattle.grove_terms.proofs.Forests.{forest_of, root_stands}
 use Rattle.grove_terms.proofs.OneGrove.{all_of_class}
 use Rattle.grove_decompose.specs.declared.task.Task.{Task}
-use Rattle.grove_decompose.specs.Tasks.{todo, task_nodes, place_tasks, step_nodes, step_tasks, IsSound}
+use Rattle.grove_decompose.specs.Tasks.{todo, place_tasks, step_nodes, step_tasks, IsSound}
 use Rattle.grove_decompose.proofs.Places.{todo-append, under-tasks}
-use Rattle.grove_decompose.proofs.Taking.{taken, AreSound, sound_append, sound_before, sound_behind, all_still_sound, all_places_sound, rest_is_sound, weight_of, weight, weight-append, lighter}
+use Rattle.grove_decompose.proofs.Taking.{taken, AreSound, sound_append, sound_before, sound_behind, all_still_sound, all_places_sound, rest_is_sound, weight, weight-append, lighter}
 
 pub record IsListing (live : List Edge) (root : Vertex) (tree : List Node) (tasks : List Task) : Type 0 where
   pub nodes : tree ++ todo live tasks ≡ tree_nodes root (forest_of live root)

@@ -1,6 +1,6 @@
 -- The nodes under a vertex, position by position.
-use Rattle.std.proofs.Common.{◌≡◌, ℕ, zero, suc, ◌+◌, ◌≤◌, Bool, true, false, cond, List, [], ◌∷◌, ◌++◌, length, refl, sym, ap, subst, ◌∙◌, append-nil, append_assoc, arith, lit≤}
-use Rattle.std.specs.Prelude.{◌||◌, ◌&&◌, ◌==◌, filter}
+use Rattle.std.proofs.Common.{◌≡◌, ℕ, zero, suc, ◌+◌, ◌≤◌, Bool, true, false, cond, List, [], ◌∷◌, ◌++◌, length, refl, sym, ap, subst, ◌∙◌, append-nil, append_assoc, lit≤}
+use Rattle.std.specs.Prelude.{◌||◌, filter}
 use Rattle.std.specs.List.{AllByRecursion}
 use Rattle.std.specs.declared.cmp.Ordering.{Ordering}
 use Rattle.std.specs.declared.cmp.Ordering.TheVariants.{Less, Equal, Greater}
@@ -16,18 +16,18 @@ use Rattle.grove_sorts.proofs.Orders.{position_cmp_exact, position_cmp_total}
 use Rattle.grove_edits.specs.declared.vertex.Vertex.{Vertex}
 use Rattle.grove_edits.specs.declared.edge.Edge.{Edge}
 use Rattle.walks.specs.declared.class.Class.{Class}
-use Rattle.walks.specs.declared.class.Class.TheVariants.{NoParent, Multi, Cycle, Inner}
-use Rattle.walks.specs.Live.{holds_edge, is_same_position, children_of}
+use Rattle.walks.specs.declared.class.Class.TheVariants.{Inner}
+use Rattle.walks.specs.Live.{is_same_position, children_of}
 use Rattle.walks.specs.Class.{class}
 use Rattle.grove_terms.specs.declared.node.Node.{Node}
 use Rattle.grove_terms.specs.declared.node.What.TheVariants as whats
-use Rattle.grove_terms.specs.Forest.{Forest, none, multi_ref, cycle_ref, tree, child_edges, edges_from, edges_under, AreChildren, StandsUnder}
+use Rattle.grove_terms.specs.Forest.{Forest, none, multi_ref, cycle_ref, tree, child_edges, edges_from, edges_under, AreChildren}
 use Rattle.grove_terms.specs.Nodes.{node_at, child_node, place_nodes, places_nodes, count_at, child_nodes, nodes_under}
 use Rattle.grove_terms.proofs.InLive.{IsFromPlace, children_lead}
 use Rattle.grove_terms.proofs.Forests.{forest_of, Stands, below_stands, one_forest}
 use Rattle.grove_decompose.specs.declared.task.Task.{Task}
-use Rattle.grove_decompose.specs.declared.task.Task.TheVariants.{Place, Child}
-use Rattle.grove_decompose.specs.Tasks.{what_by, under_by, child_list, child_lists, task_nodes, todo, place_tasks, knows}
+use Rattle.grove_decompose.specs.declared.task.Task.TheVariants.{Place}
+use Rattle.grove_decompose.specs.Tasks.{what_by, under_by, child_lists, task_nodes, todo, place_tasks, knows}
 
 -- ---- positions
 

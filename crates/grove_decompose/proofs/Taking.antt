@@ -1,6 +1,6 @@
 -- Taking a task lists its first nodes and leaves tasks for the rest of them.
-use Rattle.std.proofs.Common.{◌≡◌, ℕ, zero, suc, ◌+◌, ◌*◌, ◌<◌, ◌≤◌, Bool, true, false, List, [], ◌∷◌, ◌++◌, length, refl, sym, ap, subst, ◌∙◌, append-nil, append_assoc, arith, length-append}
-use Rattle.std.specs.Prelude.{Option, Some, None}
+use Rattle.std.proofs.Common.{◌≡◌, ℕ, suc, ◌+◌, ◌*◌, ◌<◌, ◌≤◌, true, List, [], ◌∷◌, ◌++◌, length, refl, sym, ap, subst, ◌∙◌, arith, length-append}
+use Rattle.std.specs.Prelude.{Some}
 use Rattle.std.specs.List.{AllByRecursion}
 use Rattle.grove_sorts.specs.declared.position.Position.{Position}
 use Rattle.grove_sorts.specs.declared.sort.Sort.{Sort}
@@ -9,18 +9,18 @@ use Rattle.grove_edits.specs.declared.vertex.Vertex.{Vertex}
 use Rattle.grove_edits.specs.declared.edge.Edge.{Edge}
 use Rattle.walks.specs.declared.class.Class.{Class}
 use Rattle.walks.specs.declared.class.Class.TheVariants.{NoParent, Multi, Cycle, Inner}
-use Rattle.walks.specs.Live.{holds_edge, children_of}
+use Rattle.walks.specs.Live.{children_of}
 use Rattle.walks.specs.Walk.{above}
 use Rattle.walks.specs.Class.{class}
 use Rattle.walks.proofs.Up.{up, up-shift}
 use Rattle.grove_terms.specs.declared.node.Node.{Node}
 use Rattle.grove_terms.specs.declared.node.What.TheVariants as whats
-use Rattle.grove_terms.specs.Nodes.{node_at, child_node, place_nodes, nodes_under}
+use Rattle.grove_terms.specs.Nodes.{node_at, child_node, place_nodes}
 use Rattle.grove_terms.proofs.InLive.{IsFromPlace, children_lead, target_has_parent, above_target}
-use Rattle.grove_terms.proofs.Forests.{forest_of, Stands, below_stands}
+use Rattle.grove_terms.proofs.Forests.{Stands, below_stands}
 use Rattle.grove_decompose.specs.declared.task.Task.{Task}
 use Rattle.grove_decompose.specs.declared.task.Task.TheVariants.{Place, Child}
-use Rattle.grove_decompose.specs.Tasks.{what_by, under_by, child_list, child_lists, task_nodes, todo, place_tasks, child_tasks, place_head, place_rest, child_rest, step_nodes, step_tasks, knows, IsUnder, IsSoundPlace, IsSoundChild, IsSound}
+use Rattle.grove_decompose.specs.Tasks.{what_by, under_by, child_list, child_lists, task_nodes, todo, place_tasks, child_tasks, place_head, place_rest, child_rest, step_nodes, step_tasks, knows, IsUnder, IsSoundChild, IsSound}
 use Rattle.grove_decompose.proofs.Places.{same_position_exact, few_positions, all_known, all_at, BelowStands, todo-append, under-tasks}
 
 -- ---- nodes

@@ -1,27 +1,18 @@
 -- Under a root that heads a tree, only the root itself is the root of a cycle.
-use Rattle.std.proofs.Common.{◌≡◌, ◌⊎◌, inl, inr, ℕ, zero, suc, ◌+◌, ◌-◌, ◌*◌, ◌/◌, ◌%◌, ◌<◌, ◌≤◌, Bool, true, false, List, [], ◌∷◌, length, refl, sym, ap, subst, ◌∙◌, arith}
-use native.Mathlib.Numerals.{unary_clauses}
-use Rattle.std.specs.Prelude.{◌&&◌, ◌||◌, Option, Some, None}
-use Rattle.std.specs.declared.cmp.Ordering.{Ordering}
-use Rattle.std.specs.declared.cmp.Ordering.TheVariants.{Less, Equal, Greater}
-use Rattle.std.specs.Ordering.{is_gt, ordering_reverse}
+use Rattle.std.proofs.Common.{◌≡◌, suc, Bool, true, false, List, [], ◌∷◌, refl, sym, ap, ◌∙◌}
+use Rattle.std.specs.Prelude.{◌||◌, Option, Some, None}
 use Rattle.grove_edits.specs.declared.vertex.Vertex.{Vertex}
 use Rattle.grove_edits.specs.declared.edge.Edge.{Edge}
-use Rattle.grove_edits.specs.Vertex.{vertex_cmp}
-use Rattle.grove_edits.proofs.Orders.{vertex_cmp_exact, vertex_cmp_total}
 use Rattle.grove_edits.specs.Graph.{is_same_edge}
-use Rattle.walks.specs.declared.class.Class.{Class}
-use Rattle.walks.specs.declared.class.Class.TheVariants.{NoParent, Multi, Cycle, Inner}
+use Rattle.walks.specs.declared.class.Class.TheVariants.{Multi, Cycle, Inner}
 use Rattle.walks.specs.declared.few.Few.{Few}
-use Rattle.walks.specs.declared.few.Few.TheVariants.{Zero, One, More}
+use Rattle.walks.specs.declared.few.Few.TheVariants.{More}
 use Rattle.walks.specs.Few.{first_two}
-use Rattle.walks.specs.Live.{holds_edge, is_same_vertex, parents_of}
-use Rattle.walks.specs.Walk.{only_source, above, above_last, walk}
-use Rattle.walks.specs.Class.{is_vertex_of, is_least, is_cycle_root, class_by, class}
-use Rattle.walks.proofs.Vertices.{same_vertex_exact, same_vertex_itself, vertex_cmp_itself}
+use Rattle.walks.specs.Live.{holds_edge, parents_of}
+use Rattle.walks.specs.Walk.{only_source, above}
+use Rattle.walks.specs.Class.{is_cycle_root, class_by, class}
 use Rattle.walks.proofs.Up.{up, next_above, up-shift}
 use Rattle.unicycle_roots.proofs.Cycles.{no_root_below_none, one_root}
-use Rattle.grove_terms.specs.declared.node.What.{What}
 use Rattle.grove_terms.specs.declared.node.What.TheVariants as whats
 use Rattle.grove_terms.proofs.InLive.{stands_among, same_edge_exact}
 use Rattle.grove_decompose.specs.Tasks.{what_by, IsUnder}

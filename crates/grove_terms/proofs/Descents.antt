@@ -1,9 +1,8 @@
 -- Descents from a root through inner vertices: no vertex stands on one twice, so none is longer than there are edges.
-use Rattle.std.proofs.Common.{◌≡◌, ℕ, suc, ◌+◌, ◌<◌, ◌≤◌, Bool, true, false, List, [], ◌∷◌, length, refl, sym, ap, subst, ◌∙◌, arith}
-use Rattle.std.specs.Prelude.{◌||◌, Option, Some, None}
+use Rattle.std.proofs.Common.{◌≡◌, suc, ◌≤◌, Bool, true, false, List, [], ◌∷◌, length, refl, sym, ap, ◌∙◌, arith}
+use Rattle.std.specs.Prelude.{◌||◌, Some}
 use Rattle.grove_edits.specs.declared.vertex.Vertex.{Vertex}
 use Rattle.grove_edits.specs.declared.edge.Edge.{Edge}
-use Rattle.walks.specs.declared.class.Class.{Class}
 use Rattle.walks.specs.declared.class.Class.TheVariants.{Inner}
 use Rattle.walks.specs.Live.{is_same_vertex, stands_in}
 use Rattle.walks.specs.Walk.{above}

@@ -1,6 +1,6 @@
 -- Edges that stand in a list of live edges: their targets have parents, and those under a vertex lead from it.
-use Rattle.std.proofs.Common.{◌≡◌, Bool, true, false, cond, List, [], ◌∷◌, ◌++◌, refl, sym, ap, subst, ◌∙◌}
-use Rattle.std.specs.Prelude.{◌||◌, ◌&&◌, filter, Option, Some, None}
+use Rattle.std.proofs.Common.{◌≡◌, Bool, true, false, cond, List, [], ◌∷◌, ◌++◌, refl, ap, ◌∙◌}
+use Rattle.std.specs.Prelude.{◌||◌, ◌&&◌, Some}
 use Rattle.std.specs.List.{AllByRecursion}
 use Rattle.std.specs.Ordering.{is_eq}
 use Rattle.std.specs.declared.cmp.Ordering.{Ordering}
@@ -14,8 +14,7 @@ use Rattle.grove_edits.specs.Edge.{edge_cmp}
 use Rattle.grove_edits.specs.Graph.{is_same_edge}
 use Rattle.std.proofs.lemmas.Cmp.{tied_itself}
 use Rattle.grove_edits.proofs.Orders.{edge_cmp_exact, edge_cmp_total}
-use Rattle.walks.specs.declared.class.Class.{Class}
-use Rattle.walks.specs.declared.class.Class.TheVariants.{NoParent, Multi, Cycle, Inner}
+use Rattle.walks.specs.declared.class.Class.TheVariants.{NoParent, Inner}
 use Rattle.walks.specs.Live.{holds_edge, is_same_vertex, is_same_position, parents_of, children_of}
 use Rattle.walks.specs.Walk.{only_source, above}
 use Rattle.walks.specs.Class.{is_cycle_root, class_by, class}

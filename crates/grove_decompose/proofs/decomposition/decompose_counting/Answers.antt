@@ -1,4 +1,4 @@
-use Rattle.std.proofs.Common.{◌≡◌, ap, ◌∙◌}
+use Rattle.std.proofs.Common.{ap, ◌∙◌}
 use Rattle.edge_index.specs.Lists.{live}
 use Rattle.graph_store.specs.Store.{state_in}
 use Rattle.walks.specs.declared.class.Class.TheVariants.{NoParent, Multi, Cycle}

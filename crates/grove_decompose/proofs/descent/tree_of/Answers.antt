@@ -1,4 +1,4 @@
-use Rattle.std.proofs.Common.{rules, ◌≡◌, ◌++◌, sym, ap, ◌∙◌}
+use Rattle.std.proofs.Common.{rules}
 use Rattle.grove_decompose.proofs.Going.{begun, task_is_sound, gone_on, less_left, listed_whole}
 use Rattle.grove_decompose.proofs.descent.tree_of.Goals as goal
 

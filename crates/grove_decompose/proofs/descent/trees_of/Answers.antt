@@ -1,4 +1,4 @@
-use Rattle.std.proofs.Common.{◌≡◌, ◌∷◌, ◌+◌, drop, List, [], refl, arith}
+use Rattle.std.proofs.Common.{◌≡◌, ◌∷◌, ◌+◌, drop, List, [], arith}
 use Rattle.std.proofs.lemmas.Grind.{common_steps}
 use Rattle.grove_edits.specs.declared.vertex.Vertex.{Vertex}
 use Rattle.grove_decompose.proofs.Going.{one_more_tree, all_trees}

@@ -1,5 +1,5 @@
 use Rattle.std.proofs.lemmas.Grind.{common_steps}
-use Rattle.std.proofs.Common.{arith, ◌≡◌, ◌∷◌, ◌+◌, List, drop, ◌++◌, Vec, Global, [], ap, ◌∙◌}
+use Rattle.std.proofs.Common.{arith, ◌≡◌, ◌∷◌, ◌+◌, List, drop, ◌++◌, Vec, Global, ap, ◌∙◌}
 use Rattle.grove_edits.specs.declared.vertex.Vertex.{Vertex}
 use Rattle.walks.specs.declared.class.Class.TheVariants.{NoParent, Multi}
 use Rattle.walks.specs.Class.{of_class}

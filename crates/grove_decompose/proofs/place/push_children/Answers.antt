@@ -1,4 +1,4 @@
-use Rattle.std.proofs.Common.{◌≡◌, ◌∷◌, ◌-◌, ◌<◌, suc, length, take, sym, ap, ◌∙◌, arith}
+use Rattle.std.proofs.Common.{◌≡◌, ◌-◌, suc, take, sym, ap, ◌∙◌, arith}
 use Rattle.grove_decompose.specs.Tasks.{child_tasks}
 use Rattle.grove_decompose.proofs.Pushing.{child_tasks-take, pushed}
 use Rattle.grove_decompose.proofs.place.push_children.Goals as goal

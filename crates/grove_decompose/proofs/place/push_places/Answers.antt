@@ -1,4 +1,4 @@
-use Rattle.std.proofs.Common.{◌≡◌, ◌∷◌, ◌-◌, ◌<◌, suc, length, take, sym, ap, ◌∙◌, arith}
+use Rattle.std.proofs.Common.{◌≡◌, ◌-◌, suc, take, sym, ap, ◌∙◌, arith}
 use Rattle.grove_sorts.specs.Ctor.{positions}
 use Rattle.grove_decompose.specs.Tasks.{place_tasks}
 use Rattle.grove_decompose.proofs.Pushing.{place_tasks-take, pushed}
