@@ -1,2 +1,3 @@
 pub mod ScopeLemmas
 pub mod RowLemmas
+pub mod NodeLemmas

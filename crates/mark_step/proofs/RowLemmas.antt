@@ -1,5 +1,5 @@
 -- The rules of marking as functions give what the rows of the tables give.
-use Rattle.std.proofs.Common.{◌≡◌, ◌≢◌, ℕ, suc, Bool, true, false, List, [], ◌∷◌, ◌++◌, length, Option, None, Some, is_some, unwrap_or, refl, sym, ap, subst, ◌∙◌, if◌then◌else◌, arith}
+use Rattle.std.proofs.Common.{◌≡◌, ◌≢◌, Bool, true, false, List, [], ◌∷◌, ◌++◌, length, Option, None, Some, is_some, unwrap_or, refl, sym, ap, subst, ◌∙◌, if◌then◌else◌, arith}
 use Rattle.std.specs.Option.{option_map}
 use Rattle.grove_sorts.specs.declared.ctor.Ctor.{Ctor}
 use Rattle.grove_sorts.specs.declared.ctor.Ctor.TheVariants.{Root, Var, Lam, Ap, Num, Plus, LitTrue, LitFalse, Choose, Pair, Fst, Snd, PVar, TNum, TBool, TArrow, TProd}
@@ -12,9 +12,9 @@ use Rattle.type_core.proofs.TypLemmas.{meet-inconsistent, is_some-meet}
 use Rattle.mark_step.specs.declared.node.Mark.{Mark}
 use Rattle.mark_step.specs.declared.node.Mark.TheVariants as mark
 use Rattle.mark_step.specs.Scope.{Scope, type_of_name}
-use Rattle.mark_step.specs.Expression.{Wanted, Synthesise, Analyse, Bound, Expression, Demanded, Marked, marked, body_scope}
-use Rattle.mark_step.specs.Step.{parts_or_unknown, wanted_next, demand, or_mark, synthesised, analysed, against, mark_against, function_mark, pair_mark, settled}
-use Rattle.mark_step.specs.Rows.{Judgement, syn, ana, Synthesises, syn_var, syn_var_free, syn_lam, syn_ap, syn_ap_not_arrow, syn_num, syn_plus, syn_true, syn_false, syn_if, syn_if_branches, syn_pair, syn_fst, syn_fst_not_product, syn_snd, syn_snd_not_product, IsOther, Analyses, ana_lam, ana_lam_ascription, ana_lam_against, ana_if, ana_pair, ana_pair_against, ana_marked, ana_inconsistent, ana_other, Follows, FollowsAs, child_types, judged, judgements_after, judgements, expression_count}
+use Rattle.mark_step.specs.Expression.{Wanted, Synthesise, Analyse, Bound, Expression, Marked, marked, body_scope}
+use Rattle.mark_step.specs.Step.{wanted_next, or_mark, synthesised, analysed, against, mark_against, function_mark, pair_mark, settled}
+use Rattle.mark_step.specs.Rows.{Judgement, syn, ana, Synthesises, syn_var, syn_var_free, syn_lam, syn_ap, syn_ap_not_arrow, syn_num, syn_plus, syn_true, syn_false, syn_if, syn_if_branches, syn_pair, syn_fst, syn_fst_not_product, syn_snd, syn_snd_not_product, IsOther, Analyses, ana_lam, ana_lam_ascription, ana_lam_against, ana_if, ana_pair, ana_pair_against, ana_marked, ana_inconsistent, ana_other, Follows, FollowsAs, child_types, judgements_after, judgements, expression_count}
 
 abbrev expression : Ctor → Scope → Bound → Wanted → Expression
 expression ctor scope b w = record { ctor = ctor; scope = scope; wanted = w; bound = b }

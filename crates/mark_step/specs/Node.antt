@@ -19,7 +19,7 @@ use Rattle.mark_step.specs.declared.node.Binder.{Binder}
 use Rattle.mark_step.specs.declared.node.NodeView.{NodeView}
 use Rattle.mark_step.specs.declared.node.Demand.{Demand}
 use Rattle.mark_step.specs.declared.node.Settled.{Settled}
-use Rattle.mark_step.specs.Scope.{Scope, scope_at, IsTyped}
+use Rattle.mark_step.specs.Scope.{scope_at, IsTyped}
 use Rattle.mark_step.specs.Expression.{Wanted, Synthesise, Analyse, Bound, Expression, Demanded, Marked}
 use Rattle.mark_step.specs.Rows.{is_exp}
 

@@ -1,83 +1,99 @@
+#![tactic(auto, using(crate::proofs::NodeLemmas::numbers_from_each))]
+
 use crate::children::child_demand;
-use crate::node::{Binder, Demand, Mark, Mode, NodeView, Settled, WIDEST};
+use crate::node::{Binder, Demand, Mark, Mode, NodeView, Settled};
 use crate::settling::settle;
-use ctx_table::{CtxId, CtxTable};
+use ctx_table::CtxTable;
 use grove_sorts::{Ctor, read_ident};
 use std::test::Fail;
-use type_core::{TypeId, TypeTable};
+use type_core::TypeTable;
 
-fn node(types: &TypeTable, ctor: Ctor, ctx: CtxId, mode: Mode) -> NodeView {
-    let binder = Binder {
-        name: None,
-        typ: types.unknown(),
-    };
-    NodeView {
-        ctor,
-        ctx,
-        mode,
-        binder,
-        done: [None; WIDEST],
-    }
-}
-
-// The application of a function on functions of numbers to a function that ascribes bool to its parameter and gives it back.
 #[test]
-fn a_function_ascribes_another_type(rt: HostRuntime) -> Result<(), Fail> {
+fn an_argument_is_analysed_against_the_domain(rt: HostRuntime) -> Result<(), Fail> {
     let mut types = TypeTable::new(rt.alloc())?;
     let mut ctxs = CtxTable::new(rt.alloc())?;
-    let num = types.num();
-    let arrow = types.arrow(num, num)?;
-    let unknown = types.unknown();
-    let wanted = types.arrow(arrow, unknown)?;
-
-    let mut application = node(&types, Ctor::Ap, ctxs.empty(), Mode::Syn);
-    application.done[0] = Some(wanted);
-    let argument = child_demand(rt.alloc(), &mut types, &mut ctxs, &application, 1)?;
+    let numbers = types.arrow(types.num(), types.num())?;
+    let function = types.arrow(numbers, types.unknown())?;
+    let node = NodeView {
+        ctor: Ctor::Ap,
+        ctx: ctxs.empty(),
+        mode: Mode::Syn,
+        binder: Binder {
+            name: None,
+            typ: types.unknown(),
+        },
+        done: [Some(function), Some(numbers), None],
+    };
+    let given = settle(rt.alloc(), &mut types, &ctxs, &node)?;
+    assert_eq!(rt;
+        given,
+        Settled {
+            typ: types.unknown(),
+            mark: Mark::None
+        }
+    );
+    let argument = child_demand(rt.alloc(), &mut types, &mut ctxs, &node, 1)?;
     assert_eq!(rt;
         argument,
         Demand {
             ctx: ctxs.empty(),
-            mode: Mode::Ana(arrow)
+            mode: Mode::Ana(numbers)
         }
     );
+    Ok(())
+}
 
+#[test]
+fn a_function_ascribes_another_type(rt: HostRuntime) -> Result<(), Fail> {
+    let mut types = TypeTable::new(rt.alloc())?;
+    let mut ctxs = CtxTable::new(rt.alloc())?;
+    let numbers = types.arrow(types.num(), types.num())?;
     let x = read_ident(b"x")?;
-    let mut function = node(&types, Ctor::Lam, argument.ctx, argument.mode);
-    function.binder = Binder {
-        name: Some(x),
-        typ: types.boolean(),
+    let node = NodeView {
+        ctor: Ctor::Lam,
+        ctx: ctxs.empty(),
+        mode: Mode::Ana(numbers),
+        binder: Binder {
+            name: Some(x),
+            typ: types.boolean(),
+        },
+        done: [None, None, Some(types.boolean())],
     };
-    let body = child_demand(rt.alloc(), &mut types, &mut ctxs, &function, 2)?;
-    assert_eq!(rt; body.mode, Mode::Ana(num));
+    let given = settle(rt.alloc(), &mut types, &ctxs, &node)?;
+    assert_eq!(rt;
+        given,
+        Settled {
+            typ: numbers,
+            mark: Mark::Ascription
+        }
+    );
+    let body = child_demand(rt.alloc(), &mut types, &mut ctxs, &node, 2)?;
+    assert_eq!(rt; body.mode, Mode::Ana(types.num()));
     assert_eq!(rt; ctxs.look_up(body.ctx, &x), Some(types.boolean()));
+    Ok(())
+}
 
-    let variable = node(&types, Ctor::Var(x), body.ctx, body.mode);
-    let given = settle(rt.alloc(), &mut types, &ctxs, &variable)?;
+#[test]
+fn a_variable_has_another_type(rt: HostRuntime) -> Result<(), Fail> {
+    let mut types = TypeTable::new(rt.alloc())?;
+    let mut ctxs = CtxTable::new(rt.alloc())?;
+    let x = read_ident(b"x")?;
+    let node = NodeView {
+        ctor: Ctor::Var(x),
+        ctx: ctxs.extend(ctxs.empty(), x, types.boolean())?,
+        mode: Mode::Ana(types.num()),
+        binder: Binder {
+            name: None,
+            typ: types.unknown(),
+        },
+        done: [None, None, None],
+    };
+    let given = settle(rt.alloc(), &mut types, &ctxs, &node)?;
     assert_eq!(rt;
         given,
         Settled {
             typ: types.boolean(),
             mark: Mark::Inconsistent
-        }
-    );
-
-    function.done[2] = Some(given.typ);
-    let given = settle(rt.alloc(), &mut types, &ctxs, &function)?;
-    assert_eq!(rt;
-        given,
-        Settled {
-            typ: arrow,
-            mark: Mark::Ascription
-        }
-    );
-
-    application.done[1] = Some(given.typ);
-    let given = settle(rt.alloc(), &mut types, &ctxs, &application)?;
-    assert_eq!(rt;
-        given,
-        Settled {
-            typ: unknown,
-            mark: Mark::None
         }
     );
     Ok(())
@@ -86,15 +102,22 @@ fn a_function_ascribes_another_type(rt: HostRuntime) -> Result<(), Fail> {
 #[test]
 fn branches_differ(rt: HostRuntime) -> Result<(), Fail> {
     let mut types = TypeTable::new(rt.alloc())?;
-    let mut ctxs = CtxTable::new(rt.alloc())?;
-    let num = types.num();
-    let boolean = types.boolean();
-
-    let mut conditional = node(&types, Ctor::Choose, ctxs.empty(), Mode::Syn);
-    let condition = child_demand(rt.alloc(), &mut types, &mut ctxs, &conditional, 0)?;
-    assert_eq!(rt; condition.mode, Mode::Ana(boolean));
-    conditional.done = [Some(boolean), Some(num), Some(boolean)];
-    let given = settle(rt.alloc(), &mut types, &ctxs, &conditional)?;
+    let ctxs = CtxTable::new(rt.alloc())?;
+    let node = NodeView {
+        ctor: Ctor::Choose,
+        ctx: ctxs.empty(),
+        mode: Mode::Syn,
+        binder: Binder {
+            name: None,
+            typ: types.unknown(),
+        },
+        done: [
+            Some(types.boolean()),
+            Some(types.num()),
+            Some(types.boolean()),
+        ],
+    };
+    let given = settle(rt.alloc(), &mut types, &ctxs, &node)?;
     assert_eq!(rt;
         given,
         Settled {
@@ -102,15 +125,34 @@ fn branches_differ(rt: HostRuntime) -> Result<(), Fail> {
             mark: Mark::Branches
         }
     );
+    Ok(())
+}
 
-    conditional.mode = Mode::Ana(num);
-    let branch = child_demand(rt.alloc(), &mut types, &mut ctxs, &conditional, 2)?;
-    assert_eq!(rt; branch.mode, Mode::Ana(num));
-    let given = settle(rt.alloc(), &mut types, &ctxs, &conditional)?;
+#[test]
+fn analysed_branches_are_analysed(rt: HostRuntime) -> Result<(), Fail> {
+    let mut types = TypeTable::new(rt.alloc())?;
+    let mut ctxs = CtxTable::new(rt.alloc())?;
+    let node = NodeView {
+        ctor: Ctor::Choose,
+        ctx: ctxs.empty(),
+        mode: Mode::Ana(types.num()),
+        binder: Binder {
+            name: None,
+            typ: types.unknown(),
+        },
+        done: [
+            Some(types.boolean()),
+            Some(types.num()),
+            Some(types.boolean()),
+        ],
+    };
+    let branch = child_demand(rt.alloc(), &mut types, &mut ctxs, &node, 2)?;
+    assert_eq!(rt; branch.mode, Mode::Ana(types.num()));
+    let given = settle(rt.alloc(), &mut types, &ctxs, &node)?;
     assert_eq!(rt;
         given,
         Settled {
-            typ: num,
+            typ: types.num(),
             mark: Mark::None
         }
     );

@@ -1,8 +1,7 @@
-use Rattle.std.proofs.Common.{◌≡◌, Option, IfSome, subst, ap, sym, ◌∙◌}
+use Rattle.std.proofs.Common.{Option, IfSome, subst, ap, sym, ◌∙◌}
 use Rattle.std.specs.Option.{option_map}
 use Rattle.type_core.specs.declared.type_id.TypeId.{TypeId}
 use Rattle.type_core.specs.TypeTable.{IsTypeOf, type_at}
-use Rattle.ctx_table.specs.Context.{look_up}
 use Rattle.ctx_table.specs.CtxTable.{context_at}
 use Rattle.mark_step.specs.declared.node.Mark.TheVariants as mark
 use Rattle.mark_step.specs.Step.{or_mark}
