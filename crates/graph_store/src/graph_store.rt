@@ -1,10 +1,12 @@
 ghost use Rattle.std.specs.Prelude.{◌≡◌, [], ◌∷◌, List, OnOk, OnErr, IfOk};
 ghost use Rattle.std.specs.List.{All};
+ghost use Rattle.std.specs.Map.{set_value};
 ghost use Rattle.std.specs.Option.{option_copied};
+ghost use Rattle.edge_lattice.specs.State.{state_join};
 ghost use Rattle.grove_edits.specs.declared.edit.Edit.{Edit};
 ghost use Rattle.grove_edits.specs.Edge.{edge_cmp};
 ghost use Rattle.grove_edits.specs.Edit.{edit_edge, edit_kind};
-ghost use Rattle.grove_edits.specs.Graph.{IsSame, IsCanonical, graph, graph_join, state_of};
+ghost use Rattle.grove_edits.specs.Graph.{IsSame, IsCanonical, graph, graph_join, is_same_edge, state_of};
 ghost use Rattle.walks.specs.Whole.{AreVertices, AreLive};
 ghost use Rattle.graph_store.specs.Change.{change_from};
 ghost use Rattle.graph_store.specs.Greatest.{IsGreatest, IsNameOf};
@@ -21,7 +23,7 @@ use crate::named::{ROOT, bound_after, first_named};
 use crate::no_memory::NoMemory;
 use crate::room_map::RoomMap;
 use crate::vertices::{Named, first_counted, first_vertex};
-use edge_lattice::{State, leq};
+use edge_lattice::{State, join, leq};
 use grove_edits::{Edge, Edit, EditKind, EditList, Vertex};
 use grove_names::Name;
 use std::alloc::Global;
@@ -83,8 +85,7 @@ impl GraphStore {
         ensures state { IsSame (state_in self.new) (with_state edge.now old (state_in self.old)) }
         ensures room_stays { KeepsRoom self.old self.new }
     {
-        let before = self.states.get(edge).unwrap_or(State::Absent);
-        self.states.set(edge, old);
+        let before = self.states.replace(edge, old).unwrap_or(State::Absent);
         // A vertex is at most both ends of each entry, so its count fits.
         let _entries = self.states.len();
         recount(&mut self.ends, edge, before, old);
@@ -217,12 +218,15 @@ impl GraphStore {
         ensures change { result ≡ change_from (state_in self.old edge.now) asked }
         ensures room_stays { KeepsRoom self.old self.new }
     {
-        let old = self.state(edge);
+        let old = join_state(&mut self.states, edge, asked);
+        // A vertex is at most both ends of each entry, so its count fits.
+        let _entries = self.states.len();
+        recount(&mut self.ends, edge, old, join(old, asked));
         if leq(asked, old) {
-            return Change::Same;
+            Change::Same
+        } else {
+            Change::Raised { old }
         }
-        self.put_back(edge, asked);
-        Change::Raised { old }
     }
 
     fn reserve_for_edits(&mut self, edits: &[Edit]) -> Result<(), NoMemory>
@@ -256,6 +260,20 @@ impl GraphStore {
             self.raise_to(edge, *state);
         }
     }
+}
+
+// Joins a state to that of an edge that has room, and answers the old one.
+fn join_state(states: &mut RoomMap<Edge, State>, edge: &Edge, asked: State) -> State
+    requires { HasRoom states.old.entries.entries edge.now }
+    ensures old { result ≡ state_in states.old.entries.entries edge.now }
+    ensures joined { states.new.entries.entries ≡ set_value (is_same_edge edge.now) states.old.entries.entries (state_join result asked) }
+{
+    let Some(state) = states.entries.get_mut(edge) else {
+        return State::Absent;
+    };
+    let old = *state;
+    *state = join(old, asked);
+    old
 }
 
 // What an edit asks its edge to be at least.
