@@ -33,6 +33,7 @@ use std::ops::Bound;
 /// A live graph: the state of each edge. Contracts see its entries, of which those with the state Absent are room.
 #[derive(Debug, Drop)]
 pub struct GraphStore {
+    alloc: Global,
     states: RoomMap<Edge, State>,
     // How many ends of present edges each vertex is.
     ends: RoomMap<Vertex, u64>,
@@ -55,6 +56,7 @@ impl GraphStore {
         ensures empty { result ≡ [] }
     {
         GraphStore {
+            alloc,
             states: RoomMap::new(alloc),
             ends: RoomMap::new(alloc),
         }
@@ -107,10 +109,10 @@ impl GraphStore {
         ensures unchanged { OnErr result (IsSame (state_in self.new) (state_in self.old)) }
         ensures room_stays { KeepsRoom self.old self.new }
     {
-        self.reserve_for_edits(edits)?;
-        for edit in edits {
-            self.raise(edit);
-        }
+        // In edge order, since the entries of neighbouring edges lie close to each other.
+        let sorted = canonical(self.alloc, edits)?;
+        self.reserve_for_edits(sorted.as_slice())?;
+        self.raise_listed(sorted.as_slice());
         Ok(())
     }
 
@@ -240,6 +242,16 @@ impl GraphStore {
         Ok(())
     }
 
+    fn raise_listed(&mut self, edits: &[Edit])
+        requires { All (λ edit. HasRoom self.old (edit_edge edit)) edits.now }
+        ensures joined { IsSame (state_in self.new) (graph_join (state_in self.old) (graph edits.now)) }
+        ensures room_stays { KeepsRoom self.old self.new }
+    {
+        for edit in edits {
+            self.raise(edit);
+        }
+    }
+
     fn reserve_for_all(&mut self, other: &GraphStore) -> Result<(), NoMemory>
         ensures room { OnOk result (KeepsRoom other.now self.new) }
         ensures room_stays { KeepsRoom self.old self.new }
@@ -260,6 +272,15 @@ impl GraphStore {
             self.raise_to(edge, *state);
         }
     }
+}
+
+// One edit for each edge, in edge order, which make the same graph.
+fn canonical(alloc: Global, edits: &[Edit]) -> Result<EditList, NoMemory>
+    ensures canonical { IfOk result (IsCanonical (graph edits.now)) }
+{
+    let mut list = EditList::new(alloc);
+    list.extend_from_slice(edits)?;
+    Ok(list.into_canonical(alloc)?)
 }
 
 // Joins a state to that of an edge that has room, and answers the old one.
