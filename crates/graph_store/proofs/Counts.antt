@@ -72,6 +72,16 @@ set_value_congr p q h [] x = refl
 set_value_congr {K} {X} p q h (e ∷ es) x =
     ap (λ b. cond b ((e.0, x) ∷ es) (e ∷ set_value p es x)) (h e.0) ∙ ap (λ (fs : List (K × X)). cond (q e.0) ((e.0, x) ∷ es) (e ∷ fs)) (set_value_congr p q h es x)
 
+by_edge : (k : Edge) (es : Entries) (s : State) → set_value (is_at (edge_impl.ghosts.cmp k)) es s ≡ set_value (is_same_edge k) es s
+by_edge k es s = set_value_congr (is_at (edge_impl.ghosts.cmp k)) (is_same_edge k) (test_is_same_edge k) es s
+
+-- the code sets the state of the edge itself
+pub set_by_edge : (k : Edge) (s : State) (es fs : Entries) → fs ≡ set_value (is_at (edge_impl.ghosts.cmp k)) es s → fs ≡ set_value (is_same_edge k) es s
+set_by_edge k s es fs is = is ∙ by_edge k es s
+
+pub set_by_order : (k : Edge) (s : State) (es fs : Entries) → fs ≡ set_value (is_same_edge k) es s → fs ≡ set_value (is_at (edge_impl.ghosts.cmp k)) es s
+set_by_order k s es fs is = is ∙ sym (by_edge k es s)
+
 uses_set_here : (v : Vertex) (k : Edge) (s old : State) (es : Entries) → entry_at es k ≡ Some old
     → uses (set_value (is_same_edge k) es s) v + weight old k v ≡ uses es v + weight s k v
 uses_set_here v k s old [] none = absurd cc
@@ -97,7 +107,7 @@ uses_set_here v k s old (x ∷ es) found = by_test (is_same_edge k x.0) refl fou
 pub uses_set : (v : Vertex) (k : Edge) (s : State) (es fs : Entries) → HasRoom es k → fs ≡ set_value (is_at (edge_impl.ghosts.cmp k)) es s
     → uses fs v + weight (state_in es k) k v ≡ uses es v + weight s k v
 uses_set v k s es fs room is =
-    let same : fs ≡ set_value (is_same_edge k) es s = is ∙ set_value_congr (is_at (edge_impl.ghosts.cmp k)) (is_same_edge k) (test_is_same_edge k) es s in
+    let same = set_by_edge k s es fs is in
     ap (λ (gs : Entries). uses gs v + weight (state_in es k) k v) same ∙ uses_set_here v k s (state_in es k) es (by_entry (entry_at es k) room)
   where
     by_entry : (o : Option State) → is_some o ≡ true → o ≡ Some (unwrap_or o Absent)

@@ -1,12 +1,12 @@
 -- Graphs joined with one state, and with all the entries of a store.
-use Rattle.std.proofs.Common.{◌≡◌, Bool, true, false, cond, List, [], ◌∷◌, Some, Less, is_eq, is_some, unwrap_or, refl, sym, ap, subst, ◌∙◌, inl, inr, ◌⊎◌, arith}
+use Rattle.std.proofs.Common.{◌≡◌, Bool, true, false, cond, List, [], ◌∷◌, Some, Less, is_eq, is_some, unwrap_or, refl, sym, ap, subst, ◌∙◌, inl, inr, ◌⊎◌}
 use Rattle.std.specs.List.{AllByRecursion}
 use Rattle.std.specs.List.Sorted.{IsStrictlySortedBy}
 use Rattle.std.specs.Map.{keys_of}
 use Rattle.std.specs.Ordering.{ordering_reverse}
 use Rattle.edge_lattice.specs.declared.state.State.{State}
-use Rattle.edge_lattice.specs.declared.state.State.TheVariants.{Absent, Live, Deleted}
-use Rattle.edge_lattice.specs.State.{state_join, IsAtMost}
+use Rattle.edge_lattice.specs.declared.state.State.TheVariants.{Absent}
+use Rattle.edge_lattice.specs.State.{state_join}
 use Rattle.edge_lattice.proofs.States.{state_join_assoc, state_join_comm, Absent-state_join}
 use Rattle.grove_edits.specs.declared.edge.Edge.{Edge}
 use Rattle.grove_edits.specs.contracts.edge.EdgeOrd.TheImpl as edge_impl
@@ -20,43 +20,14 @@ use Rattle.grove_edits.proofs.Orders.{same_edge_laws, one_edge}
 
 -- ---- one state
 
-join_below : (old asked : State) → IsAtMost asked old → state_join old asked ≡ old
-join_below Absent Absent h = refl
-join_below Absent Live h = absurd (omega arith)
-join_below Absent Deleted h = absurd (omega arith)
-join_below Live Absent h = refl
-join_below Live Live h = refl
-join_below Live Deleted h = absurd (omega arith)
-join_below Deleted Absent h = refl
-join_below Deleted Live h = refl
-join_below Deleted Deleted h = refl
-
-join_above : (old asked : State) → (IsAtMost asked old → ⊥) → state_join old asked ≡ asked
-join_above Absent Absent h = refl
-join_above Absent Live h = refl
-join_above Absent Deleted h = refl
-join_above Live Absent h = absurd (h (omega arith))
-join_above Live Live h = refl
-join_above Live Deleted h = refl
-join_above Deleted Absent h = absurd (h (omega arith))
-join_above Deleted Live h = absurd (h (omega arith))
-join_above Deleted Deleted h = refl
-
 pub join_nothing : (s : State) → state_join s Absent ≡ s
 join_nothing s = state_join_comm s Absent ∙ Absent-state_join s
 
--- a state that the edge has already adds nothing to the graph
-pub joined_below : (g : Graph) (edge : Edge) (asked : State) → IsAtMost asked (g edge) → IsSame g (graph_join g (only edge asked))
-joined_below g edge asked below e = by_test (is_same_edge edge e) refl where
-  by_test : (b : Bool) → is_same_edge edge e ≡ b → g e ≡ state_join (g e) (cond b asked Absent)
-  by_test true same = sym (join_below (g e) asked (subst (λ (f : Edge). IsAtMost asked (g f)) (one_edge edge e same) below))
-  by_test false other = sym (join_nothing (g e))
-
--- a greater state takes the place of the edge's own
-pub joined_above : (g h : Graph) (edge : Edge) (asked : State) → (IsAtMost asked (g edge) → ⊥) → IsSame h (with_state edge asked g) → IsSame h (graph_join g (only edge asked))
-joined_above g h edge asked above set e = set e ∙ by_test (is_same_edge edge e) refl where
-  by_test : (b : Bool) → is_same_edge edge e ≡ b → cond b asked (g e) ≡ state_join (g e) (cond b asked Absent)
-  by_test true same = sym (join_above (g e) asked (subst (λ (f : Edge). IsAtMost asked (g f) → ⊥) (one_edge edge e same) above))
+-- an edge that gets the join of its state and another makes the graph joined with that one
+pub joined_one : (g h : Graph) (edge : Edge) (asked : State) → IsSame h (with_state edge (state_join (g edge) asked) g) → IsSame h (graph_join g (only edge asked))
+joined_one g h edge asked set e = set e ∙ by_test (is_same_edge edge e) refl where
+  by_test : (b : Bool) → is_same_edge edge e ≡ b → cond b (state_join (g edge) asked) (g e) ≡ state_join (g e) (cond b asked Absent)
+  by_test true same = ap (λ (f : Edge). state_join (g f) asked) (one_edge edge e same)
   by_test false other = sym (join_nothing (g e))
 
 -- ---- the entries of a store

@@ -1,9 +1,13 @@
 -- What a change of the code's map makes of the entries of a store.
 use Rattle.std.proofs.Common.{◌≡◌, Bool, true, false, cond, List, [], ◌∷◌, Option, Some, None, Ordering, Less, Equal, Greater, is_eq, is_some, IsSome, unwrap_or, refl, sym, ap, ◌∙◌, inl, inr, ◌⊎◌, BTreeMap}
 use Rattle.std.specs.Cmp.{IsTotalOrder}
-use Rattle.std.specs.Map.{lookup, set_value}
-use Rattle.std.specs.BTreeMap.{is_at, get}
-use Rattle.std.proofs.lemmas.Map.{lookup-set_value}
+use Rattle.std.specs.List.Sorted.{IsStrictlySortedBy}
+use Rattle.std.specs.Map.{keys_of, lookup, set_value}
+use Rattle.std.specs.Ordering.{match_ordering}
+use Rattle.std.specs.BTreeMap.{is_at, get, insert_entry}
+use Rattle.std.proofs.lemmas.Map.{lookup-set_value, lookup-none}
+use Rattle.std.proofs.lemmas.Map.Entries.{none_below_head}
+use Rattle.std.proofs.lemmas.Map.Keys.{sorted_tail}
 use Rattle.edge_lattice.specs.declared.state.State.{State}
 use Rattle.edge_lattice.specs.declared.state.State.TheVariants.{Absent}
 use Rattle.grove_edits.specs.declared.edge.Edge.{Edge}
@@ -22,17 +26,38 @@ lookup_congr p q h (e ∷ es) = ap (λ b. cond b (Some e.1) (lookup p es)) (h e.
 lookup_alike : {K X : Type 0} {R : K → K → Ordering} (o : IsTotalOrder R) (a b : K) (es : List (K × X)) → R a b ≡ Equal → lookup (is_at (R a)) es ≡ lookup (is_at (R b)) es
 lookup_alike {R = R} o a b es h = lookup_congr (is_at (R a)) (is_at (R b)) (λ k. ap is_eq (o.congr a b k h)) es
 
-pub none_from_test : {X : Type 0} (found : Option X) → is_some found ≡ false → found ≡ None
-none_from_test None h = refl
-none_from_test (Some x) h = absurd cc
+some_same : {X : Type 0} {x y : X} → Some x ≡ Some y → x ≡ y
+some_same {x = x} h = ap (λ o. unwrap_or o x) h
+
+none_is_some : {X : Type 0} {x : X} → None ≡ Some x → ⊥
+none_is_some h = absurd cc
+
+pub none_from_cases : {X : Type 0} (o : Option X) → ((x : X) → o ≡ Some x → ⊥) → o ≡ None
+none_from_cases None not_some = refl
+none_from_cases (Some x) not_some = absurd (not_some x refl)
+
+put_back_same : {K X : Type 0} {R : K → K → Ordering} (o : IsTotalOrder R) (k : K) (x y : X) (es : List (K × X)) → IsStrictlySortedBy R (keys_of es) → lookup (is_at (R k)) es ≡ Some x
+    → set_value (is_at (R k)) (insert_entry R es k y) x ≡ es
+put_back_same o k x y [] up found = absurd cc
+put_back_same {K} {X} {R} o k x y (e ∷ es) up found = by_order (R k e.0) refl found (put_back_same o k x y es (sorted_tail R e.0 (keys_of es) up)) where
+  by_order : (t : Ordering) → R k e.0 ≡ t → cond (is_eq t) (Some e.1) (lookup (is_at (R k)) es) ≡ Some x → (lookup (is_at (R k)) es ≡ Some x → set_value (is_at (R k)) (insert_entry R es k y) x ≡ es)
+      → set_value (is_at (R k)) (match_ordering t ((k, y) ∷ e ∷ es) ((e.0, y) ∷ es) (e ∷ insert_entry R es k y)) x ≡ e ∷ es
+  by_order Less below h rest = absurd (none_is_some (sym (lookup-none (is_at (R k)) (e ∷ es) (none_below_head o k e es up below)) ∙ found))
+  by_order Equal at h rest = ap (λ t. cond (is_eq t) ((e.0, x) ∷ es) ((e.0, y) ∷ set_value (is_at (R k)) es x)) at ∙ ap (λ (z : X). (e.0, z) ∷ es) (sym (some_same h))
+  by_order Greater above h rest = ap (λ t. cond (is_eq t) ((e.0, x) ∷ insert_entry R es k y) (e ∷ set_value (is_at (R k)) (insert_entry R es k y) x)) above ∙ ap (λ (fs : List (K × X)). e ∷ fs) (rest h)
+
+-- another value for a key, and then its own again, changes nothing
+pub put_back : {K X : Type 0} {R : K → K → Ordering} (o : IsTotalOrder R) (k : K) (x y : X) (es fs gs : List (K × X)) → IsStrictlySortedBy R (keys_of es) → lookup (is_at (R k)) es ≡ Some x
+    → fs ≡ insert_entry R es k y → gs ≡ set_value (is_at (R k)) fs x → gs ≡ es
+put_back {K} {X} {R} o k x y es fs gs up found put back = back ∙ ap (λ (ls : List (K × X)). set_value (is_at (R k)) ls x) put ∙ put_back_same o k x y es up found
 
 -- where an absent key has got a value, each other key keeps its own
 pub gets_room : {K X : Type 0} {R : K → K → Ordering} (o : IsTotalOrder R) (k : K) (v : X) (m n : BTreeMap K X)
-    → ((q : K) → get R n q ≡ cond (is_at (R k) q) (Some v) (get R m q)) → is_some (get R m k) ≡ false → GetsRoom R k v m n
+    → ((q : K) → get R n q ≡ cond (is_at (R k) q) (Some v) (get R m q)) → get R m k ≡ None → GetsRoom R k v m n
 gets_room {K} {X} {R} o k v m n changed absent q = by_test (R k q) refl where
   by_test : (t : Ordering) → R k q ≡ t → (get R n q ≡ get R m q) ⊎ ((R k q ≡ Equal) × (get R m q ≡ None) × (get R n q ≡ Some v))
   by_test Less e = inl (changed q ∙ ap (λ t. cond (is_eq t) (Some v) (get R m q)) e)
-  by_test Equal e = inr (e, sym (lookup_alike o k q m.entries e) ∙ none_from_test (get R m k) absent, changed q ∙ ap (λ t. cond (is_eq t) (Some v) (get R m q)) e)
+  by_test Equal e = inr (e, sym (lookup_alike o k q m.entries e) ∙ absent, changed q ∙ ap (λ t. cond (is_eq t) (Some v) (get R m q)) e)
   by_test Greater e = inl (changed q ∙ ap (λ t. cond (is_eq t) (Some v) (get R m q)) e)
 
 -- ---- edges

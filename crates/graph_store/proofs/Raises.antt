@@ -1,5 +1,5 @@
 -- Graphs of edits that a store raised, and of edges that are not well formed.
-use Rattle.std.proofs.Common.{◌≡◌, ◌≢◌, ℕ, suc, ◌+◌, ◌<◌, ◌≤◌, Bool, true, false, cond, List, [], ◌∷◌, ◌++◌, length, take, slice_index_or, Option, Some, None, is_some, is_none, unwrap_or, true≢false, refl, sym, ap, ◌∙◌, arith}
+use Rattle.std.proofs.Common.{◌≡◌, ◌≢◌, ℕ, suc, ◌+◌, ◌<◌, ◌≤◌, Bool, true, false, cond, List, [], ◌∷◌, ◌++◌, length, take, slice_index_or, Option, Some, None, is_some, is_none, unwrap_or, refl, sym, ap, ◌∙◌, arith}
 use Rattle.std.proofs.Math.Seq.{take-suc, take-length}
 use Rattle.edge_lattice.specs.declared.state.State.{State}
 use Rattle.edge_lattice.specs.declared.state.State.TheVariants.{Absent}
@@ -8,8 +8,7 @@ use Rattle.edge_lattice.proofs.States.{state_join_assoc, Absent-state_join}
 use Rattle.grove_edits.specs.declared.edge.Edge.{Edge}
 use Rattle.grove_edits.specs.declared.edit.Edit.{Edit}
 use Rattle.grove_edits.specs.Edge.{edge_fault}
-use Rattle.grove_edits.specs.Edit.{edit_edge, edit_kind}
-use Rattle.grove_edits.specs.Graph.{Graph, graph, graph_join, state_of, is_same_edge, IsSame, IsCanonical}
+use Rattle.grove_edits.specs.Graph.{Graph, graph, graph_join, IsSame, IsCanonical}
 use Rattle.grove_edits.proofs.Graphs.{graph-append, unnamed}
 use Rattle.graph_store.specs.Raised.{IsRaised, AreRaised}
 use Rattle.graph_store.specs.Store.{Entries, entry_at, state_in, HasRoom, well_formed}

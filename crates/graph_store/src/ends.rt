@@ -59,8 +59,9 @@ fn count_up(ends: &mut RoomMap<Vertex, u64>, vertex: &Vertex)
     ensures counts { (v : Vertex) → count_of ends.new.entries.entries v ≡ count_of ends.old.entries.entries v + once (is_same_vertex vertex.now v) }
     ensures kept { KeepsCounts ends.old.entries.entries ends.new.entries.entries }
 {
-    let count = ends.get(vertex).unwrap_or(0);
-    ends.set(vertex, count + 1);
+    if let Some(count) = ends.entries.get_mut(vertex) {
+        *count += 1;
+    }
 }
 
 fn count_down(ends: &mut RoomMap<Vertex, u64>, vertex: &Vertex)
@@ -69,6 +70,7 @@ fn count_down(ends: &mut RoomMap<Vertex, u64>, vertex: &Vertex)
     ensures counts { (v : Vertex) → count_of ends.new.entries.entries v + once (is_same_vertex vertex.now v) ≡ count_of ends.old.entries.entries v }
     ensures kept { KeepsCounts ends.old.entries.entries ends.new.entries.entries }
 {
-    let count = ends.get(vertex).unwrap_or(0);
-    ends.set(vertex, count - 1);
+    if let Some(count) = ends.entries.get_mut(vertex) {
+        *count -= 1;
+    }
 }

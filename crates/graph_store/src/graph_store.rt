@@ -1,10 +1,12 @@
 ghost use Rattle.std.specs.Prelude.{◌≡◌, [], ◌∷◌, List, OnOk, OnErr, IfOk};
 ghost use Rattle.std.specs.List.{All};
+ghost use Rattle.std.specs.Map.{set_value};
 ghost use Rattle.std.specs.Option.{option_copied};
+ghost use Rattle.edge_lattice.specs.State.{state_join};
 ghost use Rattle.grove_edits.specs.declared.edit.Edit.{Edit};
 ghost use Rattle.grove_edits.specs.Edge.{edge_cmp};
 ghost use Rattle.grove_edits.specs.Edit.{edit_edge, edit_kind};
-ghost use Rattle.grove_edits.specs.Graph.{IsSame, IsCanonical, graph, graph_join, state_of};
+ghost use Rattle.grove_edits.specs.Graph.{IsSame, IsCanonical, graph, graph_join, is_same_edge, state_of};
 ghost use Rattle.walks.specs.Whole.{AreVertices, AreLive};
 ghost use Rattle.graph_store.specs.Change.{change_from};
 ghost use Rattle.graph_store.specs.Greatest.{IsGreatest, IsNameOf};
@@ -21,7 +23,7 @@ use crate::named::{ROOT, bound_after, first_named};
 use crate::no_memory::NoMemory;
 use crate::room_map::RoomMap;
 use crate::vertices::{Named, first_counted, first_vertex};
-use edge_lattice::{State, leq};
+use edge_lattice::{State, join, leq};
 use grove_edits::{Edge, Edit, EditKind, EditList, Vertex};
 use grove_names::Name;
 use std::alloc::Global;
@@ -31,6 +33,7 @@ use std::ops::Bound;
 /// A live graph: the state of each edge. Contracts see its entries, of which those with the state Absent are room.
 #[derive(Debug, Drop)]
 pub struct GraphStore {
+    alloc: Global,
     states: RoomMap<Edge, State>,
     // How many ends of present edges each vertex is.
     ends: RoomMap<Vertex, u64>,
@@ -53,6 +56,7 @@ impl GraphStore {
         ensures empty { result ≡ [] }
     {
         GraphStore {
+            alloc,
             states: RoomMap::new(alloc),
             ends: RoomMap::new(alloc),
         }
@@ -83,8 +87,7 @@ impl GraphStore {
         ensures state { IsSame (state_in self.new) (with_state edge.now old (state_in self.old)) }
         ensures room_stays { KeepsRoom self.old self.new }
     {
-        let before = self.states.get(edge).unwrap_or(State::Absent);
-        self.states.set(edge, old);
+        let before = self.states.replace(edge, old).unwrap_or(State::Absent);
         // A vertex is at most both ends of each entry, so its count fits.
         let _entries = self.states.len();
         recount(&mut self.ends, edge, before, old);
@@ -106,10 +109,10 @@ impl GraphStore {
         ensures unchanged { OnErr result (IsSame (state_in self.new) (state_in self.old)) }
         ensures room_stays { KeepsRoom self.old self.new }
     {
-        self.reserve_for_edits(edits)?;
-        for edit in edits {
-            self.raise(edit);
-        }
+        // In edge order, since the entries of neighbouring edges lie close to each other.
+        let sorted = canonical(self.alloc, edits)?;
+        self.reserve_for_edits(sorted.as_slice())?;
+        self.raise_listed(sorted.as_slice());
         Ok(())
     }
 
@@ -217,12 +220,15 @@ impl GraphStore {
         ensures change { result ≡ change_from (state_in self.old edge.now) asked }
         ensures room_stays { KeepsRoom self.old self.new }
     {
-        let old = self.state(edge);
+        let old = join_state(&mut self.states, edge, asked);
+        // A vertex is at most both ends of each entry, so its count fits.
+        let _entries = self.states.len();
+        recount(&mut self.ends, edge, old, join(old, asked));
         if leq(asked, old) {
-            return Change::Same;
+            Change::Same
+        } else {
+            Change::Raised { old }
         }
-        self.put_back(edge, asked);
-        Change::Raised { old }
     }
 
     fn reserve_for_edits(&mut self, edits: &[Edit]) -> Result<(), NoMemory>
@@ -234,6 +240,16 @@ impl GraphStore {
             self.make_room(&edit.edge())?;
         }
         Ok(())
+    }
+
+    fn raise_listed(&mut self, edits: &[Edit])
+        requires { All (λ edit. HasRoom self.old (edit_edge edit)) edits.now }
+        ensures joined { IsSame (state_in self.new) (graph_join (state_in self.old) (graph edits.now)) }
+        ensures room_stays { KeepsRoom self.old self.new }
+    {
+        for edit in edits {
+            self.raise(edit);
+        }
     }
 
     fn reserve_for_all(&mut self, other: &GraphStore) -> Result<(), NoMemory>
@@ -256,6 +272,29 @@ impl GraphStore {
             self.raise_to(edge, *state);
         }
     }
+}
+
+// One edit for each edge, in edge order, which make the same graph.
+fn canonical(alloc: Global, edits: &[Edit]) -> Result<EditList, NoMemory>
+    ensures canonical { IfOk result (IsCanonical (graph edits.now)) }
+{
+    let mut list = EditList::new(alloc);
+    list.extend_from_slice(edits)?;
+    Ok(list.into_canonical(alloc)?)
+}
+
+// Joins a state to that of an edge that has room, and answers the old one.
+fn join_state(states: &mut RoomMap<Edge, State>, edge: &Edge, asked: State) -> State
+    requires { HasRoom states.old.entries.entries edge.now }
+    ensures old { result ≡ state_in states.old.entries.entries edge.now }
+    ensures joined { states.new.entries.entries ≡ set_value (is_same_edge edge.now) states.old.entries.entries (state_join result asked) }
+{
+    let Some(state) = states.entries.get_mut(edge) else {
+        return State::Absent;
+    };
+    let old = *state;
+    *state = join(old, asked);
+    old
 }
 
 // What an edit asks its edge to be at least.

@@ -6,11 +6,12 @@ ghost use Rattle.graph_store.specs.Room.{GetsRoom, GetsEntry};
 use crate::no_memory::NoMemory;
 use std::alloc::Global;
 use std::collections::BTreeMap;
+use std::mem::replace;
 
 // A map in the order of its keys, in which a value can be set without memory wherever the key has room: an entry of its own.
 #[derive(Debug, Drop)]
 pub(crate) struct RoomMap<K: Ord, V> {
-    entries: BTreeMap<K, V>,
+    pub(crate) entries: BTreeMap<K, V>,
 }
 
 impl<K: Ord + Copy, V: Copy> RoomMap<K, V> {
@@ -48,19 +49,20 @@ impl<K: Ord + Copy, V: Copy> RoomMap<K, V> {
         ensures kept { GetsRoom K.cmp key.now value self.old.entries self.new.entries }
         ensures entries { GetsEntry K.cmp key.now value self.old.entries self.new.entries }
     {
-        if !self.entries.contains_key(key) {
-            self.entries.insert(*key, value)?;
+        // Its place is sought once where the key is new. A value that was there is put back.
+        if let Some(old) = self.entries.insert(*key, value)? {
+            self.replace(key, old);
         }
         Ok(())
     }
 
-    // The value of a key that has room.
-    pub(crate) fn set(&mut self, key: &K, value: V)
+    // Sets the value of a key that has room, and answers the old one.
+    pub(crate) fn replace(&mut self, key: &K, value: V) -> Option<V>
         requires { IsSome (get K.cmp self.old.entries key.now) }
-        ensures { self.new.entries.entries ≡ set_value (is_at (K.cmp key.now)) self.old.entries.entries value }
+        ensures old { result ≡ get K.cmp self.old.entries key.now }
+        ensures entries { self.new.entries.entries ≡ set_value (is_at (K.cmp key.now)) self.old.entries.entries value }
     {
-        if let Some(held) = self.entries.get_mut(key) {
-            *held = value;
-        }
+        let held = self.entries.get_mut(key)?;
+        Some(replace(held, value))
     }
 }

@@ -1,24 +1,26 @@
-use Rattle.std.proofs.Common.{◌≡◌, ◌+◌, ◌-◌, ap, is_some, unwrap_or, arith, ◌∙◌}
+use Rattle.std.proofs.Common.{◌≡◌, ◌+◌, ◌-◌, ap, is_some, unwrap_or, true≢false, sym, arith, ◌∙◌}
 use Rattle.graph_store.specs.Counts.{count_of}
 use Rattle.graph_store.proofs.Counts.{get_vertex, counts_kept, counted_down}
 use Rattle.graph_store.proofs.ends.count_down.Goals as goal
 
 pub overflow_sub-count : goal.overflow_sub-count
 overflow_sub-count c =
-    let count : c.unwrap_or-count.result ≡ count_of c.args.ends.now.entries.entries c.args.vertex.now = c.unwrap_or-count.ensures ∙ ap (λ o. unwrap_or o 0) (c.get.ensures ∙ get_vertex c.args.ends.now.entries.entries c.args.vertex.now) in
+    let count : c.in-Some.count.now ≡ count_of c.args.ends.now.entries.entries c.args.vertex.now = ap (λ o. unwrap_or o 0) (c.in-Some.ensures.value ∙ get_vertex c.args.ends.now.entries.entries c.args.vertex.now) in
     let counted = c.requires.counted in
     omega arith
 
-pub set-requires : goal.set-requires
-set-requires c = ap is_some (get_vertex c.args.ends.now.entries.entries c.args.vertex.now) ∙ c.requires.room
-
-pub returns-clause-counts : goal.returns-clause-counts
-returns-clause-counts c = λ v.
-    let count : c.unwrap_or-count.result ≡ count_of c.args.ends.now.entries.entries c.args.vertex.now = c.unwrap_or-count.ensures ∙ ap (λ o. unwrap_or o 0) (c.get.ensures ∙ get_vertex c.args.ends.now.entries.entries c.args.vertex.now) in
+pub returns-in-Some-clause-counts : goal.returns-in-Some-clause-counts
+returns-in-Some-clause-counts c = λ v.
+    let fewer = c.in-Some.count.now - 1 in
+    let count : c.in-Some.count.now ≡ count_of c.args.ends.now.entries.entries c.args.vertex.now = ap (λ o. unwrap_or o 0) (c.in-Some.ensures.value ∙ get_vertex c.args.ends.now.entries.entries c.args.vertex.now) in
     let counted = c.requires.counted in
-    let less : (c.unwrap_or-count.result - 1) + 1 ≡ count_of c.args.ends.now.entries.entries c.args.vertex.now = omega arith in
-    counted_down c.args.vertex.now (c.unwrap_or-count.result - 1) c.args.ends.now.entries.entries c.set.new.self.entries.entries c.requires.room c.set.ensures less v
+    let less : (c.in-Some.count.now - 1) + 1 ≡ count_of c.args.ends.now.entries.entries c.args.vertex.now = omega arith in
+    counted_down c.args.vertex.now fewer c.args.ends.now.entries.entries (c.get_mut.follows.lender fewer).entries c.requires.room (c.get_mut.follows.holds fewer).0 less v
 
-pub returns-clause-kept : goal.returns-clause-kept
-returns-clause-kept c = λ v had.
-    counts_kept c.args.vertex.now (c.unwrap_or-count.result - 1) c.args.ends.now.entries.entries c.set.new.self.entries.entries c.requires.room c.set.ensures v had
+pub returns-in-Some-clause-kept : goal.returns-in-Some-clause-kept
+returns-in-Some-clause-kept c = λ v had.
+    let fewer = c.in-Some.count.now - 1 in
+    counts_kept c.args.vertex.now fewer c.args.ends.now.entries.entries (c.get_mut.follows.lender fewer).entries c.requires.room (c.get_mut.follows.holds fewer).0 v had
+
+pub returns-in_default-clause-counts : goal.returns-in_default-clause-counts
+returns-in_default-clause-counts c = absurd (true≢false (sym c.requires.room ∙ ap is_some (sym (c.in_default.ensures.value ∙ get_vertex c.args.ends.now.entries.entries c.args.vertex.now))))

@@ -1,22 +1,24 @@
-use Rattle.std.proofs.Common.{◌≡◌, ◌+◌, ap, is_some, unwrap_or, arith, ◌∙◌}
+use Rattle.std.proofs.Common.{◌≡◌, ◌+◌, ap, is_some, unwrap_or, true≢false, sym, arith, ◌∙◌}
 use Rattle.graph_store.specs.Counts.{count_of}
 use Rattle.graph_store.proofs.Counts.{get_vertex, counts_kept, counted_up}
 use Rattle.graph_store.proofs.ends.count_up.Goals as goal
 
 pub overflow_add-count : goal.overflow_add-count
 overflow_add-count c =
-    let count : c.unwrap_or-count.result ≡ count_of c.args.ends.now.entries.entries c.args.vertex.now = c.unwrap_or-count.ensures ∙ ap (λ o. unwrap_or o 0) (c.get.ensures ∙ get_vertex c.args.ends.now.entries.entries c.args.vertex.now) in
+    let count : c.in-Some.count.now ≡ count_of c.args.ends.now.entries.entries c.args.vertex.now = ap (λ o. unwrap_or o 0) (c.in-Some.ensures.value ∙ get_vertex c.args.ends.now.entries.entries c.args.vertex.now) in
     let fits = c.requires.fits in
     omega arith
 
-pub set-requires : goal.set-requires
-set-requires c = ap is_some (get_vertex c.args.ends.now.entries.entries c.args.vertex.now) ∙ c.requires.room
+pub returns-in-Some-clause-counts : goal.returns-in-Some-clause-counts
+returns-in-Some-clause-counts c = λ v.
+    let more = c.in-Some.count.now + 1 in
+    let count : c.in-Some.count.now ≡ count_of c.args.ends.now.entries.entries c.args.vertex.now = ap (λ o. unwrap_or o 0) (c.in-Some.ensures.value ∙ get_vertex c.args.ends.now.entries.entries c.args.vertex.now) in
+    counted_up c.args.vertex.now more c.args.ends.now.entries.entries (c.get_mut.follows.lender more).entries c.requires.room (c.get_mut.follows.holds more).0 (ap (λ n. n + 1) count) v
 
-pub returns-clause-counts : goal.returns-clause-counts
-returns-clause-counts c = λ v.
-    let count : c.unwrap_or-count.result ≡ count_of c.args.ends.now.entries.entries c.args.vertex.now = c.unwrap_or-count.ensures ∙ ap (λ o. unwrap_or o 0) (c.get.ensures ∙ get_vertex c.args.ends.now.entries.entries c.args.vertex.now) in
-    counted_up c.args.vertex.now (c.unwrap_or-count.result + 1) c.args.ends.now.entries.entries c.set.new.self.entries.entries c.requires.room c.set.ensures (ap (λ n. n + 1) count) v
+pub returns-in-Some-clause-kept : goal.returns-in-Some-clause-kept
+returns-in-Some-clause-kept c = λ v had.
+    let more = c.in-Some.count.now + 1 in
+    counts_kept c.args.vertex.now more c.args.ends.now.entries.entries (c.get_mut.follows.lender more).entries c.requires.room (c.get_mut.follows.holds more).0 v had
 
-pub returns-clause-kept : goal.returns-clause-kept
-returns-clause-kept c = λ v had.
-    counts_kept c.args.vertex.now (c.unwrap_or-count.result + 1) c.args.ends.now.entries.entries c.set.new.self.entries.entries c.requires.room c.set.ensures v had
+pub returns-in_default-clause-counts : goal.returns-in_default-clause-counts
+returns-in_default-clause-counts c = absurd (true≢false (sym c.requires.room ∙ ap is_some (sym (c.in_default.ensures.value ∙ get_vertex c.args.ends.now.entries.entries c.args.vertex.now))))

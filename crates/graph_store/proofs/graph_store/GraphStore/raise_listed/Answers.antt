@@ -2,7 +2,7 @@ use Rattle.std.proofs.Common.{slice_index_or}
 use Rattle.grove_edits.specs.Edit.{edit_edge}
 use Rattle.graph_store.specs.Store.{state_in}
 use Rattle.graph_store.proofs.Raises.{raised_more, raised_whole}
-use Rattle.graph_store.proofs.graph_store.GraphStore.raise_each.Goals as goal
+use Rattle.graph_store.proofs.graph_store.GraphStore.raise_listed.Goals as goal
 
 pub loop-edit-preserved : goal.loop-edit-preserved
 loop-edit-preserved c = record {

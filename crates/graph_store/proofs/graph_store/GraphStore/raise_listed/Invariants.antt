@@ -3,7 +3,7 @@ use Rattle.grove_edits.specs.declared.edit.Edit.{Edit}
 use Rattle.grove_edits.specs.Edit.{edit_edge}
 use Rattle.grove_edits.specs.Graph.{IsSame, graph, graph_join}
 use Rattle.graph_store.specs.Store.{state_in, HasRoom, KeepsRoom}
-use Rattle.graph_store.proofs.graph_store.GraphStore.raise_each.Given as goal
+use Rattle.graph_store.proofs.graph_store.GraphStore.raise_listed.Given as goal
 
 -- the edits so far are joined, and each edit's edge has room
 abbrev pub invariant-loop-edit : goal.invariant-loop-edit
