@@ -300,3 +300,23 @@ rows_give e js m = by e.wanted
     by : (w : Wanted) → FollowsAs w e js m → m ≡ settled (expression e.ctor e.scope e.bound w) (child_types js)
     by Synthesise r = synthesis_gives e.scope e.bound e.ctor js m.typ m.mark r
     by (Analyse t) r = analysis_gives e.scope e.bound t e.ctor js m.typ m.mark r
+
+synthesis_counts : (scope : Scope) (b : Bound) (ctor : Ctor) (js : List Judgement) (t : Typ) (m : Mark) → Synthesises scope b ctor js t m
+    → (sort_of_ctor ctor ≡ Exp) × (length js ≡ expression_count ctor)
+synthesis_counts scope b ctor js t m (syn_var x _ h) = (refl, refl)
+synthesis_counts scope b ctor js t m _ = (refl, refl)
+
+analysis_counts : (scope : Scope) (b : Bound) (t : Typ) (ctor : Ctor) (js : List Judgement) (s : Typ) (m : Mark) → Analyses scope b t ctor js s m
+    → (sort_of_ctor ctor ≡ Exp) × (length js ≡ expression_count ctor)
+analysis_counts scope b t ctor js s m (ana_marked _ _ _ _ other r ne) = synthesis_counts scope b ctor js s m r
+analysis_counts scope b t ctor js s m (ana_inconsistent _ _ _ other r differ) = synthesis_counts scope b ctor js s mark.None r
+analysis_counts scope b t ctor js s m (ana_other _ _ _ other r same) = synthesis_counts scope b ctor js s mark.None r
+analysis_counts scope b t ctor js s m _ = (refl, refl)
+
+-- only expressions have rows, which judge as many children as there are expressions among them
+pub rows_count : (e : Expression) (js : List Judgement) (m : Marked) → Follows e js m → (sort_of_ctor e.ctor ≡ Exp) × (length js ≡ expression_count e.ctor)
+rows_count e js m = by e.wanted
+  where
+    by : (w : Wanted) → FollowsAs w e js m → (sort_of_ctor e.ctor ≡ Exp) × (length js ≡ expression_count e.ctor)
+    by Synthesise r = synthesis_counts e.scope e.bound e.ctor js m.typ m.mark r
+    by (Analyse t) r = analysis_counts e.scope e.bound t e.ctor js m.typ m.mark r

@@ -11,18 +11,18 @@ use Rattle.ctx_table.proofs.ContextLemmas.{is_same_name-same, same_name_is_same}
 use Rattle.mark_step.specs.Scope.{Scope, type_of_name, scope_of, IsTyped}
 
 -- what is looked up in a context, read through the types, is what its scope has
-pub look_up-scope : (types : List Typ) (ctx : Context) (name : Ident) → option_map (type_at types) (look_up ctx name) ≡ type_of_name (scope_of types ctx) name
-look_up-scope types [] name = refl
-look_up-scope types (b ∷ bs) name = by (is_same_name b.0 name) (look_up-scope types bs name)
+pub found_in_scope : (types : List Typ) (ctx : Context) (name : Ident) → option_map (type_at types) (look_up ctx name) ≡ type_of_name (scope_of types ctx) name
+found_in_scope types [] name = refl
+found_in_scope types (b ∷ bs) name = by (is_same_name b.0 name) (found_in_scope types bs name)
   where
     by : (same : Bool) → option_map (type_at types) (look_up bs name) ≡ type_of_name (scope_of types bs) name → option_map (type_at types) (if same then Some b.1 else look_up bs name)
         ≡ (if same then Some (type_at types b.1) else type_of_name (scope_of types bs) name)
     by true rest = refl
     by false rest = rest
 
-pub look_up-typed : (types : List Typ) (ctx : Context) (name : Ident) → IsTyped types ctx → IfSome (look_up ctx name) (IsTypeOf types)
-look_up-typed types [] name all = tt
-look_up-typed types (b ∷ bs) name all = by (is_same_name b.0 name) (look_up-typed types bs name (All-tail (λ b. IsTypeOf types b.1) b bs all))
+pub found_number : (types : List Typ) (ctx : Context) (name : Ident) → IsTyped types ctx → IfSome (look_up ctx name) (IsTypeOf types)
+found_number types [] name all = tt
+found_number types (b ∷ bs) name all = by (is_same_name b.0 name) (found_number types bs name (All-tail (λ b. IsTypeOf types b.1) b bs all))
   where
     by : (same : Bool) → IfSome (look_up bs name) (IsTypeOf types) → IfSome (if same then Some b.1 else look_up bs name) (IsTypeOf types)
     by true rest = All-head (λ b. IsTypeOf types b.1) b bs all

@@ -16,7 +16,7 @@ use std::alloc::Global;
 use type_core::{TypeId, TypeTable};
 
 /// How the child at a position is judged, once all expressions at earlier positions have types. The numbers of both tables keep their
-/// meaning, also where memory runs out.
+/// meaning, also where memory runs out. The tables grow by their own allocators.
 pub fn child_demand(
     _alloc: Global,
     types: &mut TypeTable,

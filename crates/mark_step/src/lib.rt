@@ -11,7 +11,8 @@ mod settling;
 
 pub use children::child_demand;
 pub use laws::{
-    each_expression_follows_one_row, look_ups_are_innermost, no_expression_has_two_marks,
+    children_are_done_in_table_order, each_expression_follows_one_row, each_node_follows_its_row,
+    look_ups_are_innermost, no_expression_has_two_marks, numbers_keep_their_meaning,
 };
 pub use no_memory::NoMemory;
 pub use node::{Binder, Demand, Mark, Mode, NodeView, Settled, WIDEST};

@@ -5,14 +5,14 @@ ghost use Rattle.grove_sorts.specs.Ctor.{sort_of_ctor};
 ghost use Rattle.type_core.specs.declared.former.Former.TheVariants.{Arrow, Product};
 ghost use Rattle.type_core.specs.Typ.{matched_parts, is_consistent, meet};
 ghost use Rattle.type_core.specs.TypeTable.{IsTypeOf, type_at, KeepsTypes};
-ghost use Rattle.mark_step.specs.Scope.{scope_at};
+ghost use Rattle.mark_step.specs.Scope.{scope_at, type_of_name};
 ghost use Rattle.mark_step.specs.Step.{settled, analysed, synthesised, or_mark, function_mark, pair_mark, mark_against};
-ghost use Rattle.mark_step.specs.Node.{bound_at, expression_at, marked_at, IsNodeOf, AreDone, types_done};
+ghost use Rattle.mark_step.specs.Node.{bound_at, expression_at, marked_at, IsScopeOf, IsNodeOf, AreDone, types_done};
 
 use crate::no_memory::NoMemory;
 use crate::node::{Mark, Mode, NodeView, Settled};
-use ctx_table::CtxTable;
-use grove_sorts::Ctor;
+use ctx_table::{CtxId, CtxTable};
+use grove_sorts::{Ctor, Ident};
 use std::alloc::Global;
 use type_core::{TypeId, TypeTable};
 
@@ -84,7 +84,7 @@ fn synthesise(
     ensures kept { KeepsTypes types.old types.new }
 {
     match node.ctor {
-        Ctor::Var(name) => Ok(or_mark(types, ctxs.look_up(node.ctx, &name), Mark::Free)),
+        Ctor::Var(name) => Ok(variable(types, ctxs, node.ctx, &name)),
         Ctor::Lam => Ok(unmarked(types.arrow(node.binder.typ, node.child_type(2))?)),
         Ctor::Ap => Ok(application(types, node.child_type(0))),
         Ctor::Num(_) | Ctor::Plus => Ok(unmarked(types.num())),
@@ -122,6 +122,15 @@ fn or_mark(types: &TypeTable, typ: Option<TypeId>, mark: Mark) -> Settled
             mark,
         },
     }
+}
+
+#[tactic(auto, using(crate::proofs::ScopeLemmas::found_in_scope, crate::proofs::ScopeLemmas::found_number))]
+fn variable(types: &TypeTable, ctxs: &CtxTable, ctx: CtxId, name: &Ident) -> Settled
+    requires { IsScopeOf types.now ctxs.now ctx }
+    ensures marked { marked_at types.now result ≡ or_mark (type_of_name (scope_at types.now ctxs.now ctx) name.now) Mark.Free }
+    ensures number { IsTypeOf types.now result.typ }
+{
+    or_mark(types, ctxs.look_up(ctx, name), Mark::Free)
 }
 
 // What a function of the type gives.

@@ -1,5 +1,3 @@
-#![tactic(auto, using(crate::proofs::NodeLemmas::numbers_from_each))]
-
 use crate::children::child_demand;
 use crate::node::{Binder, Demand, Mark, Mode, NodeView, Settled};
 use crate::settling::settle;

@@ -4,4 +4,4 @@
 
 mod laws;
 
-pub use laws::{each_expression_has_one_type, marking_erases};
+pub use laws::{each_expression_has_one_type, every_grove_has_one_marking, marking_erases};
