@@ -1,0 +1,28 @@
+use Rattle.std.proofs.Common.{rules, ◌≡◌, ◌≤◌, ◌<◌, ◌+◌, ◌-◌, ◌∷◌, ◌++◌, [], length, ℕ, Some, None, sym, ap, ◌∙◌, refl, arith}
+use Rattle.mark_rules.specs.Reading.{meant_nodes}
+use Rattle.mark_rules.specs.Walking.{given_at, given_on, frames_at}
+use Rattle.mark_rules.proofs.Kept.{types-then}
+use Rattle.mark_rules.proofs.Walks.{popped, rest_are, off_is, given_along}
+use Rattle.mark_rules.proofs.taking.hand_on.Goals as goal
+
+pub pass-requires-clause-walk : goal.pass-requires-clause-walk
+pass-requires-clause-walk c = record {
+  frames = rest_are c.loop-pending.types c.args.ctxs.now c.loop-pending.walk.frames.items c.pop.new.self.items c.in-Some-pop.frame c.in-Some-pop.ensures.items c.loop-pending.invariant.walk.frames;
+  out = c.loop-pending.invariant.walk.out;
+}
+
+pub pass-requires-clause-frame : goal.pass-requires-clause-frame
+pass-requires-clause-frame c = off_is c.loop-pending.types c.args.ctxs.now c.loop-pending.walk.frames.items c.pop.new.self.items c.in-Some-pop.frame c.in-Some-pop.ensures.items c.loop-pending.invariant.walk.frames
+
+pub loop-pending-preserved : goal.loop-pending-preserved
+loop-pending-preserved c =
+    let is : c.loop-pending.pending ≡ Some c.in-Some.given = cc in
+    record {
+      walk = c.in_ok-pending.ensures.walk;
+      given = c.in_ok-pending.ensures.given;
+      state = c.in_ok-pending.ensures.state
+          ∙ popped c.loop-pending.types c.args.ctxs.now c.loop-pending.walk.frames.items c.pop.new.self.items c.in-Some-pop.frame (given_at c.loop-pending.types c.in-Some.given) (meant_nodes c.loop-pending.types c.loop-pending.walk.out)
+          c.in-Some-pop.ensures.items
+          ∙ given_along c.loop-pending.types c.args.ctxs.now c.loop-pending.pending c.in-Some.given c.loop-pending.walk is ∙ c.loop-pending.invariant.state;
+      kept = types-then c.args.types.now c.loop-pending.types c.pass.new.types c.loop-pending.invariant.kept c.in_ok-pending.ensures.kept;
+    }

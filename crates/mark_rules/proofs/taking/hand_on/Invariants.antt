@@ -1,0 +1,16 @@
+use Rattle.std.proofs.Common.{◌≡◌, IfSome}
+use Rattle.type_core.specs.TypeTable.{KeepsTypes}
+use Rattle.mark_rules.specs.Walking.{given_on, IsGivenOf, IsWalkOf}
+use Rattle.mark_rules.proofs.Walks.{pending}
+use Rattle.mark_rules.proofs.taking.hand_on.Given as goal
+
+abbrev pub invariant-loop-pending : goal.invariant-loop-pending
+invariant-loop-pending l = record {
+  walk : IsWalkOf l.types l.ctxs l.walk;
+  given : IfSome l.pending (IsGivenOf l.types);
+  state : given_on l.types l.ctxs l.pending l.walk ≡ given_on l.fn.types l.fn.ctxs l.fn.given l.fn.walk;
+  kept : KeepsTypes l.fn.types l.types;
+}
+
+abbrev pub decreases-loop-pending : goal.decreases-loop-pending
+decreases-loop-pending l = pending l.pending l.walk.frames.items

@@ -1,0 +1,33 @@
+use Rattle.std.proofs.Common.{rules, ◌≡◌, ◌≤◌, ◌<◌, ◌+◌, ◌-◌, ◌∷◌, ◌++◌, [], length, ℕ, Some, None, sym, ap, ◌∙◌, refl, arith}
+use Rattle.mark_rules.specs.declared.frame.Frame.TheVariants.{Open, Several}
+use Rattle.mark_rules.specs.Reading.{meant_nodes}
+use Rattle.mark_rules.specs.Walking.{given_at, given_on, frames_at}
+use Rattle.mark_rules.proofs.Walks.{given_is, given_fills, given_several, several_are, given_last, if_ok_then}
+use Rattle.mark_rules.proofs.taking.pass.Goals as goal
+
+pub go_on-requires-clause-vertex : goal.go_on-requires-clause-vertex
+go_on-requires-clause-vertex c =
+    let is : c.args.frame ≡ Open c.in-Open.vertex = cc in
+    given_is c.args.types.now c.args.ctxs.now c.args.frame c.in-Open.vertex c.fill.result c.args.given is c.fill.ensures c.requires.frame c.requires.given
+
+pub returns-then-left-gt1-clause-state : goal.returns-then-left-gt1-clause-state
+returns-then-left-gt1-clause-state c =
+    let is : c.args.frame ≡ Several c.in-Several.demand c.in-Several.left = cc in
+    given_several c.args.types.now c.args.ctxs.now c.args.frame c.in-Several.demand c.in-Several.left (given_at c.args.types.now c.args.given) c.args.walk.now.frames.items c.push.new.self.items c.args.walk.now.out is (omega arith)
+    c.in_ok-push-in-Several.ensures.items
+
+pub returns-then-left-gt1-clause-walk : goal.returns-then-left-gt1-clause-walk
+returns-then-left-gt1-clause-walk c =
+    let is : c.args.frame ≡ Several c.in-Several.demand c.in-Several.left = cc in
+    record {
+      frames = several_are c.args.types.now c.args.ctxs.now c.args.frame c.in-Several.demand c.in-Several.left (c.in-Several.left - 1) c.args.walk.now.frames.items c.push.new.self.items is c.requires.frame c.requires.walk.frames
+          c.in_ok-push-in-Several.ensures.items;
+      out = c.requires.walk.out;
+    }
+
+pub returns-in-Open-clause-state : goal.returns-in-Open-clause-state
+returns-in-Open-clause-state c =
+    let is : c.args.frame ≡ Open c.in-Open.vertex = cc in
+    if_ok_then c.go_on.result (λ g. given_on c.go_on.new.types c.args.ctxs.now g c.go_on.new.walk) _ _ c.go_on.ensures.state
+    (given_fills c.args.types.now c.args.ctxs.now c.args.frame c.in-Open.vertex c.fill.result c.args.given (frames_at c.args.types.now c.args.ctxs.now c.args.walk.now.frames.items) (meant_nodes c.args.types.now c.args.walk.now.out) is c.fill.ensures
+    c.requires.frame c.requires.given)

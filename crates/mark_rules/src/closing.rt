@@ -1,0 +1,153 @@
+ghost use Rattle.std.specs.Prelude.{◌≡◌, length, Some, None, IfOk};
+ghost use Rattle.grove_sorts.specs.declared.sort.Sort.{Sort};
+ghost use Rattle.grove_sorts.specs.Ctor.{positions, sort_of_ctor};
+ghost use Rattle.mark_step.specs.declared.node.Mark.{Mark};
+ghost use Rattle.type_core.specs.TypeTable.{IsTypeOf, type_at, KeepsTypes};
+ghost use Rattle.marking.specs.Types.{pattern_name};
+ghost use Rattle.mark_rules.specs.Reading.{meant};
+ghost use Rattle.mark_rules.specs.Machine.{made, given_of, given_by_sort, head_of, head_by_sort, typed_node, of_type};
+ghost use Rattle.mark_rules.specs.Walking.{given_at, opened_at, IsOpenOf, IsClosedOf};
+
+use crate::frame::{Closed, Given, OpenVertex};
+use crate::marked_node::MarkedNode;
+use crate::no_memory::NoMemory;
+use crate::opening::nothing;
+use ctx_table::CtxTable;
+use grove_sorts::{Ctor, Ident, Sort, sort_of};
+use grove_terms::Node;
+use mark_step::{Mark, settle};
+use std::alloc::Global;
+use type_core::{TypeId, TypeTable};
+
+// The type that a constructor makes of two types.
+fn type_of(
+    types: &mut TypeTable,
+    ctor: &Ctor,
+    first: TypeId,
+    second: TypeId,
+) -> Result<TypeId, NoMemory>
+    requires first { IsTypeOf types.old first }
+    requires second { IsTypeOf types.old second }
+    ensures made { IfOk result (λ t. type_at types.new t ≡ made ctor.now (type_at types.old first) (type_at types.old second)) }
+    ensures number { IfOk result (IsTypeOf types.new) }
+    ensures kept { KeepsTypes types.old types.new }
+{
+    match ctor {
+        Ctor::TNum => Ok(types.num()),
+        Ctor::TBool => Ok(types.boolean()),
+        Ctor::TArrow => Ok(types.arrow(first, second)?),
+        Ctor::TProd => Ok(types.product(first, second)?),
+        _ => Ok(types.unknown()),
+    }
+}
+
+fn name_of(ctor: &Ctor) -> Option<Ident>
+    ensures { result ≡ pattern_name ctor.now }
+{
+    match ctor {
+        Ctor::PVar(name) => Some(*name),
+        _ => None,
+    }
+}
+
+// A node without a type.
+pub(crate) fn untyped(node: &Node) -> MarkedNode
+    ensures node { result.node ≡ node.now }
+    ensures mode { result.mode ≡ None }
+    ensures typ { result.typ ≡ None }
+    ensures mark { result.mark ≡ Mark.None }
+{
+    MarkedNode {
+        node: *node,
+        mode: None,
+        typ: None,
+        mark: Mark::None,
+    }
+}
+
+fn close_expression(
+    alloc: Global,
+    types: &mut TypeTable,
+    ctxs: &CtxTable,
+    vertex: &OpenVertex,
+) -> Result<Closed, NoMemory>
+    requires sort { sort_of_ctor vertex.now.view.ctor ≡ Sort.Exp }
+    requires vertex { IsOpenOf types.old ctxs.now vertex.now }
+    requires whole { vertex.now.next ≡ length (positions vertex.now.view.ctor) }
+    ensures node { IfOk result (λ c. meant types.new c.node ≡ head_by_sort Sort.Exp (opened_at types.old ctxs.now vertex.now)) }
+    ensures given { IfOk result (λ c. given_at types.new c.given ≡ given_by_sort Sort.Exp (opened_at types.old ctxs.now vertex.now)) }
+    ensures numbers { IfOk result (IsClosedOf types.new) }
+    ensures kept { KeepsTypes types.old types.new }
+{
+    let settled = settle(alloc, types, ctxs, &vertex.view)?;
+    Ok(Closed {
+        node: MarkedNode {
+            node: vertex.node,
+            mode: Some(vertex.view.mode),
+            typ: Some(settled.typ),
+            mark: settled.mark,
+        },
+        given: Given {
+            typ: settled.typ,
+            name: None,
+        },
+    })
+}
+
+fn close_type(types: &mut TypeTable, vertex: &OpenVertex) -> Result<Closed, NoMemory>
+    requires earlier { IsTypeOf types.old vertex.now.earlier }
+    requires last { IsTypeOf types.old vertex.now.view.binder.typ }
+    ensures node { IfOk result (λ c. meant types.new c.node ≡ typed_node vertex.now.node
+        (made vertex.now.view.ctor (type_at types.old vertex.now.earlier) (type_at types.old vertex.now.view.binder.typ))) }
+    ensures given { IfOk result (λ c. given_at types.new c.given
+        ≡ of_type (made vertex.now.view.ctor (type_at types.old vertex.now.earlier) (type_at types.old vertex.now.view.binder.typ))) }
+    ensures numbers { IfOk result (IsClosedOf types.new) }
+    ensures kept { KeepsTypes types.old types.new }
+{
+    let typ = type_of(
+        types,
+        &vertex.view.ctor,
+        vertex.earlier,
+        vertex.view.binder.typ,
+    )?;
+    Ok(Closed {
+        node: MarkedNode {
+            node: vertex.node,
+            mode: None,
+            typ: Some(typ),
+            mark: Mark::None,
+        },
+        given: Given { typ, name: None },
+    })
+}
+
+/// The marked node of a vertex whose positions are all marked, and what it gives.
+pub(crate) fn close(
+    alloc: Global,
+    types: &mut TypeTable,
+    ctxs: &CtxTable,
+    vertex: &OpenVertex,
+) -> Result<Closed, NoMemory>
+    requires vertex { IsOpenOf types.old ctxs.now vertex.now }
+    requires whole { vertex.now.next ≡ length (positions vertex.now.view.ctor) }
+    ensures node { IfOk result (λ c. meant types.new c.node ≡ head_of (opened_at types.old ctxs.now vertex.now)) }
+    ensures given { IfOk result (λ c. given_at types.new c.given ≡ given_of (opened_at types.old ctxs.now vertex.now)) }
+    ensures numbers { IfOk result (IsClosedOf types.new) }
+    ensures kept { KeepsTypes types.old types.new }
+{
+    match sort_of(&vertex.view.ctor) {
+        Sort::Exp => close_expression(alloc, types, ctxs, vertex),
+        Sort::Typ => close_type(types, vertex),
+        Sort::Pat => Ok(Closed {
+            node: untyped(&vertex.node),
+            given: Given {
+                typ: types.unknown(),
+                name: name_of(&vertex.view.ctor),
+            },
+        }),
+        Sort::Top => Ok(Closed {
+            node: untyped(&vertex.node),
+            given: nothing(types),
+        }),
+    }
+}

@@ -1,0 +1,41 @@
+ghost use Rattle.std.specs.Prelude.{◌≡◌, ◌++◌, map, IfOk, OnOk};
+ghost use Rattle.mark_rules.specs.Reading.{bare_nodes};
+
+use crate::marked_grove::MarkedGrove;
+use crate::marked_tree::MarkedTree;
+use crate::marked_tree_list::MarkedTreeList;
+use crate::no_memory::NoMemory;
+use grove_terms::{Grove, Tree, TreeList};
+use std::alloc::Global;
+
+/// The grove without what marking added.
+pub fn erase(alloc: Global, marked: &MarkedGrove) -> Result<Grove, NoMemory>
+    ensures none { IfOk result (λ grove. grove.none ≡ map bare_nodes marked.now.none) }
+    ensures multi { IfOk result (λ grove. grove.multi ≡ map bare_nodes marked.now.multi) }
+    ensures cycle { IfOk result (λ grove. grove.cycle ≡ map bare_nodes marked.now.cycle) }
+{
+    let none = erase_trees(alloc, &marked.none)?;
+    let multi = erase_trees(alloc, &marked.multi)?;
+    let cycle = erase_trees(alloc, &marked.cycle)?;
+    Ok(Grove { none, multi, cycle })
+}
+
+fn erase_trees(alloc: Global, marked: &MarkedTreeList) -> Result<TreeList, NoMemory>
+    ensures { IfOk result (λ trees. trees ≡ map bare_nodes marked.now) }
+{
+    let mut trees = TreeList::new(alloc);
+    for tree in marked.as_slice() {
+        trees.push(erase_tree(alloc, tree)?)?;
+    }
+    Ok(trees)
+}
+
+fn erase_tree(alloc: Global, marked: &MarkedTree) -> Result<Tree, NoMemory>
+    ensures { IfOk result (λ tree. tree ≡ bare_nodes marked.now) }
+{
+    let mut tree = Tree::new(alloc);
+    for node in marked.as_slice() {
+        tree.push(node.node)?;
+    }
+    Ok(tree)
+}

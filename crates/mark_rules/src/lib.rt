@@ -1,0 +1,26 @@
+//! The marking of whole trees: with each expression what is wanted of it, its type and its mark, and with each type its type. What
+//! tests marks and prints them stands on this crate.
+#![tactic(auto)]
+
+mod closing;
+mod erasing;
+mod frame;
+mod marked_grove;
+mod marked_node;
+mod marked_tree;
+mod marked_tree_list;
+mod marking;
+mod no_memory;
+mod opening;
+mod taking;
+
+pub use erasing::erase;
+pub use marked_grove::MarkedGrove;
+pub use marked_node::MarkedNode;
+pub use marked_tree::MarkedTree;
+pub use marked_tree_list::MarkedTreeList;
+pub use marking::{mark_grove, mark_tree};
+pub use no_memory::NoMemory;
+
+#[cfg(test)]
+mod tests;

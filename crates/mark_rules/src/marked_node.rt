@@ -1,0 +1,14 @@
+use grove_terms::Node;
+use mark_step::{Mark, Mode};
+use type_core::TypeId;
+
+/// A node of a tree with what marking adds to it.
+#[derive(Clone, Copy, Debug, PartialEq, Eq)]
+pub struct MarkedNode {
+    pub node: Node,
+    /// What is wanted of it, where it is an expression.
+    pub mode: Option<Mode>,
+    /// Its type, where it is an expression or a type.
+    pub typ: Option<TypeId>,
+    pub mark: Mark,
+}

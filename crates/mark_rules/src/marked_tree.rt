@@ -1,0 +1,70 @@
+ghost use Rattle.std.specs.Prelude.{◌≡◌, ◌<◌, ◌^◌, [], ◌∷◌, ◌++◌, length, set, slice_get, OnOk, OnErr};
+
+use crate::marked_node::MarkedNode;
+use crate::no_memory::NoMemory;
+use std::alloc::Global;
+use std::marker::Model;
+
+/// The nodes of a marked tree in preorder.
+#[derive(Debug, Drop)]
+pub struct MarkedTree {
+    nodes: Vec<MarkedNode>,
+}
+
+impl Model for MarkedTree {
+    ghost use Rattle.std.specs.Prelude.{List};
+    ghost use Rattle.mark_rules.specs.declared.marked_node.MarkedNode.{MarkedNode};
+
+    ghost Value = { List MarkedNode };
+
+    ghost view = { λ tree. tree.nodes.items };
+}
+
+impl MarkedTree {
+    /// A tree without nodes, to which they are pushed in preorder.
+    pub fn new(alloc: Global) -> MarkedTree
+        ensures empty { result ≡ [] }
+    {
+        MarkedTree {
+            nodes: Vec::new(alloc),
+        }
+    }
+
+    /// Appends a node.
+    pub fn push(&mut self, node: MarkedNode) -> Result<(), NoMemory>
+        ensures appended { OnOk result (self.new ≡ self.old ++ node ∷ []) }
+        ensures unchanged { OnErr result (self.new ≡ self.old) }
+    {
+        self.nodes.push(node)?;
+        Ok(())
+    }
+
+    // Puts another node in the place of the one at an index.
+    pub(crate) fn set(&mut self, index: usize, node: MarkedNode)
+        ensures { self.new ≡ set self.old index node }
+    {
+        if let Some(place) = self.nodes.get_mut(index) {
+            *place = node;
+        }
+    }
+
+    pub fn len(&self) -> usize
+        ensures len { result ≡ length self.now }
+        ensures small { result < 2 ^ 63 }
+    {
+        self.nodes.len()
+    }
+
+    /// The node at an index, or None past the end.
+    pub fn get(&self, index: usize) -> Option<MarkedNode>
+        ensures { result ≡ slice_get self.now index }
+    {
+        self.nodes.get(index).copied()
+    }
+
+    pub fn as_slice(&self) -> &[MarkedNode]
+        ensures { result.now ≡ self.now }
+    {
+        &self.nodes
+    }
+}

@@ -1,0 +1,80 @@
+ghost use Rattle.std.specs.Prelude.{◌≡◌, map, IfOk};
+ghost use Rattle.type_core.specs.TypeTable.{KeepsTypes};
+ghost use Rattle.ctx_table.specs.CtxTable.{KeepsContexts};
+ghost use Rattle.marking.specs.Grove.{IsMarkedTree, AreMarkedTrees, IsMarkedGrove};
+ghost use Rattle.mark_rules.specs.Reading.{meant_nodes, meant_grove};
+ghost use Rattle.mark_rules.specs.Numbers.{AreMarkedNodesOf, AreMarkedListsOf, IsMarkedGroveOf};
+ghost use Rattle.mark_rules.specs.Sorted.{IsSortedTree, AreSortedTrees, IsSortedGrove};
+
+use crate::marked_grove::MarkedGrove;
+use crate::marked_tree::MarkedTree;
+use crate::marked_tree_list::MarkedTreeList;
+use crate::no_memory::NoMemory;
+use crate::taking::{Walk, take};
+use ctx_table::CtxTable;
+use grove_terms::{Grove, Tree, TreeList};
+use std::alloc::Global;
+use type_core::TypeTable;
+
+/// The nodes of a well-sorted tree with what marking adds to them. The numbers of both tables keep their meaning, also where memory
+/// runs out.
+pub fn mark_tree(
+    alloc: Global,
+    tree: &Tree,
+    types: &mut TypeTable,
+    ctxs: &mut CtxTable,
+) -> Result<MarkedTree, NoMemory>
+    requires sorted { IsSortedTree tree.now }
+    ensures marked { IfOk result (λ marked. IsMarkedTree tree.now (meant_nodes types.new marked)) }
+    ensures numbers { IfOk result (λ marked. AreMarkedNodesOf types.new marked) }
+    ensures types { KeepsTypes types.old types.new }
+    ensures contexts { KeepsContexts ctxs.old ctxs.new }
+{
+    let mut walk = Walk {
+        frames: Vec::new(alloc),
+        out: MarkedTree::new(alloc),
+    };
+    for node in tree.as_slice() {
+        take(alloc, types, ctxs, &mut walk, node)?;
+    }
+    Ok(walk.out)
+}
+
+fn mark_trees(
+    alloc: Global,
+    trees: &TreeList,
+    types: &mut TypeTable,
+    ctxs: &mut CtxTable,
+) -> Result<MarkedTreeList, NoMemory>
+    requires sorted { AreSortedTrees trees.now }
+    ensures marked { IfOk result (λ marked. AreMarkedTrees trees.now (map (meant_nodes types.new) marked)) }
+    ensures numbers { IfOk result (λ marked. AreMarkedListsOf types.new marked) }
+    ensures types { KeepsTypes types.old types.new }
+    ensures contexts { KeepsContexts ctxs.old ctxs.new }
+{
+    let mut marked = MarkedTreeList::new(alloc);
+    for tree in trees.as_slice() {
+        marked.push(mark_tree(alloc, tree, types, ctxs)?)?;
+    }
+    Ok(marked)
+}
+
+/// The trees of a grove of well-sorted trees, each marked by itself. The numbers of both tables keep their meaning, also where memory
+/// runs out.
+pub fn mark_grove(
+    alloc: Global,
+    grove: &Grove,
+    types: &mut TypeTable,
+    ctxs: &mut CtxTable,
+) -> Result<MarkedGrove, NoMemory>
+    requires sorted { IsSortedGrove grove.now }
+    ensures marked { IfOk result (λ marked. IsMarkedGrove grove.now (meant_grove types.new marked)) }
+    ensures numbers { IfOk result (λ marked. IsMarkedGroveOf types.new marked) }
+    ensures types { KeepsTypes types.old types.new }
+    ensures contexts { KeepsContexts ctxs.old ctxs.new }
+{
+    let none = mark_trees(alloc, &grove.none, types, ctxs)?;
+    let multi = mark_trees(alloc, &grove.multi, types, ctxs)?;
+    let cycle = mark_trees(alloc, &grove.cycle, types, ctxs)?;
+    Ok(MarkedGrove { none, multi, cycle })
+}

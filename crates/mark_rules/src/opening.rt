@@ -1,0 +1,161 @@
+ghost use Rattle.std.specs.Prelude.{◌≡◌, slice_get, ◌<◌, ◌-◌, [], ◌∷◌, length, None, unwrap_or, IfOk};
+ghost use Rattle.grove_sorts.specs.declared.sort.Sort.{Sort};
+ghost use Rattle.grove_sorts.specs.Ctor.{positions};
+ghost use Rattle.type_core.specs.Typ as typ;
+ghost use Rattle.type_core.specs.TypeTable.{IsTypeOf, type_at, KeepsTypes};
+ghost use Rattle.ctx_table.specs.CtxTable.{KeepsContexts};
+ghost use Rattle.mark_step.specs.Node.{demanded_at, IsDemandOf, sort_at_index};
+ghost use Rattle.mark_rules.specs.Machine.{demanded_by, demanded_next, nothing};
+ghost use Rattle.mark_rules.specs.Walking.{given_at, opened_at, frames_at, filled_with, IsGivenOf, IsOpenOf, AreFramesOf};
+
+use crate::frame::{Frame, Given, OpenVertex};
+use crate::no_memory::NoMemory;
+use ctx_table::CtxTable;
+use grove_sorts::{Ctor, Position, Sort, position_at, position_sort, sort_of};
+use grove_terms::Node;
+use mark_step::{Binder, Demand, Mode, NodeView, WIDEST, child_demand};
+use std::alloc::Global;
+use type_core::TypeTable;
+
+// The position at an index of the constructor's row, with its sort.
+fn place_at(ctor: &Ctor, index: usize) -> Option<(Position, Sort)>
+    ensures { result ≡ slice_get (positions ctor.now) index }
+{
+    let position = position_at(ctor, index)?;
+    let sort = position_sort(ctor, position)?;
+    Some((position, sort))
+}
+
+// The sort of the children at the position with this index.
+fn sort_at_place(ctor: &Ctor, index: usize) -> Option<Sort>
+    ensures { result ≡ sort_at_index ctor.now index }
+{
+    let (_, sort) = place_at(ctor, index)?;
+    Some(sort)
+}
+
+// What is given where there is neither a type nor a name.
+pub(crate) fn nothing(types: &TypeTable) -> Given
+    ensures given { given_at types.now result ≡ nothing }
+    ensures number { IsGivenOf types.now result }
+{
+    Given {
+        typ: types.unknown(),
+        name: None,
+    }
+}
+
+// The vertex once the child at its next position has given something.
+pub(crate) fn fill(vertex: &OpenVertex, given: Given) -> OpenVertex
+    requires { vertex.now.next < length (positions vertex.now.view.ctor) }
+    ensures { result ≡ filled_with (sort_at_index vertex.now.view.ctor vertex.now.next) given vertex.now }
+{
+    let mut open = *vertex;
+    match sort_at_place(&open.view.ctor, open.next) {
+        Some(Sort::Exp) => open.view.done[open.next] = Some(given.typ),
+        Some(Sort::Typ) => {
+            open.earlier = open.view.binder.typ;
+            open.view.binder.typ = given.typ;
+        }
+        Some(Sort::Pat) => open.view.binder.name = given.name,
+        _ => {}
+    }
+    open.next += 1;
+    open
+}
+
+// What is demanded at the next position of the vertex.
+fn demand_at(
+    alloc: Global,
+    types: &mut TypeTable,
+    ctxs: &mut CtxTable,
+    vertex: &OpenVertex,
+) -> Result<Demand, NoMemory>
+    requires vertex { IsOpenOf types.old ctxs.old vertex.now }
+    requires next { vertex.now.next < length (positions vertex.now.view.ctor) }
+    ensures demand { IfOk result (λ d. demanded_at types.new ctxs.new d
+        ≡ demanded_by (opened_at types.old ctxs.old vertex.now) (unwrap_or (sort_at_index vertex.now.view.ctor vertex.now.next) Sort.Top)) }
+    ensures number { IfOk result (IsDemandOf types.new ctxs.new) }
+    ensures types { KeepsTypes types.old types.new }
+    ensures contexts { KeepsContexts ctxs.old ctxs.new }
+{
+    let view = &vertex.view;
+    if sort_of(&view.ctor) == Sort::Exp
+        && sort_at_place(&view.ctor, vertex.next) == Some(Sort::Exp)
+    {
+        return Ok(child_demand(alloc, types, ctxs, view, vertex.next)?);
+    }
+    Ok(Demand {
+        ctx: view.ctx,
+        mode: Mode::Syn,
+    })
+}
+
+fn innermost(frames: &[Frame]) -> Option<Frame>
+    ensures { result ≡ slice_get frames.now (length frames.now - 1) }
+{
+    frames.last().copied()
+}
+
+// What is demanded of the next node.
+pub(crate) fn demand_next(
+    alloc: Global,
+    types: &mut TypeTable,
+    ctxs: &mut CtxTable,
+    frames: &[Frame],
+) -> Result<Demand, NoMemory>
+    requires { AreFramesOf types.old ctxs.old frames.now }
+    ensures demand { IfOk result (λ d. demanded_at types.new ctxs.new d ≡ demanded_next (frames_at types.old ctxs.old frames.now)) }
+    ensures number { IfOk result (IsDemandOf types.new ctxs.new) }
+    ensures types { KeepsTypes types.old types.new }
+    ensures contexts { KeepsContexts ctxs.old ctxs.new }
+{
+    match innermost(frames) {
+        None => Ok(Demand {
+            ctx: ctxs.empty(),
+            mode: Mode::Syn,
+        }),
+        Some(Frame::Open(vertex)) => demand_at(alloc, types, ctxs, &vertex),
+        Some(Frame::Several(demand, _)) => Ok(demand),
+    }
+}
+
+// A vertex none of whose positions is marked.
+pub(crate) fn fresh(
+    types: &TypeTable,
+    place: usize,
+    node: &Node,
+    ctor: Ctor,
+    demand: Demand,
+) -> OpenVertex
+    ensures place { result.place ≡ place }
+    ensures node { result.node ≡ node.now }
+    ensures ctor { result.view.ctor ≡ ctor }
+    ensures ctx { result.view.ctx ≡ demand.ctx }
+    ensures mode { result.view.mode ≡ demand.mode }
+    ensures name { result.view.binder.name ≡ None }
+    ensures typ { type_at types.now result.view.binder.typ ≡ typ.Unknown }
+    ensures typ_number { IsTypeOf types.now result.view.binder.typ }
+    ensures earlier { type_at types.now result.earlier ≡ typ.Unknown }
+    ensures earlier_number { IsTypeOf types.now result.earlier }
+    ensures done { result.view.done ≡ None ∷ None ∷ None ∷ [] }
+    ensures next { result.next ≡ 0 }
+{
+    let unknown = types.unknown();
+    OpenVertex {
+        place,
+        node: *node,
+        view: NodeView {
+            ctor,
+            ctx: demand.ctx,
+            mode: demand.mode,
+            binder: Binder {
+                name: None,
+                typ: unknown,
+            },
+            done: [None; WIDEST],
+        },
+        earlier: unknown,
+        next: 0,
+    }
+}

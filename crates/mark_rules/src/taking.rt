@@ -1,0 +1,213 @@
+ghost use Rattle.std.specs.Prelude.{◌≡◌, ◌∷◌, ◌++◌, [], drop, length, IfOk, OnOk, IfSome, Some};
+ghost use Rattle.grove_sorts.specs.Ctor.{sort_of_ctor};
+ghost use Rattle.type_core.specs.Typ.{Typ};
+ghost use Rattle.type_core.specs.TypeTable.{KeepsTypes};
+ghost use Rattle.ctx_table.specs.CtxTable.{KeepsContexts};
+ghost use Rattle.mark_step.specs.Node.{wanted_at, demanded_at, IsModeOf, IsDemandOf};
+ghost use Rattle.marking.specs.Marking.{marked_plain, marked_tree};
+ghost use Rattle.mark_rules.specs.Reading.{meant, meant_nodes};
+ghost use Rattle.mark_rules.specs.Machine as machine;
+ghost use Rattle.mark_rules.specs.Machine.{at, deliver, opened, taken, step, unsettled};
+ghost use Rattle.mark_rules.specs.Numbers.{IsMarkedNodeOf, AreMarkedNodesOf};
+ghost use Rattle.mark_rules.specs.Walking.{given_at, opened_at, left_of, frame_at, frames_at, state_at, given_on, IsGivenOf, IsOpenOf, IsFrameOf, IsWalkOf};
+
+use crate::closing::{close, untyped};
+use crate::frame::{Frame, Given, OpenVertex};
+use crate::marked_node::MarkedNode;
+use crate::marked_tree::MarkedTree;
+use crate::no_memory::NoMemory;
+use crate::opening::{demand_next, fill, fresh, nothing};
+use ctx_table::CtxTable;
+use grove_sorts::{Sort, position_count, sort_of};
+use grove_terms::{Node, Tree, What};
+use mark_step::{Demand, Mark, Mode};
+use std::alloc::Global;
+use type_core::TypeTable;
+
+/// A tree of which some nodes are marked: what is open, innermost last, and the nodes.
+#[derive(Debug, Drop)]
+pub(crate) struct Walk {
+    pub(crate) frames: Vec<Frame>,
+    pub(crate) out: MarkedTree,
+}
+
+// The node of a position without a sole child, or of a reference.
+fn plain(types: &TypeTable, sort: Sort, mode: Mode, node: &Node) -> MarkedNode
+    requires { IsModeOf types.now mode }
+    ensures node { meant types.now result ≡ marked_plain sort (wanted_at types.now mode) node.now }
+    ensures numbers { IsMarkedNodeOf types.now result }
+{
+    let unknown = types.unknown();
+    let (mode, typ) = match sort {
+        Sort::Exp => (Some(mode), Some(unknown)),
+        Sort::Typ => (None, Some(unknown)),
+        Sort::Pat | Sort::Top => (None, None),
+    };
+    MarkedNode {
+        node: *node,
+        mode,
+        typ,
+        mark: Mark::None,
+    }
+}
+
+// Lists such a node, and tells what it gives.
+fn list_plain(
+    types: &TypeTable,
+    out: &mut MarkedTree,
+    sort: Sort,
+    mode: Mode,
+    node: &Node,
+) -> Result<Given, NoMemory>
+    requires mode { IsModeOf types.now mode }
+    requires out { AreMarkedNodesOf types.now out.old }
+    ensures out { OnOk result (meant_nodes types.now out.new ≡ meant_nodes types.now out.old ++ marked_plain sort (wanted_at types.now mode) node.now ∷ []) }
+    ensures numbers { OnOk result (AreMarkedNodesOf types.now out.new) }
+    ensures given { IfOk result (λ given. given_at types.now given ≡ machine.nothing) }
+    ensures given_number { IfOk result (IsGivenOf types.now) }
+{
+    out.push(plain(types, sort, mode, node))?;
+    Ok(nothing(types))
+}
+
+// Opens the vertex where some of its positions are left, and else closes it and tells what it gives.
+fn go_on(
+    alloc: Global,
+    types: &mut TypeTable,
+    ctxs: &CtxTable,
+    walk: &mut Walk,
+    vertex: OpenVertex,
+) -> Result<Option<Given>, NoMemory>
+    requires walk { IsWalkOf types.old ctxs.now walk.old }
+    requires vertex { IsOpenOf types.old ctxs.now vertex }
+    ensures state { IfOk result (λ given. given_on types.new ctxs.now given walk.new ≡ opened (opened_at types.old ctxs.now vertex) (left_of vertex)
+        (frames_at types.old ctxs.now walk.old.frames.items) (meant_nodes types.old walk.old.out)) }
+    ensures given { IfOk result (λ given. IfSome given (IsGivenOf types.new)) }
+    ensures shorter { IfOk result (λ given. IfSome given (λ g. length walk.new.frames.items ≡ length walk.old.frames.items)) }
+    ensures walk { OnOk result (IsWalkOf types.new ctxs.now walk.new) }
+    ensures kept { KeepsTypes types.old types.new }
+{
+    if vertex.next < position_count(&vertex.view.ctor) {
+        walk.frames.push(Frame::Open(vertex))?;
+        return Ok(None);
+    }
+    let closed = close(alloc, types, ctxs, &vertex)?;
+    walk.out.set(vertex.place, closed.node);
+    Ok(Some(closed.given))
+}
+
+// Gives something to a frame that was the innermost, and tells what that gives to the next one.
+fn pass(
+    alloc: Global,
+    types: &mut TypeTable,
+    ctxs: &CtxTable,
+    walk: &mut Walk,
+    frame: Frame,
+    given: Given,
+) -> Result<Option<Given>, NoMemory>
+    requires walk { IsWalkOf types.old ctxs.now walk.old }
+    requires frame { IsFrameOf types.old ctxs.now frame }
+    requires given { IsGivenOf types.old given }
+    ensures state { IfOk result (λ g. given_on types.new ctxs.now g walk.new ≡ deliver (given_at types.old given)
+        (frame_at types.old ctxs.now frame ∷ frames_at types.old ctxs.now walk.old.frames.items) (meant_nodes types.old walk.old.out)) }
+    ensures given { IfOk result (λ given. IfSome given (IsGivenOf types.new)) }
+    ensures shorter { IfOk result (λ given. IfSome given (λ g. length walk.new.frames.items ≡ length walk.old.frames.items)) }
+    ensures walk { OnOk result (IsWalkOf types.new ctxs.now walk.new) }
+    ensures kept { KeepsTypes types.old types.new }
+{
+    match frame {
+        Frame::Open(vertex) => go_on(alloc, types, ctxs, walk, fill(&vertex, given)),
+        Frame::Several(demand, left) => {
+            if left > 1 {
+                walk.frames.push(Frame::Several(demand, left - 1))?;
+                return Ok(None);
+            }
+            Ok(Some(nothing(types)))
+        }
+    }
+}
+
+// Gives something to the innermost frame, and where that is whole, what it gives to the next one, and so on.
+fn hand_on(
+    alloc: Global,
+    types: &mut TypeTable,
+    ctxs: &CtxTable,
+    walk: &mut Walk,
+    given: Option<Given>,
+) -> Result<(), NoMemory>
+    requires walk { IsWalkOf types.old ctxs.now walk.old }
+    requires given { IfSome given (IsGivenOf types.old) }
+    ensures state { OnOk result (state_at types.new ctxs.now walk.new ≡ given_on types.old ctxs.now given walk.old) }
+    ensures walk { OnOk result (IsWalkOf types.new ctxs.now walk.new) }
+    ensures kept { KeepsTypes types.old types.new }
+{
+    let mut pending = given;
+    while let Some(given) = pending {
+        let Some(frame) = walk.frames.pop() else {
+            return Ok(());
+        };
+        pending = pass(alloc, types, ctxs, walk, frame, given)?;
+    }
+    Ok(())
+}
+
+// Marks a node, of which this is demanded, as far as it can be, and tells what it gives.
+fn begin(
+    alloc: Global,
+    types: &mut TypeTable,
+    ctxs: &CtxTable,
+    walk: &mut Walk,
+    node: &Node,
+    demand: Demand,
+) -> Result<Option<Given>, NoMemory>
+    requires walk { IsWalkOf types.old ctxs.now walk.old }
+    requires demand { IsDemandOf types.old ctxs.now demand }
+    ensures state { IfOk result (λ g. given_on types.new ctxs.now g walk.new ≡ taken node.now.what node.now (demanded_at types.old ctxs.now demand)
+        (frames_at types.old ctxs.now walk.old.frames.items) (meant_nodes types.old walk.old.out)) }
+    ensures given { IfOk result (λ given. IfSome given (IsGivenOf types.new)) }
+    ensures walk { OnOk result (IsWalkOf types.new ctxs.now walk.new) }
+    ensures kept { KeepsTypes types.old types.new }
+{
+    let mode = demand.mode;
+    match node.what {
+        What::Vertex(vertex) => {
+            let place = walk.out.len();
+            walk.out.push(untyped(node))?;
+            let begun = fresh(types, place, node, vertex.ctor, demand);
+            go_on(alloc, types, ctxs, walk, begun)
+        }
+        What::Hole(sort) => Ok(Some(list_plain(types, &mut walk.out, sort, mode, node)?)),
+        What::Conflict(sort, count) => {
+            list_plain(types, &mut walk.out, sort, mode, node)?;
+            let each = Demand {
+                ctx: demand.ctx,
+                mode: Mode::Syn,
+            };
+            walk.frames.push(Frame::Several(each, count))?;
+            Ok(None)
+        }
+        What::MultiRef(vertex) | What::CycleRef(vertex) => {
+            let sort = sort_of(&vertex.ctor);
+            Ok(Some(list_plain(types, &mut walk.out, sort, mode, node)?))
+        }
+    }
+}
+
+// Takes the next node.
+pub(crate) fn take(
+    alloc: Global,
+    types: &mut TypeTable,
+    ctxs: &mut CtxTable,
+    walk: &mut Walk,
+    node: &Node,
+) -> Result<(), NoMemory>
+    requires walk { IsWalkOf types.old ctxs.old walk.old }
+    ensures state { OnOk result (state_at types.new ctxs.new walk.new ≡ step (state_at types.old ctxs.old walk.old) node.now) }
+    ensures walk { OnOk result (IsWalkOf types.new ctxs.new walk.new) }
+    ensures types { KeepsTypes types.old types.new }
+    ensures contexts { KeepsContexts ctxs.old ctxs.new }
+{
+    let demand = demand_next(alloc, types, ctxs, &walk.frames)?;
+    let given = begin(alloc, types, ctxs, walk, node, demand)?;
+    hand_on(alloc, types, ctxs, walk, given)
+}
