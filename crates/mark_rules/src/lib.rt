@@ -9,7 +9,7 @@ mod marked_grove;
 mod marked_node;
 mod marked_tree;
 mod marked_tree_list;
-mod marking;
+mod marking_trees;
 mod no_memory;
 mod opening;
 mod taking;
@@ -19,7 +19,7 @@ pub use marked_grove::MarkedGrove;
 pub use marked_node::MarkedNode;
 pub use marked_tree::MarkedTree;
 pub use marked_tree_list::MarkedTreeList;
-pub use marking::{mark_grove, mark_tree};
+pub use marking_trees::{mark_grove, mark_tree};
 pub use no_memory::NoMemory;
 
 #[cfg(test)]

@@ -1,6 +1,6 @@
 use Rattle.mark_rules.proofs.Kept.{types-then}
 use Rattle.mark_rules.proofs.Marks.{marked_trees_kept, lists_kept}
-use Rattle.mark_rules.proofs.marking.mark_grove.Goals as goal
+use Rattle.mark_rules.proofs.marking_trees.mark_grove.Goals as goal
 
 pub returns-clause-marked : goal.returns-clause-marked
 returns-clause-marked c =

@@ -3,7 +3,7 @@ use Rattle.std.proofs.lemmas.Grind.{common_steps}
 use Rattle.grove_terms.specs.declared.node.Node.{Node}
 use Rattle.mark_rules.proofs.Kept.{types-then, contexts-then}
 use Rattle.mark_rules.proofs.Marks.{one_more_tree, more_numbers, rest_sorted, marked_for}
-use Rattle.mark_rules.proofs.marking.mark_trees.Goals as goal
+use Rattle.mark_rules.proofs.marking_trees.mark_trees.Goals as goal
 
 pub loop-tree-preserved : goal.loop-tree-preserved
 loop-tree-preserved c =

@@ -4,7 +4,7 @@ use Rattle.ctx_table.specs.CtxTable.{KeepsContexts}
 use Rattle.mark_rules.specs.Numbers.{AreMarkedListsOf}
 use Rattle.mark_rules.specs.Sorted.{AreSortedTrees}
 use Rattle.mark_rules.proofs.Marks.{AreSoFar}
-use Rattle.mark_rules.proofs.marking.mark_trees.Given as goal
+use Rattle.mark_rules.proofs.marking_trees.mark_trees.Given as goal
 
 abbrev pub invariant-loop-tree : goal.invariant-loop-tree
 invariant-loop-tree l = record {

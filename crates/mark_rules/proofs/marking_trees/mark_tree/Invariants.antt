@@ -3,7 +3,7 @@ use Rattle.type_core.specs.TypeTable.{KeepsTypes}
 use Rattle.ctx_table.specs.CtxTable.{KeepsContexts}
 use Rattle.mark_rules.specs.Machine.{at, run}
 use Rattle.mark_rules.specs.Walking.{state_at, IsWalkOf}
-use Rattle.mark_rules.proofs.marking.mark_tree.Given as goal
+use Rattle.mark_rules.proofs.marking_trees.mark_tree.Given as goal
 
 abbrev pub invariant-loop-node : goal.invariant-loop-node
 invariant-loop-node l = record {
