@@ -1,5 +1,5 @@
 -- Bytes that begin with earlier ones.
-use Rattle.std.proofs.Common.{◌≡◌, ℕ, List, ◌++◌, ap, ◌∙◌, append_assoc}
+use Rattle.std.proofs.Common.{◌≡◌, ℕ, List, ◌++◌, ap, ◌∙◌, append_assoc, Result, Ok, Err, OnErr}
 use Rattle.grove_printer.specs.Print.{Extends}
 
 pub extends_further : (a b c : List ℕ) → Extends a b → Extends b c → Extends a c
@@ -7,3 +7,8 @@ extends_further a b c x y = (x.0 ++ y.0, y.1 ∙ ap (λ bytes. bytes ++ y.0) x.1
 
 pub extends_appended : (a b c more : List ℕ) → Extends a b → c ≡ b ++ more → Extends a c
 extends_appended a b c more x is = extends_further a b c x (more, is)
+
+-- what holds holds after an error
+pub after_error : {T E P : Type 0} (r : Result T E) → P → OnErr r P
+after_error (Ok x) p = tt
+after_error (Err e) p = p

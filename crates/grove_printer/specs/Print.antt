@@ -2,13 +2,20 @@
 use Rattle.std.specs.Prelude.{◌≡◌, ℕ, List, [], ◌∷◌, ◌++◌, length, Option, Some, None, codes, decimal}
 use Rattle.grove_names.specs.Name.{name_text}
 use Rattle.grove_sorts.specs.declared.position.Position.{Position}
-use Rattle.grove_sorts.specs.Ctor.{ctor_text}
+use Rattle.grove_sorts.specs.declared.sort.Sort.{Sort}
+use Rattle.grove_sorts.specs.Sort.{sort_text}
+use Rattle.grove_sorts.specs.Ctor.{ctor_text, sort_of_ctor}
 use Rattle.grove_sorts.specs.Position.{position_text}
 use Rattle.grove_edits.specs.declared.edge.Edge.{Edge}
 use Rattle.grove_terms.specs.declared.node.Node.{Node}
 use Rattle.grove_terms.specs.declared.node.What.{What}
 use Rattle.grove_terms.specs.declared.node.What.TheVariants.{Vertex, Hole, Conflict, MultiRef, CycleRef}
-use Rattle.grove_terms.specs.declared.grove.Grove.{Grove}
+use Rattle.type_core.specs.Typ.{Typ, type_text}
+use Rattle.mark_step.specs.declared.node.Mark.{Mark}
+use Rattle.mark_step.specs.declared.node.Mark.TheVariants as mark
+use Rattle.mark_step.specs.Expression.{Wanted, Synthesise, Analyse}
+use Rattle.marking.specs.Marking.{MarkedNode}
+use Rattle.marking.specs.Grove.{MarkedTrees}
 
 -- new bytes begin with the old ones
 abbrev pub Extends : List ℕ → List ℕ → Type 0
@@ -48,24 +55,57 @@ place_columns n = decimal n.depth ++ (32 ∷ (position_column n.position ++ (32 
 abbrev pub node_columns : Node → List ℕ
 node_columns n = place_columns n ++ (32 ∷ (vertex_column n.what ++ (32 ∷ what_column n.what)))
 
-abbrev pub node_line : Node → List ℕ
-node_line n = node_columns n ++ 10 ∷ []
+-- what is wanted of an expression, with the type that it is analysed against, and the sort of any other node
+abbrev pub mode_column : Sort → Option Wanted → List ℕ
+mode_column sort None = sort_text sort
+mode_column sort (Some Synthesise) = codes "syn"
+mode_column sort (Some (Analyse t)) = codes "ana:" ++ type_text 8 t
+
+abbrev pub type_column : Option Typ → List ℕ
+type_column None = dash
+type_column (Some t) = type_text 8 t
+
+abbrev pub mark_text : Mark → List ℕ
+mark_text mark.None = dash
+mark_text mark.Free = codes "free"
+mark_text mark.NotArrow = codes "not-arrow"
+mark_text mark.NotProduct = codes "not-product"
+mark_text mark.Branches = codes "branches"
+mark_text mark.LamAgainst = codes "lam-against"
+mark_text mark.Ascription = codes "ascription"
+mark_text mark.PairAgainst = codes "pair-against"
+mark_text mark.Inconsistent = codes "inconsistent"
+
+-- the sort of a node: that of the vertex, or of the position without a sole child
+abbrev pub sort_of_node : What → Sort
+sort_of_node (Vertex v) = sort_of_ctor v.ctor
+sort_of_node (Hole sort) = sort
+sort_of_node (Conflict sort count) = sort
+sort_of_node (MultiRef v) = sort_of_ctor v.ctor
+sort_of_node (CycleRef v) = sort_of_ctor v.ctor
+
+-- what is wanted, the type and the mark, with a space between each two
+abbrev pub mark_columns : MarkedNode → List ℕ
+mark_columns m = mode_column (sort_of_node m.node.what) m.wanted ++ (32 ∷ (type_column m.typ ++ (32 ∷ mark_text m.mark)))
+
+abbrev pub node_line : MarkedNode → List ℕ
+node_line m = node_columns m.node ++ (32 ∷ (mark_columns m ++ 10 ∷ []))
 
 -- a line for each node
-abbrev pub tree_text : List Node → List ℕ
+abbrev pub tree_text : List MarkedNode → List ℕ
 tree_text [] = []
-tree_text (n ∷ ns) = node_line n ++ tree_text ns
+tree_text (m ∷ ms) = node_line m ++ tree_text ms
 
-abbrev pub trees_text : List (List Node) → List ℕ
+abbrev pub trees_text : List (List MarkedNode) → List ℕ
 trees_text [] = []
 trees_text (t ∷ ts) = tree_text t ++ trees_text ts
 
 -- a word and the number of trees
-abbrev pub heading : List ℕ → List (List Node) → List ℕ
-heading word trees = word ++ (decimal (length trees) ++ 10 ∷ [])
+abbrev pub heading : List ℕ → ℕ → List ℕ
+heading word count = word ++ (decimal count ++ 10 ∷ [])
 
 -- a heading and the trees, for each of the three lists
-abbrev pub print_text : Grove → List ℕ
+abbrev pub print_text : MarkedTrees → List ℕ
 print_text grove =
-    (heading (codes "none ") grove.none ++ trees_text grove.none)
-    ++ ((heading (codes "multi ") grove.multi ++ trees_text grove.multi) ++ (heading (codes "cycle ") grove.cycle ++ trees_text grove.cycle))
+    (heading (codes "none ") (length grove.none) ++ trees_text grove.none)
+    ++ ((heading (codes "multi ") (length grove.multi) ++ trees_text grove.multi) ++ (heading (codes "cycle ") (length grove.cycle) ++ trees_text grove.cycle))

@@ -1,7 +1,8 @@
-//! The print text of groves: a line for each node of each tree. What shows programs stands on this crate.
+//! The print text of marked groves: a line for each node of each tree. What shows programs stands on this crate.
 #![tactic(auto)]
 
 mod columns;
+mod marks;
 mod no_memory;
 mod print;
 

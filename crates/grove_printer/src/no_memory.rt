@@ -43,3 +43,9 @@ impl From<grove_sorts::NoMemory> for NoMemory {
         NoMemory
     }
 }
+
+impl From<type_core::NoMemory> for NoMemory {
+    fn from(_error: type_core::NoMemory) -> NoMemory {
+        NoMemory
+    }
+}

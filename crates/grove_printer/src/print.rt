@@ -1,18 +1,27 @@
-ghost use Rattle.std.specs.Prelude.{◌≡◌, ◌++◌, OnOk, OnErr};
+ghost use Rattle.std.specs.Prelude.{◌≡◌, ◌++◌, length, map, OnOk, OnErr};
+ghost use Rattle.mark_rules.specs.Reading.{meant, meant_nodes, meant_grove};
+ghost use Rattle.mark_rules.specs.Numbers.{IsMarkedNodeOf, AreMarkedNodesOf, AreMarkedListsOf, IsMarkedGroveOf};
 ghost use Rattle.grove_printer.specs.Print.{Extends, node_line, tree_text, trees_text, heading, print_text};
 
 use crate::columns::append_columns;
+use crate::marks::append_marks;
 use crate::no_memory::NoMemory;
-use grove_terms::{Grove, Node, Tree, TreeList};
+use mark_rules::{MarkedGrove, MarkedNode, MarkedTree, MarkedTreeList};
 use text_parts::write_number;
+use type_core::TypeTable;
 
-/// Appends the print text of a grove: under a heading for each of its three lists a line for each node of its trees.
-pub fn print_grove(grove: &Grove, out: &mut Vec<u8>) -> Result<(), NoMemory>
-    ensures appended { OnOk result (out.new.items ≡ out.old.items ++ print_text grove.now) }
+/// Appends the print text of a marked grove: under a heading for each of its three lists a line for each node of its trees.
+pub fn print_grove(
+    marked: &MarkedGrove,
+    types: &TypeTable,
+    out: &mut Vec<u8>,
+) -> Result<(), NoMemory>
+    requires { IsMarkedGroveOf types.now marked.now }
+    ensures appended { OnOk result (out.new.items ≡ out.old.items ++ print_text (meant_grove types.now marked.now)) }
     ensures unchanged { OnErr result (out.new.items ≡ out.old.items) }
 {
     let start = out.len();
-    let written = append_grove(grove, out);
+    let written = append_grove(marked, types, out);
     if written.is_err() {
         out.truncate(start);
     }
@@ -21,50 +30,63 @@ pub fn print_grove(grove: &Grove, out: &mut Vec<u8>) -> Result<(), NoMemory>
 
 // After an error each of these functions may have appended a part.
 
-fn append_grove(grove: &Grove, out: &mut Vec<u8>) -> Result<(), NoMemory>
-    ensures appended { OnOk result (out.new.items ≡ out.old.items ++ print_text grove.now) }
+fn append_grove(marked: &MarkedGrove, types: &TypeTable, out: &mut Vec<u8>) -> Result<(), NoMemory>
+    requires { IsMarkedGroveOf types.now marked.now }
+    ensures appended { OnOk result (out.new.items ≡ out.old.items ++ print_text (meant_grove types.now marked.now)) }
     ensures in_part { OnErr result (Extends out.old.items out.new.items) }
 {
-    append_section(b"none ", &grove.none, out)?;
-    append_section(b"multi ", &grove.multi, out)?;
-    append_section(b"cycle ", &grove.cycle, out)
+    append_section(b"none ", &marked.none, types, out)?;
+    append_section(b"multi ", &marked.multi, types, out)?;
+    append_section(b"cycle ", &marked.cycle, types, out)
 }
 
-fn append_section(word: &[u8], trees: &TreeList, out: &mut Vec<u8>) -> Result<(), NoMemory>
-    ensures appended { OnOk result (out.new.items ≡ out.old.items ++ (heading word.now trees.now ++ trees_text trees.now)) }
+fn append_section(
+    word: &[u8],
+    trees: &MarkedTreeList,
+    types: &TypeTable,
+    out: &mut Vec<u8>,
+) -> Result<(), NoMemory>
+    requires { AreMarkedListsOf types.now trees.now }
+    ensures appended { OnOk result (out.new.items ≡ out.old.items
+        ++ (heading word.now (length trees.now) ++ trees_text (map (meant_nodes types.now) trees.now))) }
     ensures in_part { OnErr result (Extends out.old.items out.new.items) }
 {
     out.extend_from_slice(word)?;
     write_number(trees.len() as u64, out)?;
     out.push(b'\n')?;
-    append_trees(trees.as_slice(), out)
+    append_trees(trees.as_slice(), types, out)
 }
 
-fn append_trees(trees: &[Tree], out: &mut Vec<u8>) -> Result<(), NoMemory>
-    ensures appended { OnOk result (out.new.items ≡ out.old.items ++ trees_text trees.now) }
+fn append_trees(trees: &[MarkedTree], types: &TypeTable, out: &mut Vec<u8>) -> Result<(), NoMemory>
+    requires { AreMarkedListsOf types.now trees.now }
+    ensures appended { OnOk result (out.new.items ≡ out.old.items ++ trees_text (map (meant_nodes types.now) trees.now)) }
     ensures in_part { OnErr result (Extends out.old.items out.new.items) }
 {
     for tree in trees {
-        append_tree(tree.as_slice(), out)?;
+        append_tree(tree.as_slice(), types, out)?;
     }
     Ok(())
 }
 
-fn append_tree(nodes: &[Node], out: &mut Vec<u8>) -> Result<(), NoMemory>
-    ensures appended { OnOk result (out.new.items ≡ out.old.items ++ tree_text nodes.now) }
+fn append_tree(nodes: &[MarkedNode], types: &TypeTable, out: &mut Vec<u8>) -> Result<(), NoMemory>
+    requires { AreMarkedNodesOf types.now nodes.now }
+    ensures appended { OnOk result (out.new.items ≡ out.old.items ++ tree_text (meant_nodes types.now nodes.now)) }
     ensures in_part { OnErr result (Extends out.old.items out.new.items) }
 {
     for node in nodes {
-        append_line(node, out)?;
+        append_line(node, types, out)?;
     }
     Ok(())
 }
 
-fn append_line(node: &Node, out: &mut Vec<u8>) -> Result<(), NoMemory>
-    ensures appended { OnOk result (out.new.items ≡ out.old.items ++ node_line node.now) }
+fn append_line(node: &MarkedNode, types: &TypeTable, out: &mut Vec<u8>) -> Result<(), NoMemory>
+    requires { IsMarkedNodeOf types.now node.now }
+    ensures appended { OnOk result (out.new.items ≡ out.old.items ++ node_line (meant types.now node.now)) }
     ensures in_part { OnErr result (Extends out.old.items out.new.items) }
 {
-    append_columns(node, out)?;
+    append_columns(&node.node, out)?;
+    out.push(b' ')?;
+    append_marks(node, types, out)?;
     out.push(b'\n')?;
     Ok(())
 }

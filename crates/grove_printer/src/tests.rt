@@ -2,12 +2,16 @@ use super::*;
 use grove_edits::Vertex;
 use grove_names::Name;
 use grove_sorts::{Ctor, Position, Sort};
-use grove_terms::{Grove, Node, Tree, TreeList, What};
+use grove_terms::{Node, What};
+use mark_rules::{MarkedGrove, MarkedNode, MarkedTree, MarkedTreeList};
+use mark_step::{Mark, Mode};
 use std::test::Fail;
+use type_core::TypeTable;
 
 #[test]
-fn a_grove_is_printed(rt: HostRuntime) -> Result<(), Fail> {
+fn a_marked_grove_is_printed(rt: HostRuntime) -> Result<(), Fail> {
     let alloc = rt.alloc();
+    let types = TypeTable::new(alloc)?;
     let root = Vertex {
         name: Name {
             author: 0,
@@ -15,31 +19,43 @@ fn a_grove_is_printed(rt: HostRuntime) -> Result<(), Fail> {
         },
         ctor: Ctor::Root,
     };
-    let mut tree = Tree::new(alloc);
-    tree.push(Node {
-        depth: 0,
-        position: None,
-        edge: None,
-        what: What::Vertex(root),
-    })?;
-    tree.push(Node {
-        depth: 1,
-        position: Some(Position::Main),
-        edge: None,
-        what: What::Hole(Sort::Exp),
-    })?;
-    let mut none = TreeList::new(alloc);
+    let head = MarkedNode {
+        node: Node {
+            depth: 0,
+            position: None,
+            edge: None,
+            what: What::Vertex(root),
+        },
+        mode: None,
+        typ: None,
+        mark: Mark::None,
+    };
+    let hole = MarkedNode {
+        node: Node {
+            depth: 1,
+            position: Some(Position::Main),
+            edge: None,
+            what: What::Hole(Sort::Exp),
+        },
+        mode: Some(Mode::Ana(types.boolean())),
+        typ: Some(types.num()),
+        mark: Mark::Inconsistent,
+    };
+    let mut tree = MarkedTree::new(alloc);
+    tree.push(head)?;
+    tree.push(hole)?;
+    let mut none = MarkedTreeList::new(alloc);
     none.push(tree)?;
-    let grove = Grove {
+    let marked = MarkedGrove {
         none,
-        multi: TreeList::new(alloc),
-        cycle: TreeList::new(alloc),
+        multi: MarkedTreeList::new(alloc),
+        cycle: MarkedTreeList::new(alloc),
     };
     let mut text = Vec::new(alloc);
-    print_grove(&grove, &mut text)?;
+    print_grove(&marked, &types, &mut text)?;
     assert_eq!(rt;
         text.as_slice(),
-        b"none 1\n0 - - 0.0 root\n1 main - - hole\nmulti 0\ncycle 0\n".as_slice()
+        b"none 1\n0 - - 0.0 root top - -\n1 main - - hole ana:bool num inconsistent\nmulti 0\ncycle 0\n".as_slice()
     );
     Ok(())
 }

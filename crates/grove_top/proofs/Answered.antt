@@ -20,7 +20,9 @@ answer_told Merge text answer entries of_text is = record {
 answer_told Show text answer entries of_text is = record {
   edits = of_text.edits;
   grove = is.grove;
+  marked = is.marked;
   spelled = of_text.spelled;
   is_grove = grove_along (state_in entries) (graph of_text.edits) is.grove of_text.same is.is_grove;
+  is_marked = is.is_marked;
   written = is.written;
 }

@@ -2,3 +2,4 @@ pub mod OneDue
 pub mod Statuses
 pub mod WordsAre
 pub mod Answered
+pub mod Sorted

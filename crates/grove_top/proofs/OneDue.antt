@@ -8,6 +8,9 @@ use Rattle.grove_edits.proofs.Graphs.{graph-same_edits}
 use Rattle.grove_edits.proofs.Unique.{canonical_once}
 use Rattle.grove_terms.specs.Grove.{IsGrove}
 use Rattle.grove_terms.proofs.OneGrove.{one_grove, same_edits_same_grove}
+use Rattle.grove_terms.specs.declared.grove.Grove.{Grove}
+use Rattle.marking.specs.Grove.{MarkedTrees, IsMarkedGrove}
+use Rattle.marking.proofs.OneMarking.{one_marking}
 use Rattle.grove_printer.specs.Print.{print_text}
 use Rattle.edit_text.specs.declared.line_fault.LineFault.{LineFault}
 use Rattle.edit_text.specs.declared.line_fault.LineFault.TheVariants as lines
@@ -66,6 +69,10 @@ merged_alike a b x y same of_a of_b =
     let moved : IsCanonical (graph b) of_a.canonical = record { in_order = canonical_a.in_order; same = λ e. canonical_a.same e ∙ graph-same_edits a b same.0 same.1 e } in
     of_a.written ∙ ap text_of (canonical_once (graph b) of_a.canonical of_b.canonical moved canonical_b) ∙ sym of_b.written
 
+-- a grove has one marking
+marked_alike : (a b : Grove) (m n : MarkedTrees) → a ≡ b → IsMarkedGrove a m → IsMarkedGrove b n → m ≡ n
+marked_alike a b m n same of_a of_b = one_marking b m n (subst (λ (g : Grove). IsMarkedGrove g m) same of_a) of_b
+
 -- texts that spell the same edits show the same text
 shown_alike : (a b : List Edit) (x y : List ℕ) → HasSameEdits a b → IsShown (text_of a) x → IsShown (text_of b) y → x ≡ y
 shown_alike a b x y same of_a of_b =
@@ -73,7 +80,7 @@ shown_alike a b x y same of_a of_b =
     let edits_b : b ≡ of_b.edits = one_list b of_b.edits of_b.spelled in
     let grove_a : IsGrove (graph a) of_a.grove = subst (λ (edits : List Edit). IsGrove (graph edits) of_a.grove) (sym edits_a) of_a.is_grove in
     let grove_b : IsGrove (graph b) of_b.grove = subst (λ (edits : List Edit). IsGrove (graph edits) of_b.grove) (sym edits_b) of_b.is_grove in
-    of_a.written ∙ ap print_text (same_edits_same_grove a b of_a.grove of_b.grove same grove_a grove_b) ∙ sym of_b.written
+    of_a.written ∙ ap print_text (marked_alike of_a.grove of_b.grove of_a.marked of_b.marked (same_edits_same_grove a b of_a.grove of_b.grove same grove_a grove_b) of_a.is_marked of_b.is_marked) ∙ sym of_b.written
 
 -- texts that spell the same edits get the same answer
 pub answered_alike : (command : Command) (a b : List Edit) (x y : List ℕ) → HasSameEdits a b → IsAnswered command (text_of a) x → IsAnswered command (text_of b) y → x ≡ y
@@ -89,7 +96,7 @@ one_answer Merge text x y a b =
 one_answer Show text x y a b =
     let edits : a.edits ≡ b.edits = one_list a.edits b.edits (sym a.spelled ∙ b.spelled) in
     let moved : IsGrove (graph b.edits) a.grove = subst (λ (es : List Edit). IsGrove (graph es) a.grove) edits a.is_grove in
-    a.written ∙ ap print_text (one_grove (graph b.edits) a.grove b.grove moved b.is_grove) ∙ sym b.written
+    a.written ∙ ap print_text (marked_alike a.grove b.grove a.marked b.marked (one_grove (graph b.edits) a.grove b.grove moved b.is_grove) a.is_marked b.is_marked) ∙ sym b.written
 
 malformed_alike : (m n : ℕ) (f g : Fault) → m ≡ n → f ≡ g → (Malformed m f ≡ Malformed n g) × (malformed_text m f ≡ malformed_text n g)
 malformed_alike m n f g e d = (ap (λ k. Malformed k f) e ∙ ap (Malformed n) d, ap (λ k. malformed_text k f) e ∙ ap (malformed_text n) d)

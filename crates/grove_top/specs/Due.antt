@@ -5,6 +5,7 @@ use Rattle.grove_edits.specs.declared.edit.Edit.{Edit}
 use Rattle.grove_edits.specs.Graph.{graph, IsCanonical}
 use Rattle.grove_terms.specs.declared.grove.Grove.{Grove}
 use Rattle.grove_terms.specs.Grove.{IsGrove}
+use Rattle.marking.specs.Grove.{MarkedTrees, IsMarkedGrove}
 use Rattle.grove_printer.specs.Print.{print_text}
 use Rattle.edit_text.specs.declared.line_fault.LineFault.TheVariants as lines
 use Rattle.edit_text.specs.Text.{text_of, IsMalformed, HasRest}
@@ -52,13 +53,15 @@ pub record IsMerged (text merged : List ℕ) : Type 0 where
   pub is_canonical : IsCanonical (graph edits) canonical
   pub written : merged ≡ text_of canonical
 
--- the print text of the grove of the graph of the edits that a text spells
+-- the print text of the marked grove of the graph of the edits that a text spells
 pub record IsShown (text shown : List ℕ) : Type 0 where
   pub edits : List Edit
   pub grove : Grove
+  pub marked : MarkedTrees
   pub spelled : text ≡ text_of edits
   pub is_grove : IsGrove (graph edits) grove
-  pub written : shown ≡ print_text grove
+  pub is_marked : IsMarkedGrove grove marked
+  pub written : shown ≡ print_text marked
 
 -- what a command makes of a good text
 abbrev pub IsAnswered : Command → List ℕ → List ℕ → Type 0

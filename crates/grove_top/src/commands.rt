@@ -3,20 +3,23 @@ ghost use Rattle.graph_store.specs.Store.{state_in};
 ghost use Rattle.walks.specs.Whole.{AreLive};
 ghost use Rattle.grove_top.specs.declared.limit.TheConstants.{MOST_BYTES};
 ghost use Rattle.grove_top.specs.Due.{IsCommandDue, malformed_text, fault_word};
-ghost use Rattle.grove_top.specs.Graph.{IsAnswerOf, IsCanonicalText, IsPrintText};
+ghost use Rattle.grove_top.specs.Graph.{IsAnswerOf, IsCanonicalText, IsOfEdits, IsPrintText};
 
 use crate::command::Command;
 use crate::graph::read_graph;
 use crate::no_memory::NoMemory;
 use crate::outcome::{Fault, Status};
 use child_index::ChildIndex;
+use ctx_table::CtxTable;
 use edit_text::{TextFault, write_edits};
 use graph_store::GraphStore;
 use grove_decompose::decompose;
 use grove_printer::print_grove;
+use mark_rules::mark_grove;
 use parent_index::ParentIndex;
 use std::alloc::Global;
 use text_parts::write_number;
+use type_core::TypeTable;
 
 /// A status, and the whole text to write with it.
 #[derive(Drop)]
@@ -45,6 +48,7 @@ pub(crate) fn form_due(alloc: Global, command: Command, text: &[u8]) -> Result<D
 }
 
 fn answer(alloc: Global, command: Command, store: &GraphStore) -> Result<Vec<u8>, NoMemory>
+    requires { IsOfEdits (state_in store.now) }
     ensures { IfOk result (λ text. IsAnswerOf command (state_in store.now) text.items) }
 {
     match command {
@@ -63,14 +67,18 @@ fn canonical_text(alloc: Global, store: &GraphStore) -> Result<Vec<u8>, NoMemory
 }
 
 fn print_text(alloc: Global, store: &GraphStore) -> Result<Vec<u8>, NoMemory>
+    requires { IsOfEdits (state_in store.now) }
     ensures { IfOk result (λ text. IsPrintText (state_in store.now) text.items) }
 {
     let live = store.live_edges(alloc)?;
     let children = ChildIndex::of(alloc, &live)?;
     let parents = ParentIndex::of(alloc, &live)?;
     let grove = decompose(alloc, store, &children, &parents)?;
+    let mut types = TypeTable::new(alloc)?;
+    let mut contexts = CtxTable::new(alloc)?;
+    let marked = mark_grove(alloc, &grove, &mut types, &mut contexts)?;
     let mut text = Vec::new(alloc);
-    print_grove(&grove, &mut text)?;
+    print_grove(&marked, &types, &mut text)?;
     Ok(text)
 }
 

@@ -67,3 +67,21 @@ impl From<grove_printer::NoMemory> for NoMemory {
         NoMemory
     }
 }
+
+impl From<type_core::NoMemory> for NoMemory {
+    fn from(_error: type_core::NoMemory) -> NoMemory {
+        NoMemory
+    }
+}
+
+impl From<ctx_table::NoMemory> for NoMemory {
+    fn from(_error: ctx_table::NoMemory) -> NoMemory {
+        NoMemory
+    }
+}
+
+impl From<mark_rules::NoMemory> for NoMemory {
+    fn from(_error: mark_rules::NoMemory) -> NoMemory {
+        NoMemory
+    }
+}

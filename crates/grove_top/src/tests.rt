@@ -143,27 +143,27 @@ fn groves_are_shown(rt: HostRuntime) -> Result<(), Fail> {
     let cases: [(&[u8], &[u8]); 6] = [
         (
             b"",
-            b"none 1\n0 - - 0.0 root\n1 main - - hole\nmulti 0\ncycle 0\n",
+            b"none 1\n0 - - 0.0 root top - -\n1 main - - hole syn ? -\nmulti 0\ncycle 0\n",
         ),
         (
             b"+1.2 0.0 root main 1.1 num:7\n+2.2 0.0 root main 2.1 true\n",
-            b"none 1\n0 - - 0.0 root\n1 main - - conflict:2\n2 main 1.2 1.1 num:7\n2 main 2.2 2.1 true\nmulti 0\ncycle 0\n",
+            b"none 1\n0 - - 0.0 root top - -\n1 main - - conflict:2 syn ? -\n2 main 1.2 1.1 num:7 syn num -\n2 main 2.2 2.1 true syn bool -\nmulti 0\ncycle 0\n",
         ),
         (
             b"+1.2 0.0 root main 1.1 plus\n+1.4 1.1 plus left 1.3 num:7\n+1.5 1.1 plus right 1.3 num:7\n",
-            b"none 1\n0 - - 0.0 root\n1 main 1.2 1.1 plus\n2 left 1.4 1.3 multi:num:7\n2 right 1.5 1.3 multi:num:7\nmulti 1\n0 - - 1.3 num:7\ncycle 0\n",
+            b"none 1\n0 - - 0.0 root top - -\n1 main 1.2 1.1 plus syn num -\n2 left 1.4 1.3 multi:num:7 ana:num ? -\n2 right 1.5 1.3 multi:num:7 ana:num ? -\nmulti 1\n0 - - 1.3 num:7 syn num -\ncycle 0\n",
         ),
         (
             b"+1.2 0.0 root main 1.1 pair\n-1.4 1.1 pair first 1.3 fst\n-1.6 1.1 pair second 1.5 snd\n+2.1 1.5 snd of 1.3 fst\n+3.1 1.3 fst of 1.5 snd\n",
-            b"none 1\n0 - - 0.0 root\n1 main 1.2 1.1 pair\n2 first - - hole\n2 second - - hole\nmulti 0\ncycle 1\n0 - - 1.3 fst\n1 of 3.1 1.5 snd\n2 of 2.1 1.3 cycle:fst\n",
+            b"none 1\n0 - - 0.0 root top - -\n1 main 1.2 1.1 pair syn (?*?) -\n2 first - - hole syn ? -\n2 second - - hole syn ? -\nmulti 0\ncycle 1\n0 - - 1.3 fst syn ? -\n1 of 3.1 1.5 snd syn ? -\n2 of 2.1 1.3 cycle:fst syn ? -\n",
         ),
         (
-            b"+1.2 1.1 fst of 1.1 fst\n",
-            b"none 1\n0 - - 0.0 root\n1 main - - hole\nmulti 0\ncycle 1\n0 - - 1.1 fst\n1 of 1.2 1.1 cycle:fst\n",
+            b"+1.2 0.0 root main 1.1 if\n+1.4 1.1 if cond 1.3 true\n+1.6 1.1 if then 1.5 num:1\n+1.8 1.1 if else 1.7 false\n",
+            b"none 1\n0 - - 0.0 root top - -\n1 main 1.2 1.1 if syn ? branches\n2 cond 1.4 1.3 true ana:bool bool -\n2 then 1.6 1.5 num:1 syn num -\n2 else 1.8 1.7 false syn bool -\nmulti 0\ncycle 0\n",
         ),
         (
-            b"+1.2 1.1 fst of 1.1 fst\n+1.3 0.0 root main 1.1 fst\n",
-            b"none 1\n0 - - 0.0 root\n1 main 1.3 1.1 multi:fst\nmulti 1\n0 - - 1.1 fst\n1 of 1.2 1.1 multi:fst\ncycle 0\n",
+            b"+1.2 0.0 root main 1.1 ap\n+1.4 1.1 ap fun 1.3 lam\n+1.6 1.3 lam type 1.5 tarrow\n+1.8 1.5 tarrow from 1.7 tnum\n+1.10 1.5 tarrow to 1.9 tnum\n+1.12 1.1 ap arg 1.11 lam\n+1.14 1.11 lam param 1.13 pvar:x\n+1.16 1.11 lam type 1.15 tbool\n+1.18 1.11 lam body 1.17 var:x\n",
+            b"none 1\n0 - - 0.0 root top - -\n1 main 1.2 1.1 ap syn ? -\n2 fun 1.4 1.3 lam syn ((num->num)->?) -\n3 param - - hole pat - -\n3 type 1.6 1.5 tarrow typ (num->num) -\n4 from 1.8 1.7 tnum typ num -\n4 to 1.10 1.9 tnum typ num -\n3 body - - hole syn ? -\n2 arg 1.12 1.11 lam ana:(num->num) (num->num) ascription\n3 param 1.14 1.13 pvar:x pat - -\n3 type 1.16 1.15 tbool typ bool -\n3 body 1.18 1.17 var:x ana:num bool inconsistent\nmulti 0\ncycle 0\n",
         ),
     ];
     for (text, want) in cases {
@@ -192,7 +192,7 @@ fn chain(alloc: Global, count: u64) -> Result<Vec<u8>, Fail> {
 fn a_deep_chain_is_shown(rt: HostRuntime) -> Result<(), Fail> {
     let text = chain(rt.alloc(), 50_000)?;
     let shown = written(rt.alloc(), "show", &text)?;
-    assert!(rt; shown.ends_with(b"\n50001 of - - hole\nmulti 0\ncycle 0\n"));
+    assert!(rt; shown.ends_with(b"\n50001 of - - hole syn ? -\nmulti 0\ncycle 0\n"));
     Ok(())
 }
 

@@ -1,0 +1,97 @@
+ghost use Rattle.std.specs.Prelude.{◌≡◌, ◌++◌, OnOk, OnErr, IfSome};
+ghost use Rattle.std.specs.Option.{option_map};
+ghost use Rattle.type_core.specs.TypeTable.{IsTypeOf, type_at};
+ghost use Rattle.mark_step.specs.Node.{IsModeOf, wanted_at};
+ghost use Rattle.mark_rules.specs.Reading.{meant};
+ghost use Rattle.mark_rules.specs.Numbers.{IsMarkedNodeOf};
+ghost use Rattle.grove_printer.specs.Print.{Extends, sort_of_node, mode_column, type_column, mark_text, mark_columns};
+
+use crate::no_memory::NoMemory;
+use grove_sorts::{Sort, sort_of, write_sort};
+use grove_terms::What;
+use mark_rules::MarkedNode;
+use mark_step::{Mark, Mode};
+use type_core::{TypeId, TypeTable};
+
+/// How many levels of a type are printed.
+const LEVELS: u32 = 8;
+
+// After an error each of these functions may have appended a part.
+
+/// Appends what is wanted of a node, its type and its mark, with a space between each two.
+pub(crate) fn append_marks(
+    node: &MarkedNode,
+    types: &TypeTable,
+    out: &mut Vec<u8>,
+) -> Result<(), NoMemory>
+    requires { IsMarkedNodeOf types.now node.now }
+    ensures appended { OnOk result (out.new.items ≡ out.old.items ++ mark_columns (meant types.now node.now)) }
+    ensures in_part { OnErr result (Extends out.old.items out.new.items) }
+{
+    append_mode(sort_of_node(&node.node.what), node.mode, types, out)?;
+    out.push(b' ')?;
+    append_type(node.typ, types, out)?;
+    out.push(b' ')?;
+    out.extend_from_slice(mark_word(node.mark))?;
+    Ok(())
+}
+
+fn append_mode(
+    sort: Sort,
+    mode: Option<Mode>,
+    types: &TypeTable,
+    out: &mut Vec<u8>,
+) -> Result<(), NoMemory>
+    requires { IfSome mode (IsModeOf types.now) }
+    ensures appended { OnOk result (out.new.items ≡ out.old.items ++ mode_column sort (option_map (wanted_at types.now) mode)) }
+    ensures in_part { OnErr result (Extends out.old.items out.new.items) }
+{
+    match mode {
+        None => write_sort(sort, out)?,
+        Some(Mode::Syn) => out.extend_from_slice(b"syn")?,
+        Some(Mode::Ana(typ)) => {
+            out.extend_from_slice(b"ana:")?;
+            types.write_type(typ, LEVELS, out)?
+        }
+    }
+    Ok(())
+}
+
+fn append_type(typ: Option<TypeId>, types: &TypeTable, out: &mut Vec<u8>) -> Result<(), NoMemory>
+    requires { IfSome typ (IsTypeOf types.now) }
+    ensures appended { OnOk result (out.new.items ≡ out.old.items ++ type_column (option_map (type_at types.now) typ)) }
+    ensures in_part { OnErr result (Extends out.old.items out.new.items) }
+{
+    match typ {
+        None => out.push(b'-')?,
+        Some(typ) => types.write_type(typ, LEVELS, out)?,
+    }
+    Ok(())
+}
+
+fn sort_of_node(what: &What) -> Sort
+    ensures { result ≡ sort_of_node what.now }
+{
+    match what {
+        What::Vertex(vertex) | What::MultiRef(vertex) | What::CycleRef(vertex) => {
+            sort_of(&vertex.ctor)
+        }
+        What::Hole(sort) | What::Conflict(sort, _) => *sort,
+    }
+}
+
+fn mark_word(mark: Mark) -> &'static [u8]
+    ensures { result.now ≡ mark_text mark }
+{
+    match mark {
+        Mark::None => b"-",
+        Mark::Free => b"free",
+        Mark::NotArrow => b"not-arrow",
+        Mark::NotProduct => b"not-product",
+        Mark::Branches => b"branches",
+        Mark::LamAgainst => b"lam-against",
+        Mark::Ascription => b"ascription",
+        Mark::PairAgainst => b"pair-against",
+        Mark::Inconsistent => b"inconsistent",
+    }
+}
