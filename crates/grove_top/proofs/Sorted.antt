@@ -10,7 +10,7 @@ use Rattle.grove_terms.specs.declared.grove.Grove.{Grove}
 use Rattle.grove_terms.specs.Grove.{AreTreesOf, IsGrove}
 use Rattle.grove_terms.proofs.WellSorted.{trees_sorted}
 use Rattle.grove_terms.proofs.OneGrove.{grove_along}
-use Rattle.mark_rules.specs.Sorted.{AreSortedTrees, IsSortedGrove}
+use Rattle.marking.specs.Sorted.{AreSortedTrees, IsSortedGrove}
 use Rattle.grove_top.specs.Graph.{IsGraphOf, IsOfEdits}
 
 sorted_trees : (edits : List Edit) (live : List Edge) (vs : List Vertex) (trees : List (List Node)) → AreLive (graph edits) live → AreTreesOf live vs trees → AreSortedTrees trees

@@ -11,7 +11,7 @@ use Rattle.mark_rules.specs.declared.marked_node.MarkedNode.{MarkedNode}
 use Rattle.mark_rules.specs.declared.taking.Walk.{Walk}
 use Rattle.mark_rules.specs.Reading.{meant_nodes}
 use Rattle.mark_rules.specs.Numbers.{AreMarkedNodesOf, AreMarkedListsOf}
-use Rattle.mark_rules.specs.Sorted.{IsSortedTree, AreSortedTrees}
+use Rattle.marking.specs.Sorted.{IsSortedTree, AreSortedTrees}
 use Rattle.mark_rules.specs.Machine.{State, at, step, run}
 use Rattle.mark_rules.specs.Walking.{state_at, frames_at, IsWalkOf}
 use Rattle.mark_rules.proofs.Kept.{meant_nodes_kept, marked_nodes_kept}

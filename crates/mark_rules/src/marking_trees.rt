@@ -4,7 +4,7 @@ ghost use Rattle.ctx_table.specs.CtxTable.{KeepsContexts};
 ghost use Rattle.marking.specs.Grove.{IsMarkedTree, AreMarkedTrees, IsMarkedGrove};
 ghost use Rattle.mark_rules.specs.Reading.{meant_nodes, meant_grove};
 ghost use Rattle.mark_rules.specs.Numbers.{AreMarkedNodesOf, AreMarkedListsOf, IsMarkedGroveOf};
-ghost use Rattle.mark_rules.specs.Sorted.{IsSortedTree, AreSortedTrees, IsSortedGrove};
+ghost use Rattle.marking.specs.Sorted.{IsSortedTree, AreSortedTrees, IsSortedGrove};
 
 use crate::marked_grove::MarkedGrove;
 use crate::marked_tree::MarkedTree;

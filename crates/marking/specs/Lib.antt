@@ -2,3 +2,4 @@ pub mod Types
 pub mod Marking
 pub mod Rules
 pub mod Grove
+pub mod Sorted

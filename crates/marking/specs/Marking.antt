@@ -1,5 +1,6 @@
 -- Marked trees: with each node what is wanted of it, its type and its mark.
-use Rattle.std.specs.Prelude.{ℕ, zero, suc, ◌+◌, List, [], ◌∷◌, ◌++◌, Option, Some, None, if◌then◌else◌}
+use Rattle.std.specs.Prelude.{◌≡◌, ℕ, zero, suc, ◌+◌, Bool, true, false, List, [], ◌∷◌, ◌++◌, Option, Some, None, if◌then◌else◌}
+use Rattle.std.specs.List.{AllByRecursion}
 use Rattle.grove_sorts.specs.declared.position.Position.{Position}
 use Rattle.grove_sorts.specs.declared.sort.Sort.{Sort}
 use Rattle.grove_sorts.specs.declared.sort.Sort.TheVariants.{Top, Exp, Pat, Typ as TypeSort}
@@ -26,6 +27,14 @@ pub record MarkedNode : Type 0 where
   pub wanted : Option Wanted
   pub typ : Option Typ
   pub mark : Mark
+
+abbrev pub has_mark : Mark → Bool
+has_mark mark.None = false
+has_mark _ = true
+
+-- no node has a mark
+abbrev pub HasNoMark : List MarkedNode → Type 0
+HasNoMark ms = AllByRecursion (λ m. has_mark m.mark ≡ false) ms
 
 -- ---- the types of expressions
 
