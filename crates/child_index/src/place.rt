@@ -3,7 +3,7 @@ use grove_edits::{Edge, Vertex};
 use grove_sorts::Position;
 
 /// The vertex and the position from which an edge leads.
-#[derive(Clone, Copy, Debug, PartialEq, Eq, PartialOrd, Ord)]
+#[derive(Clone, Copy, Debug, PartialEq, Eq, PartialOrd, Ord, Hash)]
 pub struct Place {
     pub vertex: Vertex,
     pub position: Position,

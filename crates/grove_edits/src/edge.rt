@@ -7,7 +7,7 @@ use grove_names::Name;
 use grove_sorts::{Ctor, Position, position_sort, sort_of};
 
 /// An edge is its whole record, ordered by its fields in turn. Not each is well formed: see `check_edge`.
-#[derive(Clone, Copy, Debug, PartialEq, Eq, PartialOrd, Ord)]
+#[derive(Clone, Copy, Debug, PartialEq, Eq, PartialOrd, Ord, Hash)]
 pub struct Edge {
     pub name: Name,
     pub source: Vertex,

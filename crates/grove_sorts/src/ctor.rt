@@ -1,7 +1,7 @@
 use crate::ident::Ident;
 
 /// What a vertex is, in the order of the table.
-#[derive(Clone, Copy, Debug, PartialEq, Eq, PartialOrd, Ord)]
+#[derive(Clone, Copy, Debug, PartialEq, Eq, PartialOrd, Ord, Hash)]
 pub enum Ctor {
     /// The root of the program.
     Root,

@@ -2,6 +2,7 @@ ghost use Rattle.std.specs.Prelude.{◌≡◌, ◌-◌, ◌≤◌, length, take,
 ghost use Rattle.grove_sorts.specs.Identifier.{IsIdentifier};
 
 use std::cmp::Ordering;
+use std::hash::{Hash, Hasher};
 
 /// How many bytes an identifier may have.
 pub const LONGEST: usize = 32;
@@ -107,5 +108,21 @@ impl Ord for Ident {
 
     fn cmp(&self, other: &Ident) -> Ordering {
         self.as_slice().cmp(other.as_slice())
+    }
+}
+
+impl Hash for Ident {
+    ghost use Rattle.std.specs.Hash as fed;
+    ghost use Rattle.std.specs.Cmp.Rules.{hashing};
+    ghost use Rattle.std.proofs.Common.{rules};
+    ghost use Rattle.grove_sorts.specs.Ident.{ident_bytes};
+
+    ghost hash_input = { λ ident. fed.str (ident_bytes ident) };
+
+    ghost respects_eq = { Prim.search (hashing, rules) };
+
+    fn hash<H: Hasher>(&self, state: &mut H) {
+        state.write(self.as_slice());
+        state.write_u8(0xff);
     }
 }

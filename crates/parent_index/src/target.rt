@@ -2,7 +2,7 @@ use edge_index::Keyed;
 use grove_edits::{Edge, Vertex};
 
 /// The vertex to which an edge leads.
-#[derive(Clone, Copy, Debug, PartialEq, Eq, PartialOrd, Ord)]
+#[derive(Clone, Copy, Debug, PartialEq, Eq, PartialOrd, Ord, Hash)]
 pub struct Target {
     pub vertex: Vertex,
 }
