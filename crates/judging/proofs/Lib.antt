@@ -1,0 +1,4 @@
+pub mod Running
+pub mod Kept
+pub mod Filling
+pub mod Frames
