@@ -1,4 +1,4 @@
--- What is open, and the nodes so far, stand for the same over tables that keep the meaning of their numbers.
+-- What is open stands for the same over tables that keep the meaning of their numbers.
 use Rattle.std.proofs.Common.{◌≡◌, ℕ, zero, suc, ◌+◌, ◌<◌, ◌≤◌, Bool, true, false, cond, List, [], ◌∷◌, ◌++◌, length, map, set, take, All, Option, Some, None, IfSome, refl, sym, ap, subst, ◌∙◌, arith}
 use Rattle.std.specs.Prelude.{if◌then◌else◌}
 use Rattle.std.specs.Option.{option_map}
@@ -21,15 +21,10 @@ use Rattle.mark_step.specs.Scope.{Scope, scope_of, scope_at, IsTyped}
 use Rattle.mark_step.specs.Expression.{Wanted, Analyse, Demanded}
 use Rattle.mark_step.specs.Rows.{is_exp}
 use Rattle.mark_step.specs.Node.{wanted_at, demanded_at, IsModeOf, IsScopeOf, AreNumbers, IsNodeOf, IsDemandOf, type_or_unknown, types_from, types_before}
-use Rattle.marking.specs.Marking.{MarkedNode as MeantNode}
 use Rattle.judging.specs.declared.frame.OpenVertex.{OpenVertex}
 use Rattle.judging.specs.declared.frame.Frame.{Frame}
 use Rattle.judging.specs.declared.frame.Frame.TheVariants.{Open, Several}
-use Rattle.judging.specs.declared.marked_node.MarkedNode.{MarkedNode}
-use Rattle.judging.specs.declared.taking.Walk.{Walk}
-use Rattle.judging.specs.Reading.{meant, meant_nodes}
-use Rattle.judging.specs.Numbers.{IsMarkedNodeOf, AreMarkedNodesOf}
-use Rattle.judging.specs.Frames.{opened_at, left_of, frame_of, frame_at, frames_at, state_at, IsOpenOf, IsFrameOf, AreFramesOf, IsWalkOf}
+use Rattle.judging.specs.Frames.{opened_at, left_of, frame_of, frame_at, frames_at, IsOpenOf, IsFrameOf, AreFramesOf}
 use Rattle.judging.specs.Machine as machine
 
 -- ---- tables
@@ -79,13 +74,9 @@ module _ (old new : List Typ) (keeps : KeepsTypes old new) where
       ap (λ t. (b.0, t) ∷ scope_of new bs) (keeps.types b.1 (All-head (λ b. IsTypeOf old b.1) b bs all))
       ∙ ap (λ bindings. (b.0, type_at old b.1) ∷ bindings) (scope_of-kept bs (All-tail (λ b. IsTypeOf old b.1) b bs all))
 
-  some_number_kept : (o : Option TypeId) → IfSome o (IsTypeOf old) → IfSome o (IsTypeOf new)
+  pub some_number_kept : (o : Option TypeId) → IfSome o (IsTypeOf old) → IfSome o (IsTypeOf new)
   some_number_kept None h = tt
   some_number_kept (Some t) h = number_kept t h
-
-  some_type_kept : (o : Option TypeId) → IfSome o (IsTypeOf old) → option_map (type_at new) o ≡ option_map (type_at old) o
-  some_type_kept None h = refl
-  some_type_kept (Some t) h = ap Some (keeps.types t h)
 
   type_or_unknown-kept : (o : Option TypeId) → IfSome o (IsTypeOf old) → type_or_unknown new o ≡ type_or_unknown old o
   type_or_unknown-kept None h = refl
@@ -99,30 +90,6 @@ module _ (old new : List Typ) (keeps : KeepsTypes old new) where
         ≡ cond b (type_or_unknown old (slice_index_or done i None) ∷ types_from old done (i + 1) ps) (types_from old done (i + 1) ps)
     by_sort true same = ap (λ t. t ∷ types_from new done (i + 1) ps) (type_or_unknown-kept (slice_index_or done i None) (are i)) ∙ ap (λ ts. type_or_unknown old (slice_index_or done i None) ∷ ts) same
     by_sort false same = same
-
-  some_mode_kept : (o : Option Mode) → IfSome o (IsModeOf old) → IfSome o (IsModeOf new)
-  some_mode_kept None h = tt
-  some_mode_kept (Some m) h = mode_kept m h
-
-  some_wanted_kept : (o : Option Mode) → IfSome o (IsModeOf old) → option_map (wanted_at new) o ≡ option_map (wanted_at old) o
-  some_wanted_kept None h = refl
-  some_wanted_kept (Some m) h = ap Some (wanted_kept m h)
-
-  pub marked_node_kept : (m : MarkedNode) → IsMarkedNodeOf old m → IsMarkedNodeOf new m
-  marked_node_kept m h = record { mode = some_mode_kept m.mode h.mode; typ = some_number_kept m.typ h.typ }
-
-  pub meant_kept : (m : MarkedNode) → IsMarkedNodeOf old m → meant new m ≡ meant old m
-  meant_kept m h =
-      ap (λ (w : Option Wanted). record { node = m.node; wanted = w; typ = option_map (type_at new) m.typ; mark = m.mark }) (some_wanted_kept m.mode h.mode)
-      ∙ ap (λ (t : Option Typ). record { node = m.node; wanted = option_map (wanted_at old) m.mode; typ = t; mark = m.mark }) (some_type_kept m.typ h.typ)
-
-  pub marked_nodes_kept : (ms : List MarkedNode) → AreMarkedNodesOf old ms → AreMarkedNodesOf new ms
-  marked_nodes_kept [] all = tt
-  marked_nodes_kept (m ∷ ms) all = (marked_node_kept m all.0, marked_nodes_kept ms all.1)
-
-  pub meant_nodes_kept : (ms : List MarkedNode) → AreMarkedNodesOf old ms → meant_nodes new ms ≡ meant_nodes old ms
-  meant_nodes_kept [] all = refl
-  meant_nodes_kept (m ∷ ms) all = ap (λ x. x ∷ meant_nodes new ms) (meant_kept m all.0) ∙ ap (λ xs. meant old m ∷ xs) (meant_nodes_kept ms all.1)
 
 module _ (old new : List Typ) (oldc newc : List Context) (keeps : KeepsTypes old new) (keepsc : KeepsContexts oldc newc) where
   pub scope_kept : (id : CtxId) → IsScopeOf old oldc id → IsScopeOf new newc id
@@ -180,13 +147,6 @@ module _ (old new : List Typ) (oldc newc : List Context) (keeps : KeepsTypes old
   frames_at-kept [] all = refl
   frames_at-kept (f ∷ fs) all = ap (λ xs. xs ++ frame_at new newc f ∷ []) (frames_at-kept fs all.1) ∙ ap (λ x. frames_at old oldc fs ++ x ∷ []) (frame_at-kept f all.0)
 
-  pub walk_kept : (w : Walk) → IsWalkOf old oldc w → IsWalkOf new newc w
-  walk_kept w h = record { frames = frames_kept w.frames.items h.frames; out = marked_nodes_kept old new keeps w.out h.out }
-
-  pub state_at-kept : (w : Walk) → IsWalkOf old oldc w → state_at new newc w ≡ state_at old oldc w
-  state_at-kept w h =
-      ap (λ fs. machine.at fs (meant_nodes new w.out)) (frames_at-kept w.frames.items h.frames) ∙ ap (λ ms. machine.at (frames_at old oldc w.frames.items) ms) (meant_nodes_kept old new keeps w.out h.out)
-
 -- ---- pushing and taking off
 
 module _ (types : List Typ) (ctxs : List Context) where
@@ -205,26 +165,3 @@ module _ (types : List Typ) (ctxs : List Context) where
   pub is_frame-pop : (fs : List Frame) (f : Frame) → AreFramesOf types ctxs (fs ++ f ∷ []) → IsFrameOf types ctxs f
   is_frame-pop [] f all = all.0
   is_frame-pop (g ∷ fs) f all = is_frame-pop fs f all.1
-
-module _ (types : List Typ) where
-  pub meant_nodes-push : (ms : List MarkedNode) (m : MarkedNode) → meant_nodes types (ms ++ m ∷ []) ≡ meant_nodes types ms ++ meant types m ∷ []
-  meant_nodes-push [] m = refl
-  meant_nodes-push (n ∷ ms) m = ap (λ xs. meant types n ∷ xs) (meant_nodes-push ms m)
-
-  pub are_marked-push : (ms : List MarkedNode) (m : MarkedNode) → AreMarkedNodesOf types ms → IsMarkedNodeOf types m → AreMarkedNodesOf types (ms ++ m ∷ [])
-  are_marked-push [] m all is = (is, tt)
-  are_marked-push (n ∷ ms) m all is = (all.0, are_marked-push ms m all.1 is)
-
-  pub meant_nodes-set : (ms : List MarkedNode) (i : ℕ) (m : MarkedNode) → meant_nodes types (set ms i m) ≡ set (meant_nodes types ms) i (meant types m)
-  meant_nodes-set [] i m = refl
-  meant_nodes-set (n ∷ ms) zero m = refl
-  meant_nodes-set (n ∷ ms) (suc i) m = ap (λ xs. meant types n ∷ xs) (meant_nodes-set ms i m)
-
-  pub are_marked-set : (ms : List MarkedNode) (i : ℕ) (m : MarkedNode) → AreMarkedNodesOf types ms → IsMarkedNodeOf types m → AreMarkedNodesOf types (set ms i m)
-  are_marked-set [] i m all is = tt
-  are_marked-set (n ∷ ms) zero m all is = (is, all.1)
-  are_marked-set (n ∷ ms) (suc i) m all is = (all.0, are_marked-set ms i m all.1 is)
-
-  pub length-meant : (ms : List MarkedNode) → length (meant_nodes types ms) ≡ length ms
-  length-meant [] = refl
-  length-meant (m ∷ ms) = ap suc (length-meant ms)

@@ -2,7 +2,8 @@ use Rattle.std.proofs.Common.{rules, ◌≡◌, ◌≤◌, ◌<◌, ◌+◌, ◌
 use Rattle.std.specs.Prelude.{slice_get}
 use Rattle.judging.specs.declared.frame.Frame.TheVariants.{Open, Several}
 use Rattle.mark_step.specs.Node.{demanded_at}
-use Rattle.judging.proofs.Frames.{outermost, if_ok_then, innermost_is, innermost_demands, next_of_open}
+use Rattle.judging.proofs.Results.{if_ok_then}
+use Rattle.judging.proofs.Frames.{outermost, innermost_is, innermost_demands, next_of_open}
 use Rattle.judging.proofs.opening.demand_next.Goals as goal
 
 pub demand_at-requires-clause-vertex : goal.demand_at-requires-clause-vertex
