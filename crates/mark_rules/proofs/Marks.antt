@@ -1,10 +1,9 @@
 -- Trees and groves are marked.
-use Rattle.std.proofs.Common.{◌≡◌, ℕ, List, [], ◌∷◌, ◌++◌, map, drop, refl, sym, ap, subst, ◌∙◌, append-nil, append_assoc}
+use Rattle.std.proofs.Common.{◌≡◌, List, [], ◌∷◌, ◌++◌, map, refl, sym, ap, subst, ◌∙◌, append-nil, append_assoc}
 use Rattle.type_core.specs.Typ.{Typ}
 use Rattle.type_core.specs.TypeTable.{KeepsTypes}
 use Rattle.ctx_table.specs.Context.{Context}
 use Rattle.grove_terms.specs.declared.node.Node.{Node}
-use Rattle.grove_terms.specs.Nodes.{tree_nodes}
 use Rattle.marking.specs.Marking.{marked_tree, MarkedNode as MeantNode}
 use Rattle.marking.specs.Grove.{IsMarkedTree, AreMarkedTrees}
 use Rattle.mark_rules.specs.declared.marked_node.MarkedNode.{MarkedNode}
@@ -12,10 +11,10 @@ use Rattle.mark_rules.specs.declared.taking.Walk.{Walk}
 use Rattle.mark_rules.specs.Reading.{meant_nodes}
 use Rattle.mark_rules.specs.Numbers.{AreMarkedNodesOf, AreMarkedListsOf}
 use Rattle.marking.specs.Sorted.{IsSortedTree, AreSortedTrees}
-use Rattle.mark_rules.specs.Machine.{State, at, step, run}
-use Rattle.mark_rules.specs.Walking.{state_at, frames_at, IsWalkOf}
+use Rattle.judging.specs.Machine.{State, at, step, run}
+use Rattle.mark_rules.specs.Walking.{state_at}
 use Rattle.mark_rules.proofs.Kept.{meant_nodes_kept, marked_nodes_kept}
-use Rattle.mark_rules.proofs.Running.{tree_marked}
+use Rattle.judging.proofs.Running.{tree_marked}
 
 -- one more node is taken
 pub one_more_node : (s t end : State) (left rest : List Node) (n : Node) → left ≡ n ∷ rest → t ≡ step s n → run s left ≡ end → run t rest ≡ end
