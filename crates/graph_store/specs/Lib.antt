@@ -8,3 +8,4 @@ pub mod Named
 pub mod Counts
 pub mod Vertices
 pub mod Greatest
+pub mod Restored

@@ -1,4 +1,4 @@
-ghost use Rattle.std.specs.Prelude.{◌≡◌, [], ◌∷◌, List, OnOk, OnErr, IfOk};
+ghost use Rattle.std.specs.Prelude.{◌≡◌, ◌<◌, [], ◌∷◌, List, length, slice_index_or, OnOk, OnErr, IfOk};
 ghost use Rattle.std.specs.List.{All};
 ghost use Rattle.std.specs.Map.{set_value};
 ghost use Rattle.std.specs.Option.{option_copied};
@@ -13,6 +13,7 @@ ghost use Rattle.graph_store.specs.Greatest.{IsGreatest, IsNameOf};
 ghost use Rattle.graph_store.specs.Least.{IsLeast};
 ghost use Rattle.graph_store.specs.Listed.{IsEditOf};
 ghost use Rattle.graph_store.specs.Named.{IsNamed};
+ghost use Rattle.graph_store.specs.Restored.{HaveRoom, restored};
 ghost use Rattle.graph_store.specs.Vertices.{AreLeastTwo, IsVertexNamed};
 ghost use Rattle.graph_store.specs.Store.{state_in, HasRoom, KeepsRoom, only, with_state, well_formed};
 
@@ -104,16 +105,19 @@ impl GraphStore {
     }
 
     /// Joins what each of these edits asks to the graph.
-    pub fn raise_each(&mut self, edits: &[Edit]) -> Result<(), NoMemory>
-        ensures joined { OnOk result (IsSame (state_in self.new) (graph_join (state_in self.old) (graph edits.now))) }
+    pub fn raise_each(&mut self, edits: EditList) -> Result<(), NoMemory>
+        ensures joined { OnOk result (IsSame (state_in self.new) (graph_join (state_in self.old) (graph edits))) }
         ensures unchanged { OnErr result (IsSame (state_in self.new) (state_in self.old)) }
         ensures room_stays { KeepsRoom self.old self.new }
     {
         // In edge order, since the entries of neighbouring edges lie close to each other.
-        let sorted = canonical(self.alloc, edits)?;
-        self.reserve_for_edits(sorted.as_slice())?;
-        self.raise_listed(sorted.as_slice());
-        Ok(())
+        let sorted = edits.into_canonical(self.alloc)?;
+        let mut olds = Vec::new(self.alloc);
+        let raised = self.raise_listed(sorted.as_slice(), &mut olds);
+        if raised.is_err() {
+            self.take_back(sorted.as_slice(), &mut olds);
+        }
+        raised
     }
 
     /// Joins another graph to this one.
@@ -231,24 +235,32 @@ impl GraphStore {
         }
     }
 
-    fn reserve_for_edits(&mut self, edits: &[Edit]) -> Result<(), NoMemory>
-        ensures room { OnOk result (All (λ edit. HasRoom self.new (edit_edge edit)) edits.now) }
+    // Joins what each of these edits asks, one after the other, and lists the states that their edges had. Where memory runs out, the
+    // list has those of the edits so far.
+    fn raise_listed(&mut self, edits: &[Edit], olds: &mut Vec<State>) -> Result<(), NoMemory>
+        requires { olds.old.items ≡ [] }
+        ensures joined { OnOk result (IsSame (state_in self.new) (graph_join (state_in self.old) (graph edits.now))) }
+        ensures room { HaveRoom self.new edits.now olds.new.items }
+        ensures so_far { IsSame (restored edits.now olds.new.items (state_in self.new)) (state_in self.old) }
         ensures room_stays { KeepsRoom self.old self.new }
-        ensures unchanged { IsSame (state_in self.new) (state_in self.old) }
     {
         for edit in edits {
-            self.make_room(&edit.edge())?;
+            let edge = edit.edge();
+            self.make_room(&edge)?;
+            olds.push(self.state(&edge))?;
+            self.raise(edit);
         }
         Ok(())
     }
 
-    fn raise_listed(&mut self, edits: &[Edit])
-        requires { All (λ edit. HasRoom self.old (edit_edge edit)) edits.now }
-        ensures joined { IsSame (state_in self.new) (graph_join (state_in self.old) (graph edits.now)) }
+    // Gives the edges of the first edits the listed states, that of the first edit at last.
+    fn take_back(&mut self, edits: &[Edit], olds: &mut Vec<State>)
+        requires { HaveRoom self.old edits.now olds.old.items }
+        ensures restored { IsSame (state_in self.new) (restored edits.now olds.old.items (state_in self.old)) }
         ensures room_stays { KeepsRoom self.old self.new }
     {
-        for edit in edits {
-            self.raise(edit);
+        while let Some(old) = olds.pop() {
+            self.put_back(&edit_at(edits, olds.len()).edge(), old);
         }
     }
 
@@ -274,13 +286,11 @@ impl GraphStore {
     }
 }
 
-// One edit for each edge, in edge order, which make the same graph.
-fn canonical(alloc: Global, edits: &[Edit]) -> Result<EditList, NoMemory>
-    ensures canonical { IfOk result (IsCanonical (graph edits.now)) }
+fn edit_at(edits: &[Edit], index: usize) -> Edit
+    requires { index < length edits.now }
+    ensures { result ≡ slice_index_or edits.now index result }
 {
-    let mut list = EditList::new(alloc);
-    list.extend_from_slice(edits)?;
-    Ok(list.into_canonical(alloc)?)
+    edits[index]
 }
 
 // Joins a state to that of an edge that has room, and answers the old one.

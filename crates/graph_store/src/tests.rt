@@ -1,6 +1,6 @@
 use super::*;
 use edge_lattice::State;
-use grove_edits::{Edge, Edit, Vertex};
+use grove_edits::{Edge, Edit, EditList, Vertex};
 use grove_names::Name;
 use grove_sorts::{Ctor, Position};
 use std::test::Fail;
@@ -162,12 +162,11 @@ fn the_parts_of_a_graph_are_listed(rt: HostRuntime) -> Result<(), Fail> {
     let second = child(3, ap, Position::Fun, Ctor::Num(1));
     let third = child(4, ap, Position::Arg, Ctor::Num(2));
     let mut store = GraphStore::new(rt.alloc());
-    let edits = [
-        Edit::insert(third)?,
-        Edit::insert(first)?,
-        Edit::insert(second)?,
-    ];
-    store.raise_each(&edits)?;
+    let mut edits = EditList::new(rt.alloc());
+    for edge in [third, first, second] {
+        edits.push(Edit::insert(edge)?)?;
+    }
+    store.raise_each(edits)?;
     let name = second.target.name;
     assert_eq!(rt;
         store.vertices_named(name),

@@ -1,7 +1,7 @@
 use super::*;
 use child_index::ChildIndex;
 use graph_store::GraphStore;
-use grove_edits::{Edge, Edit, Vertex};
+use grove_edits::{Edge, Edit, EditList, Vertex};
 use grove_names::Name;
 use grove_sorts::{Ctor, Position};
 use grove_terms::{What, edges};
@@ -46,11 +46,11 @@ fn a_shared_part_heads_its_own_tree(rt: HostRuntime) -> Result<(), Fail> {
         target: seven,
     };
     let mut store = GraphStore::new(alloc);
-    store.raise_each(&[
-        Edit::insert(right)?,
-        Edit::insert(left)?,
-        Edit::insert(main)?,
-    ])?;
+    let mut edits = EditList::new(alloc);
+    for edge in [right, left, main] {
+        edits.push(Edit::insert(edge)?)?;
+    }
+    store.raise_each(edits)?;
     let live = store.live_edges(alloc)?;
     let children = ChildIndex::of(alloc, &live)?;
     let parents = ParentIndex::of(alloc, &live)?;

@@ -33,7 +33,7 @@ pub(crate) fn read_graph(alloc: Global, text: &[u8]) -> Result<GraphStore, TextF
         Err(FinishFault::Rest { line }) => return Err(TextFault::Rest { line }),
     }
     let mut store = GraphStore::new(alloc);
-    match store.raise_each(edits.as_slice()) {
+    match store.raise_each(edits) {
         Ok(()) => Ok(store),
         Err(_) => Err(TextFault::NoMemory),
     }

@@ -7,8 +7,9 @@ use crate::cycle::root_of_cycle;
 use crate::met::walk_up;
 use crate::no_memory::NoMemory;
 use grove_edits::Vertex;
+use indexmap::IndexMap;
 use std::alloc::Global;
-use std::collections::{BTreeMap, BTreeSet};
+use std::collections::BTreeSet;
 use std::sync::ledger::Ledger;
 use walks::{Class, ParentOf, Steps};
 
@@ -36,7 +37,7 @@ fn roots_above<P: ParentOf, L: Ledger>(
 ) -> Result<BTreeSet<Vertex>, NoMemory>
     ensures { IfOk result (λ roots. (v : Vertex) → stands_in v vertices.now ≡ true → stands_in v roots.keys ≡ is_cycle_root (P.live parents.now) v) }
 {
-    let mut met = BTreeMap::new(alloc);
+    let mut met = IndexMap::new(alloc);
     let mut roots = BTreeSet::new(alloc);
     for (number, start) in vertices.iter().enumerate() {
         if let Some(entry) = walk_up(start, number, &mut met, parents, steps)? {
