@@ -1,4 +1,4 @@
-ghost use Rattle.std.specs.Prelude.{◌≡◌, ◌<◌, ◌^◌, [], ◌∷◌, ◌++◌, length, set, slice_get, OnOk, OnErr};
+ghost use Rattle.std.specs.Prelude.{◌≡◌, ◌<◌, ◌^◌, [], ◌∷◌, ◌++◌, length, set, slice_get, IfOk, OnOk, OnErr};
 
 use crate::marked_node::MarkedNode;
 use crate::no_memory::NoMemory;
@@ -28,6 +28,15 @@ impl MarkedTree {
         MarkedTree {
             nodes: Vec::new(alloc),
         }
+    }
+
+    /// The same, with room for so many nodes.
+    pub fn with_capacity(alloc: Global, count: usize) -> Result<MarkedTree, NoMemory>
+        ensures empty { IfOk result (λ tree. tree ≡ []) }
+    {
+        Ok(MarkedTree {
+            nodes: Vec::with_capacity(alloc, count)?,
+        })
     }
 
     /// Appends a node.

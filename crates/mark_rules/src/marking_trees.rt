@@ -32,7 +32,7 @@ pub fn mark_tree(
 {
     let mut walk = Walk {
         frames: Vec::new(alloc),
-        out: MarkedTree::new(alloc),
+        out: MarkedTree::with_capacity(alloc, tree.len())?,
     };
     for node in tree.as_slice() {
         take(alloc, types, ctxs, &mut walk, node)?;
