@@ -15,7 +15,7 @@ use std::cmp::Ordering;
 use std::hash::Hash;
 use std::marker::Model;
 
-/// What edges are looked up by.
+/// What edges are looked up by. A key is found by its hash; the contracts tell keys apart by their order.
 pub trait Keyed: Ord + Hash + Copy + Sized {
     ghost use Rattle.grove_edits.specs.declared.edge.Edge.{Edge};
 

@@ -49,7 +49,7 @@ impl ShortList {
         }
     }
 
-    /// A list of one edge, with no room for further ones.
+    /// A list of one edge, which takes no room for further ones.
     pub(crate) fn with_first(alloc: Global, edge: &Edge) -> Result<ShortList, NoMemory>
         ensures edges { IfOk result (λ list. list.edges ≡ edge.now ∷ []) }
     {
@@ -71,7 +71,7 @@ impl ShortList {
         self.edges.is_empty()
     }
 
-    /// Makes room for so many further edges. Where there are none, it takes no more room than that.
+    /// Makes room for so many further edges. An empty list takes room for just these.
     pub(crate) fn reserve(&mut self, count: usize) -> Result<(), NoMemory>
         ensures edges { self.new.edges ≡ self.old.edges }
         ensures room { OnOk result (count ≤ self.new.room) }
