@@ -1,4 +1,5 @@
 pub mod Ordered
 pub mod Places
+pub mod Ties
 pub mod Lookups
 pub mod Appended

@@ -1,20 +1,23 @@
 -- What an index holds of a key, all that it holds, and what becomes of both where the list of one key changes.
 use Rattle.std.proofs.Common.{◌≡◌, ◌+◌, ◌≤◌, arith, Bool, true, false, cond, List, [], ◌∷◌, refl, sym, ap, subst, ◌∙◌}
-use Rattle.std.specs.Prelude.{◌&&◌, ◌||◌, not, is_some, Option, None, Some}
-use Rattle.std.specs.List.{AllByRecursion}
-use Rattle.std.specs.List.Sorted.{IsStrictlySortedBy}
-use Rattle.std.specs.Cmp.{IsTotalOrder}
+use Rattle.std.specs.Prelude.{◌&&◌, ◌||◌, not, Option, Some}
+use Rattle.std.specs.List.{IsDistinct}
+use Rattle.std.specs.Cmp.{IsTotalOrder, eq_by_cmp_equiv}
 use Rattle.std.specs.Map.{lookup, keys_of}
 use Rattle.std.specs.BTreeMap.{is_at}
 use Rattle.std.specs.declared.cmp.Ordering.{Ordering}
-use Rattle.std.specs.declared.cmp.Ordering.TheVariants.{Less, Equal}
-use Rattle.std.specs.Ordering.{is_eq}
+use Rattle.std.specs.declared.cmp.Ordering.TheVariants.{Equal}
+use Rattle.std.specs.Ordering.{is_eq, eq_by_cmp}
 use Rattle.std.proofs.lemmas.Cmp.{tied_itself}
+use Rattle.std.proofs.lemmas.Map.{lookup-none}
+use Rattle.std.proofs.lemmas.Map.Entries.{none_past_head}
+use Rattle.std.proofs.lemmas.Map.Keys.{IsDistinct-tail}
 use Rattle.grove_edits.specs.declared.edge.Edge.{Edge}
 use Rattle.grove_edits.specs.Graph.{is_same_edge}
 use Rattle.walks.specs.Live.{IsInEdgeOrder, holds_edge}
 use Rattle.edge_index.specs.Ordered.{with_edge, without_edge}
 use Rattle.edge_index.specs.Lists.{Kept, Lists, edges_of, room_of, room_at, edges_at, live, with_key, IsByKey}
+use Rattle.edge_index.proofs.Ties.{IsPut}
 use Rattle.edge_index.proofs.Ordered.{equal_from_test, same_edge_exact, holds-with_edge, holds-with_edges, holds-filter, in_order-with_edge, in_order-with_edges, in_order-filter, same_lists}
 
 pub in_order-live : {K : Type 0} (lists : Lists K) → IsInEdgeOrder (live lists)
@@ -28,10 +31,6 @@ or-false false = refl
 false_from : (b : Bool) → (b ≡ true → ⊥) → b ≡ false
 false_from b refuted = elim b as (λ x. b ≡ x → x ≡ false) [ true ↦ λ is. absurd (refuted is) | false ↦ λ _. refl ] refl
 
-pub none_from : {A : Type 0} (o : Option A) → is_some o ≡ false → o ≡ None
-none_from None is = refl
-none_from (Some x) is = absurd cc
-
 module _ {K : Type 0} (cmp : K → K → Ordering) (o : IsTotalOrder cmp) where
   -- keys that tie find the same
   pub lookup-tied : (q k : K) (lists : Lists K) → cmp q k ≡ Equal → lookup (is_at (cmp q)) lists ≡ lookup (is_at (cmp k)) lists
@@ -40,32 +39,19 @@ module _ {K : Type 0} (cmp : K → K → Ordering) (o : IsTotalOrder cmp) where
       ap (λ r. cond (is_eq r) (Some entry.1) (lookup (is_at (cmp q)) lists)) (o.congr q k entry.0 tie)
       ∙ ap (λ rest. cond (is_eq (cmp k entry.0)) (Some entry.1) rest) (lookup-tied q k lists tie)
 
-  -- no later key ties with one that ties with a key before
-  lookup_none : (q k : K) (lists : Lists K) → cmp q k ≡ Equal → AllByRecursion (λ y. cmp k y ≡ Less) (keys_of lists) → lookup (is_at (cmp q)) lists ≡ None
-  lookup_none q k [] tie later = refl
-  lookup_none q k (entry ∷ lists) tie later =
-      ap (λ r. cond (is_eq r) (Some entry.1) (lookup (is_at (cmp q)) lists)) (o.congr q k entry.0 tie ∙ later.0) ∙ lookup_none q k lists tie later.1
-
-  head_after : (entry : K × Kept) (lists : Lists K) → IsStrictlySortedBy cmp (keys_of (entry ∷ lists)) → AllByRecursion (λ y. cmp entry.0 y ≡ Less) (keys_of lists)
-  unfolding IsStrictlySortedBy
-  head_after entry lists sorted = sorted.0
-
-  tail_sorted : (entry : K × Kept) (lists : Lists K) → IsStrictlySortedBy cmp (keys_of (entry ∷ lists)) → IsStrictlySortedBy cmp (keys_of lists)
-  unfolding IsStrictlySortedBy
-  tail_sorted entry lists sorted = sorted.1
-
-  none_in_tail : (entry : K × Kept) (lists : Lists K) (q : K) → IsStrictlySortedBy cmp (keys_of (entry ∷ lists)) → is_eq (cmp q entry.0) ≡ true → edges_at cmp lists q ≡ []
-  none_in_tail entry lists q sorted tie = ap edges_of (lookup_none q entry.0 lists (equal_from_test (cmp q entry.0) tie) (head_after entry lists sorted))
+  -- no later key ties with one that ties with the first
+  none_in_tail : (entry : K × Kept) (lists : Lists K) (q : K) → IsDistinct (eq_by_cmp cmp) (keys_of (entry ∷ lists)) → is_eq (cmp q entry.0) ≡ true → edges_at cmp lists q ≡ []
+  none_in_tail entry lists q apart tie = ap edges_of (lookup-none (is_at (cmp q)) lists (none_past_head (eq_by_cmp_equiv o) q entry lists apart tie))
 
   module _ (key : Edge → K) where
     tail_by_key : (entry : K × Kept) (lists : Lists K) → IsByKey cmp key (entry ∷ lists) → IsByKey cmp key lists
     tail_by_key entry lists whole = record {
       keyed = λ q e held.
           elim (is_eq (cmp q entry.0)) as (λ b. is_eq (cmp q entry.0) ≡ b → is_eq (cmp (key e) q) ≡ true) [
-            | true ↦ λ tie. let none = ap (holds_edge e) (none_in_tail entry lists q whole.ascends tie) in absurd cc
-            | false ↦ λ apart. whole.keyed q e (ap (λ b. holds_edge e (edges_of (cond b (Some entry.1) (lookup (is_at (cmp q)) lists)))) apart ∙ held)
+            | true ↦ λ tie. let none = ap (holds_edge e) (none_in_tail entry lists q whole.apart tie) in absurd cc
+            | false ↦ λ other. whole.keyed q e (ap (λ b. holds_edge e (edges_of (cond b (Some entry.1) (lookup (is_at (cmp q)) lists)))) other ∙ held)
           ] refl;
-      ascends = tail_sorted entry lists whole.ascends;
+      apart = IsDistinct-tail (eq_by_cmp cmp) entry.0 (keys_of lists) whole.apart;
     }
 
     -- an index holds an edge where it holds it at its key
@@ -76,7 +62,7 @@ module _ {K : Type 0} (cmp : K → K → Ordering) (o : IsTotalOrder cmp) where
         ∙ ap (λ b. holds_edge e entry.1.edges || b) (holds-live lists (tail_by_key entry lists by_key) e)
         ∙ elim (is_eq (cmp (key e) entry.0)) as (λ b. is_eq (cmp (key e) entry.0) ≡ b → (holds_edge e entry.1.edges || holds_edge e (edges_at cmp lists (key e))) ≡ holds_edge e (edges_of (cond b (Some entry.1) (lookup (is_at (cmp (key e))) lists)))) [
           | true ↦ λ tie.
-              ap (λ xs. holds_edge e entry.1.edges || holds_edge e xs) (none_in_tail entry lists (key e) by_key.ascends tie) ∙ or-false (holds_edge e entry.1.edges)
+              ap (λ xs. holds_edge e entry.1.edges || holds_edge e xs) (none_in_tail entry lists (key e) by_key.apart tie) ∙ or-false (holds_edge e entry.1.edges)
           | false ↦ λ apart.
               let here : edges_at cmp (entry ∷ lists) entry.0 ≡ entry.1.edges = ap (λ r. edges_of (cond (is_eq r) (Some entry.1) (lookup (is_at (cmp entry.0)) lists))) (tied_itself o entry.0) in
               let not_here : holds_edge e entry.1.edges ≡ false = false_from (holds_edge e entry.1.edges) (λ held.
@@ -103,44 +89,73 @@ module _ {K : Type 0} (cmp : K → K → Ordering) (o : IsTotalOrder cmp) where
       pub elsewhere : (e : Edge) (b : Bool) → is_eq (cmp k (key e)) ≡ false → then e b ≡ b
       pub here : (e : Edge) → then e false ≡ true → is_eq (cmp (key e) k) ≡ true
 
-    abbrev pub IsChanged : K → Kept → Lists K → Lists K → Type 0
-    IsChanged k new lists after = (q : K) → lookup (is_at (cmp q)) after ≡ cond (is_at (cmp k) q) (Some new) (lookup (is_at (cmp q)) lists)
+    module _ (k : K) (old : Option Kept) (new : Kept) (lists after : Lists K) (put : IsPut cmp k old new lists after) where
+      edges_at-put : (q : K) → edges_at cmp after q ≡ cond (is_at (cmp k) q) new.edges (edges_at cmp lists q)
+      edges_at-put q =
+          ap edges_of (put.changed q) ∙ elim (is_at (cmp k) q) as (λ b. edges_of (cond b (Some new) (lookup (is_at (cmp q)) lists)) ≡ cond b new.edges (edges_at cmp lists q)) [ true ↦ refl | false ↦ refl ]
 
-    edges_at-changed : (k : K) (new : Kept) (lists after : Lists K) → IsChanged k new lists after → (q : K) → edges_at cmp after q ≡ cond (is_at (cmp k) q) new.edges (edges_at cmp lists q)
-    edges_at-changed k new lists after changed q =
-        ap edges_of (changed q) ∙ elim (is_at (cmp k) q) as (λ b. edges_of (cond b (Some new) (lookup (is_at (cmp q)) lists)) ≡ cond b new.edges (edges_at cmp lists q)) [ true ↦ refl | false ↦ refl ]
-
-    module _ (k : K) (change : List Edge → List Edge) (then : Edge → Bool → Bool) (is : IsChange k change then) where
-      pub by_key-changed : (new : Kept) (lists after : Lists K) → IsByKey cmp key lists → new.edges ≡ change (edges_at cmp lists k) → IsChanged k new lists after → IsStrictlySortedBy cmp (keys_of after) → IsByKey cmp key after
-      by_key-changed new lists after by_key now changed sorted = record {
-        keyed = λ q e held.
-            elim (is_at (cmp k) q) as (λ b. is_at (cmp k) q ≡ b → holds_edge e (cond b new.edges (edges_at cmp lists q)) ≡ true → is_eq (cmp (key e) q) ≡ true) [
-              | true ↦ λ tie at.
-                  let then_true : then e (holds_edge e (edges_at cmp lists k)) ≡ true = sym (ap (holds_edge e) now ∙ is.holds e (edges_at cmp lists k)) ∙ at in
-                  let at_k : is_eq (cmp (key e) k) ≡ true =
-                  elim (holds_edge e (edges_at cmp lists k)) as (λ b. holds_edge e (edges_at cmp lists k) ≡ b → then e b ≡ true → is_eq (cmp (key e) k) ≡ true) [
-                    | true ↦ λ was _. by_key.keyed k e was
-                    | false ↦ λ _ comes. is.here e comes
-                  ] refl then_true in
-                  ap is_eq (o.congr (key e) k q (equal_from_test (cmp (key e) k) at_k)) ∙ tie
-              | false ↦ λ _ at. by_key.keyed q e at
-            ] refl (ap (holds_edge e) (sym (edges_at-changed k new lists after changed q)) ∙ held);
-        ascends = sorted;
-      }
-
-      pub live-changed : (new : Kept) (lists after : Lists K) → IsByKey cmp key lists → IsByKey cmp key after → new.edges ≡ change (edges_at cmp lists k) → IsChanged k new lists after → live after ≡ change (live lists)
-      live-changed new lists after by_key by_key_after now changed =
-          same_lists (live after) (change (live lists)) (in_order-live after) (is.order (live lists) (in_order-live lists)) (λ e.
-          holds-live after by_key_after e
-          ∙ ap (holds_edge e) (edges_at-changed k new lists after changed (key e))
-          ∙ elim (is_at (cmp k) (key e)) as (λ b. is_at (cmp k) (key e) ≡ b → holds_edge e (cond b new.edges (edges_at cmp lists (key e))) ≡ then e (holds_edge e (live lists))) [
-            | true ↦ λ tie.
-                ap (holds_edge e) now ∙ is.holds e (edges_at cmp lists k)
-                ∙ ap (λ found. then e (holds_edge e (edges_of found))) (lookup-tied k (key e) lists (equal_from_test (cmp k (key e)) tie))
-                ∙ ap (then e) (sym (holds-live lists by_key e))
-            | false ↦ λ apart. sym (holds-live lists by_key e) ∙ sym (is.elsewhere e (holds_edge e (live lists)) apart)
+      -- where the list at the key has the same edges, so has that at each key
+      edges_at-same : new.edges ≡ edges_of old → (q : K) → edges_at cmp after q ≡ edges_at cmp lists q
+      edges_at-same same q =
+          edges_at-put q
+          ∙ elim (is_at (cmp k) q) as (λ b. is_at (cmp k) q ≡ b → cond b new.edges (edges_at cmp lists q) ≡ edges_at cmp lists q) [
+            | true ↦ λ tie. same ∙ ap edges_of (put.found ∙ lookup-tied k q lists (equal_from_test (cmp k q) tie))
+            | false ↦ λ _. refl
           ] refl
-          ∙ sym (is.holds e (live lists)))
+
+      pub by_key-same : IsByKey cmp key lists → new.edges ≡ edges_of old → IsByKey cmp key after
+      by_key-same by_key same = record { keyed = λ q e held. by_key.keyed q e (ap (holds_edge e) (sym (edges_at-same same q)) ∙ held); apart = put.apart }
+
+      pub live-same : IsByKey cmp key lists → new.edges ≡ edges_of old → live after ≡ live lists
+      live-same by_key same =
+          same_lists (live after) (live lists) (in_order-live after) (in_order-live lists) (λ e.
+          holds-live after (by_key-same by_key same) e ∙ ap (holds_edge e) (edges_at-same same (key e)) ∙ sym (holds-live lists by_key e))
+
+      pub room_at-put : room_at cmp after k ≡ new.room
+      room_at-put = ap room_of (put.changed k) ∙ ap (λ o. room_of (cond (is_eq o) (Some new) (lookup (is_at (cmp k)) lists))) (tied_itself o k)
+
+      pub room_stays : room_of old ≤ new.room → (q : K) → room_at cmp lists q ≤ room_at cmp after q
+      room_stays more q =
+          subst (λ found. room_at cmp lists q ≤ room_of found) (sym (put.changed q))
+          (elim (is_at (cmp k) q) as (λ b. is_at (cmp k) q ≡ b → room_at cmp lists q ≤ room_of (cond b (Some new) (lookup (is_at (cmp q)) lists))) [
+            | true ↦ λ tie. subst (λ found. room_of found ≤ new.room) (put.found ∙ lookup-tied k q lists (equal_from_test (cmp k q) tie)) more
+            | false ↦ λ _. omega arith
+          ] refl)
+
+      module _ (change : List Edge → List Edge) (then : Edge → Bool → Bool) (is : IsChange k change then) (by_key : IsByKey cmp key lists) (now : new.edges ≡ change (edges_of old)) where
+        holds-now : (e : Edge) → holds_edge e new.edges ≡ then e (holds_edge e (edges_at cmp lists k))
+        holds-now e = ap (holds_edge e) now ∙ is.holds e (edges_of old) ∙ ap (λ found. then e (holds_edge e (edges_of found))) put.found
+
+        by_key-changed : IsByKey cmp key after
+        by_key-changed = record {
+          keyed = λ q e held.
+              elim (is_at (cmp k) q) as (λ b. is_at (cmp k) q ≡ b → holds_edge e (cond b new.edges (edges_at cmp lists q)) ≡ true → is_eq (cmp (key e) q) ≡ true) [
+                | true ↦ λ tie at.
+                    let then_true : then e (holds_edge e (edges_at cmp lists k)) ≡ true = sym (holds-now e) ∙ at in
+                    let at_k : is_eq (cmp (key e) k) ≡ true =
+                    elim (holds_edge e (edges_at cmp lists k)) as (λ b. holds_edge e (edges_at cmp lists k) ≡ b → then e b ≡ true → is_eq (cmp (key e) k) ≡ true) [
+                      | true ↦ λ was _. by_key.keyed k e was
+                      | false ↦ λ _ comes. is.here e comes
+                    ] refl then_true in
+                    ap is_eq (o.congr (key e) k q (equal_from_test (cmp (key e) k) at_k)) ∙ tie
+                | false ↦ λ _ at. by_key.keyed q e at
+              ] refl (ap (holds_edge e) (sym (edges_at-put q)) ∙ held);
+          apart = put.apart;
+        }
+
+        live-changed : live after ≡ change (live lists)
+        live-changed =
+            same_lists (live after) (change (live lists)) (in_order-live after) (is.order (live lists) (in_order-live lists)) (λ e.
+            holds-live after by_key-changed e
+            ∙ ap (holds_edge e) (edges_at-put (key e))
+            ∙ elim (is_at (cmp k) (key e)) as (λ b. is_at (cmp k) (key e) ≡ b → holds_edge e (cond b new.edges (edges_at cmp lists (key e))) ≡ then e (holds_edge e (live lists))) [
+              | true ↦ λ tie.
+                  holds-now e
+                  ∙ ap (λ found. then e (holds_edge e (edges_of found))) (lookup-tied k (key e) lists (equal_from_test (cmp k (key e)) tie))
+                  ∙ ap (then e) (sym (holds-live lists by_key e))
+              | false ↦ λ other. sym (holds-live lists by_key e) ∙ sym (is.elsewhere e (holds_edge e (live lists)) other)
+            ] refl
+            ∙ sym (is.holds e (live lists)))
 
     not_elsewhere : (a e : Edge) → is_same_edge a e ≡ true → is_eq (cmp (key a) (key e)) ≡ false → ⊥
     not_elsewhere a e same apart =
@@ -175,63 +190,40 @@ module _ {K : Type 0} (cmp : K → K → Ordering) (o : IsTotalOrder cmp) where
 
     -- a change of the list at an edge's key is one of all that the index holds
     module _ (a : Edge) (k : K) (at : k ≡ key a) (lists : Lists K) (by_key : IsByKey cmp key lists) where
-      -- an edge is not held where nothing is kept at its key
-      pub none_held : lookup (is_at (cmp k)) lists ≡ None → holds_edge a (live lists) ≡ false
-      none_held none =
-          holds-live lists by_key a ∙ ap (λ q. holds_edge a (edges_at cmp lists q)) (sym at) ∙ ap (λ found. holds_edge a (edges_of found)) none
-
-      pub held_at : (old : Kept) → Some old ≡ lookup (is_at (cmp k)) lists → holds_edge a old.edges ≡ holds_edge a (live lists)
+      pub held_at : (old : Option Kept) → old ≡ lookup (is_at (cmp k)) lists → holds_edge a (edges_of old) ≡ holds_edge a (live lists)
       held_at old found =
           ap (λ o. holds_edge a (edges_of o)) found ∙ ap (λ q. holds_edge a (edges_at cmp lists q)) at ∙ sym (holds-live lists by_key a)
 
-      module _ (change : List Edge → List Edge) (then : Edge → Bool → Bool) (is : IsChange (key a) change then) (old new : Kept) (found : Some old ≡ lookup (is_at (cmp k)) lists)
-          (now : new.edges ≡ change old.edges) (after : Lists K) (changed : IsChanged k new lists after) (sorted : IsStrictlySortedBy cmp (keys_of after)) where
-        changed_at : IsChanged (key a) new lists after
-        changed_at = subst (λ q. IsChanged q new lists after) at changed
+      module _ (old : Option Kept) (new : Kept) (after : Lists K) (put : IsPut cmp k old new lists after) where
+        module _ (change : List Edge → List Edge) (then : Edge → Bool → Bool) (is : IsChange (key a) change then) (now : new.edges ≡ change (edges_of old)) where
+          here : IsChange k change then
+          here = subst (λ q. IsChange q change then) (sym at) is
 
-        now_at : new.edges ≡ change (edges_at cmp lists (key a))
-        now_at = now ∙ ap (λ o. change (edges_of o)) found ∙ ap (λ q. change (edges_at cmp lists q)) at
+          pub by_key-after : IsByKey cmp key after
+          by_key-after = by_key-changed k old new lists after put change then here by_key now
 
-        pub by_key-after : IsByKey cmp key after
-        by_key-after = by_key-changed (key a) change then is new lists after by_key now_at changed_at sorted
+          pub live-after : live after ≡ change (live lists)
+          live-after = live-changed k old new lists after put change then here by_key now
 
-        pub live-after : live after ≡ change (live lists)
-        live-after = live-changed (key a) change then is new lists after by_key by_key-after now_at changed_at
+        tied_room : (q : K) → is_at (cmp k) q ≡ true → room_of old ≡ room_at cmp lists q
+        tied_room q tie = ap room_of (put.found ∙ lookup-tied k q lists (equal_from_test (cmp k q) tie))
 
-      -- there is room for one more where the list at the key has it
-      pub room_more : (old new : Kept) → Some old ≡ lookup (is_at (cmp k)) lists → new.room ≡ old.room + 1 → (after : Lists K) → IsChanged k new lists after → (q : K)
-          → room_at cmp after q ≡ room_at cmp lists q + cond (is_eq (cmp (key a) q)) 1 0
-      room_more old new found more after changed q =
-          ap room_of (changed q)
-          ∙ elim (is_at (cmp k) q) as (λ b. is_at (cmp k) q ≡ b → room_of (cond b (Some new) (lookup (is_at (cmp q)) lists)) ≡ room_at cmp lists q + cond b 1 0) [
-            | true ↦ λ tie. more ∙ ap (λ o. room_of o + 1) (found ∙ lookup-tied k q lists (equal_from_test (cmp k q) tie))
-            | false ↦ λ _. let e : room_at cmp lists q ≡ room_at cmp lists q + 0 = omega arith in e
-          ] refl
-          ∙ ap (λ z. room_at cmp lists q + cond (is_eq (cmp z q)) 1 0) at
+        -- there is room for one more where the list at the key has it
+        pub room_more : new.room ≡ room_of old + 1 → (q : K) → room_at cmp after q ≡ room_at cmp lists q + cond (is_eq (cmp (key a) q)) 1 0
+        room_more more q =
+            ap room_of (put.changed q)
+            ∙ elim (is_at (cmp k) q) as (λ b. is_at (cmp k) q ≡ b → room_of (cond b (Some new) (lookup (is_at (cmp q)) lists)) ≡ room_at cmp lists q + cond b 1 0) [
+              | true ↦ λ tie. more ∙ ap (λ n. n + 1) (tied_room q tie)
+              | false ↦ λ _. let e : room_at cmp lists q ≡ room_at cmp lists q + 0 = omega arith in e
+            ] refl
+            ∙ ap (λ z. room_at cmp lists q + cond (is_eq (cmp z q)) 1 0) at
 
-    -- an index stays by key, and holds the same, where the edges at each key stay
-    pub by_key-same : (lists after : Lists K) → IsByKey cmp key lists → ((q : K) → edges_at cmp after q ≡ edges_at cmp lists q) → IsStrictlySortedBy cmp (keys_of after) → IsByKey cmp key after
-    by_key-same lists after by_key same sorted = record { keyed = λ q e held. by_key.keyed q e (ap (holds_edge e) (sym (same q)) ∙ held); ascends = sorted }
-
-    pub live-same : (lists after : Lists K) → IsByKey cmp key lists → ((q : K) → edges_at cmp after q ≡ edges_at cmp lists q) → IsStrictlySortedBy cmp (keys_of after) → live after ≡ live lists
-    live-same lists after by_key same sorted =
-        same_lists (live after) (live lists) (in_order-live after) (in_order-live lists) (λ e.
-        holds-live after (by_key-same lists after by_key same sorted) e ∙ ap (holds_edge e) (same (key e)) ∙ sym (holds-live lists by_key e))
-
-  -- the list at one key keeps its edges
-  module _ (k : K) (new : Kept) (lists after : Lists K) (changed : (q : K) → lookup (is_at (cmp q)) after ≡ cond (is_at (cmp k) q) (Some new) (lookup (is_at (cmp q)) lists)) where
-    pub same_edges : new.edges ≡ edges_at cmp lists k → (q : K) → edges_at cmp after q ≡ edges_at cmp lists q
-    same_edges same q =
-        ap edges_of (changed q)
-        ∙ elim (is_at (cmp k) q) as (λ b. is_at (cmp k) q ≡ b → edges_of (cond b (Some new) (lookup (is_at (cmp q)) lists)) ≡ edges_at cmp lists q) [
-          | true ↦ λ tie. same ∙ ap edges_of (lookup-tied k q lists (equal_from_test (cmp k q) tie))
-          | false ↦ λ _. refl
-        ] refl
-
-    pub more_room : room_at cmp lists k ≤ new.room → (q : K) → room_at cmp lists q ≤ room_at cmp after q
-    more_room more q =
-        subst (λ found. room_at cmp lists q ≤ room_of found) (sym (changed q))
-        (elim (is_at (cmp k) q) as (λ b. is_at (cmp k) q ≡ b → room_at cmp lists q ≤ room_of (cond b (Some new) (lookup (is_at (cmp q)) lists))) [
-          | true ↦ λ tie. subst (λ found. room_of found ≤ new.room) (lookup-tied k q lists (equal_from_test (cmp k q) tie)) more
-          | false ↦ λ _. omega arith
-        ] refl)
+        -- and for one fewer where that has room for one fewer
+        pub room_less : new.room + 1 ≡ room_of old → (q : K) → room_at cmp after q + cond (is_eq (cmp (key a) q)) 1 0 ≡ room_at cmp lists q
+        room_less fewer q =
+            ap (λ z. room_at cmp after q + cond (is_eq (cmp z q)) 1 0) (sym at)
+            ∙ ap (λ o. room_of o + cond (is_eq (cmp k q)) 1 0) (put.changed q)
+            ∙ elim (is_at (cmp k) q) as (λ b. is_at (cmp k) q ≡ b → room_of (cond b (Some new) (lookup (is_at (cmp q)) lists)) + cond b 1 0 ≡ room_at cmp lists q) [
+              | true ↦ λ tie. fewer ∙ tied_room q tie
+              | false ↦ λ _. let e : room_at cmp lists q + 0 ≡ room_at cmp lists q = omega arith in e
+            ] refl

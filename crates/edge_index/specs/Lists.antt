@@ -1,10 +1,10 @@
 -- Lists of edges by key, and the edges of all of them.
 use Rattle.std.specs.Prelude.{◌≡◌, ℕ, ◌==◌, true, not, length, count_by, List, [], ◌∷◌, Option, None, Some, filter}
 use Rattle.std.specs.declared.cmp.Ordering.{Ordering}
-use Rattle.std.specs.Ordering.{is_eq}
+use Rattle.std.specs.Ordering.{is_eq, eq_by_cmp}
+use Rattle.std.specs.List.{IsDistinct}
 use Rattle.std.specs.Map.{lookup, keys_of, values_of}
 use Rattle.std.specs.BTreeMap.{is_at}
-use Rattle.std.specs.List.Sorted.{IsStrictlySortedBy}
 use Rattle.grove_edits.specs.declared.edge.Edge.{Edge}
 use Rattle.edge_index.specs.Ordered.{with_edge}
 use Rattle.walks.specs.Live.{holds_edge}
@@ -14,7 +14,7 @@ pub record Kept : Type 0 where
   pub edges : List Edge
   pub room : ℕ
 
--- the lists by key, in the keys' order
+-- the lists by key
 abbrev pub Lists : Type 0 → Type 0
 Lists K = List (K × Kept)
 
@@ -47,10 +47,10 @@ live (entry ∷ lists) = with_edges entry.1.edges (live lists)
 abbrev pub with_key : {K : Type 0} → (K → K → Ordering) → (Edge → K) → K → List Edge → List Edge
 with_key cmp key k edges = filter (λ e. is_eq (cmp (key e) k)) edges
 
--- each edge is kept at its key, and the keys ascend
+-- each edge is kept at its key, and no two keys tie
 pub record IsByKey {K : Type 0} (cmp : K → K → Ordering) (key : Edge → K) (lists : Lists K) : Type 0 where
   pub keyed : (k : K) (e : Edge) → holds_edge e (edges_at cmp lists k) ≡ true → is_eq (cmp (key e) k) ≡ true
-  pub ascends : IsStrictlySortedBy cmp (keys_of lists)
+  pub apart : IsDistinct (eq_by_cmp cmp) (keys_of lists)
 
 -- how many keys have an edge
 abbrev pub used_keys : {K : Type 0} → Lists K → ℕ

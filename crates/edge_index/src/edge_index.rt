@@ -9,13 +9,14 @@ ghost use Rattle.edge_index.specs.Lists.{live, room_at, with_key, edges_at, used
 use crate::no_memory::NoMemory;
 use crate::short_list::ShortList;
 use grove_edits::Edge;
+use indexmap::IndexMap;
 use std::alloc::Global;
 use std::cmp::Ordering;
-use std::collections::BTreeMap;
+use std::hash::Hash;
 use std::marker::Model;
 
-/// What edges are looked up by.
-pub trait Keyed: Ord + Copy + Sized {
+/// What edges are looked up by. A key is found by its hash; the contracts tell keys apart by their order.
+pub trait Keyed: Ord + Hash + Copy + Sized {
     ghost use Rattle.grove_edits.specs.declared.edge.Edge.{Edge};
 
     ghost key: { Edge → Self };
@@ -28,7 +29,7 @@ pub trait Keyed: Ord + Copy + Sized {
 #[derive(Drop)]
 pub struct EdgeIndex<K: Keyed> {
     alloc: Global,
-    lists: BTreeMap<K, ShortList>,
+    lists: IndexMap<K, ShortList>,
 }
 
 impl<K: Keyed> Model for EdgeIndex<K> {
@@ -56,7 +57,7 @@ impl<K: Keyed> EdgeIndex<K> {
     {
         EdgeIndex {
             alloc,
-            lists: BTreeMap::new(alloc),
+            lists: IndexMap::new(alloc),
         }
     }
 
@@ -77,8 +78,14 @@ impl<K: Keyed> EdgeIndex<K> {
         requires { holds_edge edge.now (live self.old) ≡ false }
         ensures added { OnOk result (live self.new ≡ with_edge edge.now (live self.old)) }
     {
-        self.reserve(&K::of(edge), 1)?;
-        self.add(edge);
+        let key = K::of(edge);
+        if let Some(held) = self.lists.get_mut(&key) {
+            held.reserve(1)?;
+            held.put(edge);
+            return Ok(());
+        }
+        let list = ShortList::with_first(self.alloc, edge)?;
+        self.lists.insert(key, list)?;
         Ok(())
     }
 

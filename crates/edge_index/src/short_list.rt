@@ -1,4 +1,4 @@
-ghost use Rattle.std.specs.Prelude.{◌≡◌, ◌+◌, ◌<◌, ◌≤◌, ◌==◌, [], true, false, length, OnOk, OnErr};
+ghost use Rattle.std.specs.Prelude.{◌≡◌, ◌+◌, ◌<◌, ◌≤◌, ◌==◌, [], ◌∷◌, true, false, length, IfOk, OnOk, OnErr};
 ghost use Rattle.walks.specs.Live.{IsInEdgeOrder, holds_edge};
 ghost use Rattle.grove_edits.specs.Edge.{edge_cmp};
 ghost use Rattle.edge_index.specs.Ordered.{place, with_edge, without_edge};
@@ -49,6 +49,15 @@ impl ShortList {
         }
     }
 
+    /// A list of one edge, which takes no room for further ones.
+    pub(crate) fn with_first(alloc: Global, edge: &Edge) -> Result<ShortList, NoMemory>
+        ensures edges { IfOk result (λ list. list.edges ≡ edge.now ∷ []) }
+    {
+        let mut edges = Vec::with_capacity(alloc, 1)?;
+        edges.push(*edge)?;
+        Ok(ShortList { edges })
+    }
+
     pub(crate) fn as_slice(&self) -> &[Edge]
         ensures edges { result.now ≡ self.now.edges }
         ensures in_order { IsInEdgeOrder self.now.edges }
@@ -62,13 +71,17 @@ impl ShortList {
         self.edges.is_empty()
     }
 
-    /// Makes room for so many further edges.
+    /// Makes room for so many further edges. An empty list takes room for just these.
     pub(crate) fn reserve(&mut self, count: usize) -> Result<(), NoMemory>
         ensures edges { self.new.edges ≡ self.old.edges }
         ensures room { OnOk result (count ≤ self.new.room) }
         ensures room_stays { self.old.room ≤ self.new.room }
     {
-        self.edges.reserve(count)?;
+        if self.edges.is_empty() {
+            self.edges.reserve_exact(count)?;
+        } else {
+            self.edges.reserve(count)?;
+        }
         Ok(())
     }
 

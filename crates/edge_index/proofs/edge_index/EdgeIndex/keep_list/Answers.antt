@@ -1,16 +1,22 @@
-use Rattle.std.proofs.Common.{◌≡◌, sym, ap, ◌∙◌}
+use Rattle.std.proofs.Common.{◌≤◌, sym, ap, subst, ◌∙◌, arith}
 use Rattle.std.specs.Prelude.{None}
-use Rattle.std.specs.Map.{lookup}
-use Rattle.std.specs.BTreeMap.{is_at}
-use Rattle.edge_index.specs.Lists.{edges_of, edges_at, live}
-use Rattle.edge_index.proofs.Lookups.{live-same, same_edges, none_from}
+use Rattle.edge_index.specs.Lists.{live, room_at}
+use Rattle.edge_index.proofs.Ties.{inserted}
+use Rattle.edge_index.proofs.Lookups.{by_key-same, live-same, room_stays}
 use Rattle.edge_index.proofs.edge_index.EdgeIndex.keep_list.Goals as goal
+
+pub invariant_of-self-2 : goal.invariant_of-self-2
+invariant_of-self-2 g c =
+    let put = inserted g.K.Ord.cmp g.met.K.Ord.matches_eq c.args.key.now c.new.result c.self.inside.lists c.insert.new.self (sym c.contains_key.ensures ∙ c.if-contains_key.false) c.in_ok-insert.ensures.updates c.insert.ensures.unique in
+    by_key-same g.K.Ord.cmp g.met.K.Ord.total g.K.Keyed.key c.args.key.now None c.new.result c.self.inside.lists.entries c.insert.new.self.entries put c.self.invariant c.new.ensures.empty
 
 pub returns-clause-unchanged : goal.returns-clause-unchanged
 returns-clause-unchanged g c =
-    let none : lookup (is_at (g.K.Ord.cmp c.args.key.now)) c.self.inside.lists.entries ≡ None = none_from (lookup (is_at (g.K.Ord.cmp c.args.key.now)) c.self.inside.lists.entries) (sym c.contains_key.ensures ∙ c.if-contains_key.false) in
-    let same : c.new.result.edges ≡ edges_at g.K.Ord.cmp c.self.inside.lists.entries c.args.key.now = c.new.ensures.empty ∙ sym (ap edges_of none) in
-    live-same g.K.Ord.cmp g.met.K.Ord.total g.K.Keyed.key c.self.inside.lists.entries c.insert.new.self.entries c.self.invariant
-    (same_edges g.K.Ord.cmp g.met.K.Ord.total c.args.key.now c.new.result c.self.inside.lists.entries c.insert.new.self.entries c.in_ok-insert.ensures.updates.0 same)
-    c.insert.ensures.ordered
-    ∙ ap live c.self.view_is
+    let put = inserted g.K.Ord.cmp g.met.K.Ord.matches_eq c.args.key.now c.new.result c.self.inside.lists c.insert.new.self (sym c.contains_key.ensures ∙ c.if-contains_key.false) c.in_ok-insert.ensures.updates c.insert.ensures.unique in
+    live-same g.K.Ord.cmp g.met.K.Ord.total g.K.Keyed.key c.args.key.now None c.new.result c.self.inside.lists.entries c.insert.new.self.entries put c.self.invariant c.new.ensures.empty ∙ ap live c.self.view_is
+
+pub returns-clause-room_stays : goal.returns-clause-room_stays
+returns-clause-room_stays g c =
+    let put = inserted g.K.Ord.cmp g.met.K.Ord.matches_eq c.args.key.now c.new.result c.self.inside.lists c.insert.new.self (sym c.contains_key.ensures ∙ c.if-contains_key.false) c.in_ok-insert.ensures.updates c.insert.ensures.unique in
+    λ k. subst (λ lists. room_at g.K.Ord.cmp lists k ≤ room_at g.K.Ord.cmp c.insert.new.self.entries k) c.self.view_is
+    (room_stays g.K.Ord.cmp g.met.K.Ord.total g.K.Keyed.key c.args.key.now None c.new.result c.self.inside.lists.entries c.insert.new.self.entries put (omega arith) k)
