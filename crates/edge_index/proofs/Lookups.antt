@@ -40,7 +40,7 @@ module _ {K : Type 0} (cmp : K → K → Ordering) (o : IsTotalOrder cmp) where
       ∙ ap (λ rest. cond (is_eq (cmp k entry.0)) (Some entry.1) rest) (lookup-tied q k lists tie)
 
   -- no later key ties with one that ties with the first
-  none_in_tail : (entry : K × Kept) (lists : Lists K) (q : K) → IsDistinct (eq_by_cmp cmp) (keys_of (entry ∷ lists)) → is_eq (cmp q entry.0) ≡ true → edges_at cmp lists q ≡ []
+  pub none_in_tail : (entry : K × Kept) (lists : Lists K) (q : K) → IsDistinct (eq_by_cmp cmp) (keys_of (entry ∷ lists)) → is_eq (cmp q entry.0) ≡ true → edges_at cmp lists q ≡ []
   none_in_tail entry lists q apart tie = ap edges_of (lookup-none (is_at (cmp q)) lists (none_past_head (eq_by_cmp_equiv o) q entry lists apart tie))
 
   module _ (key : Edge → K) where

@@ -1,26 +1,25 @@
 -- The keys with an edge are the vertices with a live parent edge.
 use Rattle.std.proofs.Common.{◌≡◌, suc, ◌≤◌, Bool, true, false, cond, List, [], ◌∷◌, length, refl, sym, ap, ◌∙◌, arith}
 use Rattle.std.specs.Prelude.{◌||◌, ◌==◌, not, filter, Some}
-use Rattle.std.specs.List.{AllByRecursion}
-use Rattle.std.specs.List.Sorted.{IsStrictlySortedBy}
+use Rattle.std.specs.List.{AllByRecursion, IsDistinct}
 use Rattle.std.specs.Map.{lookup, keys_of, values_of}
 use Rattle.std.specs.BTreeMap.{is_at}
-use Rattle.std.specs.declared.cmp.Ordering.TheVariants.{Less}
-use Rattle.std.specs.Ordering.{is_eq, ordering_reverse}
+use Rattle.std.specs.Ordering.{is_eq, ordering_reverse, eq_by_cmp}
 use Rattle.std.specs.Cmp.{IsTotalOrder}
 use Rattle.std.proofs.Math.Dec.{eqb-suc-zero}
 use Rattle.std.proofs.lemmas.Cmp.{tied_itself}
 use Rattle.std.proofs.lemmas.List.Sums.{length-filter}
+use Rattle.std.proofs.lemmas.Map.Keys.{IsDistinct-head, IsDistinct-tail}
 use Rattle.grove_edits.specs.declared.vertex.Vertex.{Vertex}
 use Rattle.grove_edits.specs.declared.edge.Edge.{Edge}
 use Rattle.grove_edits.specs.Graph.{is_same_edge}
 use Rattle.grove_edits.proofs.Orders.{vertex_cmp_total}
 use Rattle.walks.specs.Live.{is_same_vertex, stands_in, targets_of, holds_edge}
-use Rattle.walks.proofs.Vertices.{same_vertex_exact, same_vertex_itself}
+use Rattle.walks.proofs.Vertices.{same_vertex_laws, same_vertex_exact, same_vertex_itself}
 use Rattle.walks.proofs.Endings.{length-AllStandIn}
 use Rattle.edge_index.specs.Lists.{Kept, Lists, edges_of, edges_at, live, used_keys, IsByKey}
 use Rattle.edge_index.proofs.Ordered.{same_edge_exact, same_edge_itself}
-use Rattle.edge_index.proofs.Lookups.{holds-live}
+use Rattle.edge_index.proofs.Lookups.{holds-live, none_in_tail}
 use Rattle.parent_index.specs.declared.target.Target.{Target}
 use Rattle.parent_index.specs.contracts.target.TargetOrd.TheImpl as impl
 use Rattle.parent_index.proofs.Targets.{cmp_is, target}
@@ -94,31 +93,24 @@ length-heads (entry ∷ lists) =
       | false ↦ length-heads lists
     ]
 
-not_same_later : (a b : Target) → impl.ghosts.cmp a b ≡ Less → is_same_vertex b.vertex a.vertex ≡ false
-not_same_later a b less = ap is_eq (vertex_cmp_total.antisymm b.vertex a.vertex ∙ ap ordering_reverse (sym (cmp_is a b) ∙ less))
+not_same_later : (a b : Target) → eq_by_cmp impl.ghosts.cmp a b ≡ false → is_same_vertex b.vertex a.vertex ≡ false
+not_same_later a b other = same_vertex_laws.symm b.vertex a.vertex ∙ sym (ap is_eq (cmp_is a b)) ∙ other
 
-head_new : (k : Target) (lists : Lists Target) → AllByRecursion (λ y. impl.ghosts.cmp k y ≡ Less) (keys_of lists) → stands_in k.vertex (heads lists) ≡ false
-head_new k [] later = refl
-head_new k (entry ∷ lists) later =
+head_new : (k : Target) (lists : Lists Target) → AllByRecursion (λ y. eq_by_cmp impl.ghosts.cmp k y ≡ false) (keys_of lists) → stands_in k.vertex (heads lists) ≡ false
+head_new k [] others = refl
+head_new k (entry ∷ lists) others =
     elim (some_edge entry.1) as (λ b. stands_in k.vertex (cond b (entry.0.vertex ∷ heads lists) (heads lists)) ≡ false) [
-      | true ↦ ap (λ b. b || stands_in k.vertex (heads lists)) (not_same_later k entry.0 later.0) ∙ head_new k lists later.1
-      | false ↦ head_new k lists later.1
+      | true ↦ ap (λ b. b || stands_in k.vertex (heads lists)) (not_same_later k entry.0 others.0) ∙ head_new k lists others.1
+      | false ↦ head_new k lists others.1
     ]
 
-head_after : (entry : Target × Kept) (lists : Lists Target) → IsStrictlySortedBy impl.ghosts.cmp (keys_of (entry ∷ lists)) → AllByRecursion (λ y. impl.ghosts.cmp entry.0 y ≡ Less) (keys_of lists)
-unfolding IsStrictlySortedBy
-head_after entry lists sorted = sorted.0
-
-tail_sorted : (entry : Target × Kept) (lists : Lists Target) → IsStrictlySortedBy impl.ghosts.cmp (keys_of (entry ∷ lists)) → IsStrictlySortedBy impl.ghosts.cmp (keys_of lists)
-unfolding IsStrictlySortedBy
-tail_sorted entry lists sorted = sorted.1
-
-heads-apart : (lists : Lists Target) → IsStrictlySortedBy impl.ghosts.cmp (keys_of lists) → AreApart (heads lists)
-heads-apart [] sorted = tt
-heads-apart (entry ∷ lists) sorted =
+heads-apart : (lists : Lists Target) → IsDistinct (eq_by_cmp impl.ghosts.cmp) (keys_of lists) → AreApart (heads lists)
+heads-apart [] apart = tt
+heads-apart (entry ∷ lists) apart =
+    let rest = heads-apart lists (IsDistinct-tail (eq_by_cmp impl.ghosts.cmp) entry.0 (keys_of lists) apart) in
     elim (some_edge entry.1) as (λ b. AreApart (cond b (entry.0.vertex ∷ heads lists) (heads lists))) [
-      | true ↦ (head_new entry.0 lists (head_after entry lists sorted), heads-apart lists (tail_sorted entry lists sorted))
-      | false ↦ heads-apart lists (tail_sorted entry lists sorted)
+      | true ↦ (head_new entry.0 lists (IsDistinct-head (eq_by_cmp impl.ghosts.cmp) entry.0 (keys_of lists) apart), rest)
+      | false ↦ rest
     ]
 
 some_edge_from : (e : Edge) (kept : Kept) → holds_edge e kept.edges ≡ true → some_edge kept ≡ true
@@ -159,11 +151,6 @@ impl_total = record {
 tied_is : (a b : Target) → is_eq (impl.ghosts.cmp a b) ≡ true → a ≡ b
 tied_is a b tie = ap (λ (v : Vertex). record { vertex = v }) (same_vertex_exact a.vertex b.vertex (sym (ap is_eq (cmp_is a b)) ∙ tie))
 
-none_after : (k : Target) (lists : Lists Target) → AllByRecursion (λ y. impl.ghosts.cmp k y ≡ Less) (keys_of lists) → edges_at impl.ghosts.cmp lists k ≡ []
-none_after k [] later = refl
-none_after k (entry ∷ lists) later =
-    ap (λ o. edges_of (cond (is_eq o) (Some entry.1) (lookup (is_at (impl.ghosts.cmp k)) lists))) later.0 ∙ none_after k lists later.1
-
 first_edge : (kept : Kept) → some_edge kept ≡ true → (e : Edge) × (holds_edge e kept.edges ≡ true)
 first_edge kept some = go kept.edges some where
   go : (xs : List Edge) → not (length xs == 0) ≡ true → (e : Edge) × (holds_edge e xs ≡ true)
@@ -171,17 +158,14 @@ first_edge kept some = go kept.edges some where
   go (x ∷ xs) h = (x, ap (λ b. b || holds_edge x xs) (same_edge_itself x))
 
 -- the vertices of the keys with an edge all stand where each key's with a kept edge does
-heads_stand : (vs : List Vertex) (lists : Lists Target) → IsStrictlySortedBy impl.ghosts.cmp (keys_of lists)
+heads_stand : (vs : List Vertex) (lists : Lists Target) → IsDistinct (eq_by_cmp impl.ghosts.cmp) (keys_of lists)
     → ((k : Target) (e : Edge) → holds_edge e (edges_at impl.ghosts.cmp lists k) ≡ true → stands_in k.vertex vs ≡ true) → AllStandIn vs (heads lists)
-heads_stand vs [] sorted each = tt
-heads_stand vs (entry ∷ lists) sorted each =
-    let later = head_after entry lists sorted in
-    let rest : AllStandIn vs (heads lists) = heads_stand vs lists (tail_sorted entry lists sorted) (λ k e held.
+heads_stand vs [] apart each = tt
+heads_stand vs (entry ∷ lists) apart each =
+    let rest : AllStandIn vs (heads lists) = heads_stand vs lists (IsDistinct-tail (eq_by_cmp impl.ghosts.cmp) entry.0 (keys_of lists) apart) (λ k e held.
     elim (is_eq (impl.ghosts.cmp k entry.0)) as (λ b. is_eq (impl.ghosts.cmp k entry.0) ≡ b → stands_in k.vertex vs ≡ true) [
-      | true ↦ λ tie.
-          let none = ap (λ q. holds_edge e (edges_at impl.ghosts.cmp lists q)) (tied_is k entry.0 tie) ∙ ap (holds_edge e) (none_after entry.0 lists later) in
-          absurd cc
-      | false ↦ λ apart. each k e (ap (λ b. holds_edge e (edges_of (cond b (Some entry.1) (lookup (is_at (impl.ghosts.cmp k)) lists)))) apart ∙ held)
+      | true ↦ λ tie. let none = ap (holds_edge e) (none_in_tail impl.ghosts.cmp impl_total entry lists k apart tie) in absurd cc
+      | false ↦ λ other. each k e (ap (λ b. holds_edge e (edges_of (cond b (Some entry.1) (lookup (is_at (impl.ghosts.cmp k)) lists)))) other ∙ held)
     ] refl) in
     elim (some_edge entry.1) as (λ b. some_edge entry.1 ≡ b → AllStandIn vs (cond b (entry.0.vertex ∷ heads lists) (heads lists))) [
       | true ↦ λ some.
@@ -196,7 +180,7 @@ used_keys_is lists by_key =
     let counted : length (filter some_edge (values_of lists)) ≡ used_keys lists = length-filter some_edge (values_of lists) in
     let long = length-heads lists in
     let few : length (heads lists) ≤ length (targets_of (live lists)) =
-    length-AllStandIn (targets_of (live lists)) (heads lists) (heads-apart lists by_key.ascends) (heads_stand (targets_of (live lists)) lists by_key.ascends (λ k e held.
+    length-AllStandIn (targets_of (live lists)) (heads lists) (heads-apart lists by_key.apart) (heads_stand (targets_of (live lists)) lists by_key.apart (λ k e held.
     let one : target e ≡ k = tied_is (target e) k (by_key.keyed k e held) in
     let live_too : holds_edge e (live lists) ≡ true = holds-live impl.ghosts.cmp impl_total target lists by_key e ∙ ap (λ q. holds_edge e (edges_at impl.ghosts.cmp lists q)) one ∙ held in
     ap (λ q. stands_in q.vertex (targets_of (live lists))) (sym one) ∙ target_stands e (live lists) live_too)) in
