@@ -17,10 +17,10 @@ use Rattle.type_core.specs.TypeTable.{IsTypeOf, type_at}
 use Rattle.ctx_table.specs.Context.{Context}
 use Rattle.mark_step.specs.Rows.{is_exp}
 use Rattle.mark_step.specs.Node.{AreNumbers, AreDoneBefore, IsNodeOf, sort_at_index, type_or_unknown, types_from}
-use Rattle.mark_rules.specs.declared.frame.Given.{Given}
-use Rattle.mark_rules.specs.declared.frame.OpenVertex.{OpenVertex}
-use Rattle.mark_rules.specs.Walking.{given_at, opened_at, left_of, filled_with, IsGivenOf, IsOpenOf}
-use Rattle.mark_rules.specs.Machine as machine
+use Rattle.judging.specs.declared.frame.Given.{Given}
+use Rattle.judging.specs.declared.frame.OpenVertex.{OpenVertex}
+use Rattle.judging.specs.Frames.{given_at, opened_at, left_of, filled_with, IsGivenOf, IsOpenOf}
+use Rattle.judging.specs.Machine as machine
 
 pub record Split (xs : List (Position × Sort)) (i : ℕ) (p : Position × Sort) (ps : List (Position × Sort)) : Type 0 where
   pub here : slice_get xs i ≡ Some p

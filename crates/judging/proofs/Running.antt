@@ -26,7 +26,7 @@ use Rattle.mark_step.specs.Rows.{is_exp}
 use Rattle.marking.specs.Types.{if_sole, type_in, child_name, tree_type, child_type, pattern_name}
 use Rattle.marking.specs.Marking.{MarkedNode, expression, judged_in, judged_child, marked_plain, marked_vertex, marked_place, marked_places, marked_children, by_itself, marked_tree, synthesised_in, children_types}
 use Rattle.mark_step.specs.Step.{settled}
-use Rattle.mark_rules.specs.Machine.{Given, nothing, of_type, of_name, Opened, Frame, Of, Several, State, at, given_of, head_of, unsettled, fresh, filled, demanded_by, demanded_next, deliver, opened, taken, step, run}
+use Rattle.judging.specs.Machine.{Given, nothing, of_type, of_name, Opened, Frame, Of, Several, State, at, given_of, head_of, unsettled, fresh, filled, demanded_by, demanded_next, deliver, opened, taken, step, run}
 
 pub run-append : (s : State) (xs ys : List Node) → run s (xs ++ ys) ≡ run (run s xs) ys
 run-append s [] ys = refl
