@@ -1,34 +1,30 @@
 -- What is open, step by step: what stands once a vertex is opened, filled or closed, and once a conflict is one child further.
-use Rattle.std.proofs.Common.{◌≡◌, ℕ, zero, suc, ◌+◌, ◌<◌, ◌≤◌, List, [], ◌∷◌, ◌++◌, length, map, set, take, drop, Option, Some, None, IfSome, refl, sym, ap, subst, ◌∙◌, arith, append-nil}
-use Rattle.std.specs.Prelude.{unwrap_or, slice_get, ◌-◌, Result, Ok, Err, IfOk, OnOk}
+use Rattle.std.proofs.Common.{◌≡◌, ℕ, zero, suc, ◌<◌, ◌≤◌, List, [], ◌∷◌, ◌++◌, length, set, drop, Option, Some, None, refl, sym, ap, subst, ◌∙◌, arith}
+use Rattle.std.specs.Prelude.{unwrap_or, slice_get, ◌-◌}
 use Rattle.std.specs.Option.{option_map}
 use Rattle.grove_sorts.specs.declared.position.Position.{Position}
 use Rattle.grove_sorts.specs.declared.sort.Sort.{Sort}
 use Rattle.grove_sorts.specs.declared.sort.Sort.TheVariants.{Top}
 use Rattle.grove_sorts.specs.Ctor.{positions}
-use Rattle.type_core.specs.Typ.{Typ, Unknown}
-use Rattle.type_core.specs.TypeTable.{KeepsTypes, type_at}
+use Rattle.type_core.specs.Typ.{Typ}
+use Rattle.type_core.specs.TypeTable.{KeepsTypes}
 use Rattle.ctx_table.specs.Context.{Context}
 use Rattle.ctx_table.specs.declared.ctx_id.CtxId.{CtxId}
-use Rattle.ctx_table.specs.CtxTable.{KeepsContexts, context_at}
+use Rattle.ctx_table.specs.CtxTable.{context_at}
 use Rattle.mark_step.specs.declared.node.Mode.TheVariants.{Syn}
 use Rattle.std.proofs.lemmas.Option.{slice_get-get_or}
 use Rattle.mark_step.specs.declared.node.Demand.{Demand}
-use Rattle.mark_step.specs.Node.{IsDemandOf, demanded_at, sort_at_index, wanted_at, types_before, types_from}
-use Rattle.mark_step.specs.Scope.{scope_at, scope_of}
-use Rattle.mark_step.specs.Expression.{Demanded, Wanted, Synthesise}
+use Rattle.mark_step.specs.Node.{demanded_at, sort_at_index}
+use Rattle.mark_step.specs.Scope.{scope_of}
+use Rattle.mark_step.specs.Expression.{Demanded, Synthesise}
 use Rattle.judging.specs.declared.frame.Given.{Given}
 use Rattle.judging.specs.declared.frame.OpenVertex.{OpenVertex}
 use Rattle.judging.specs.declared.frame.Frame.{Frame}
 use Rattle.judging.specs.declared.frame.Frame.TheVariants.{Open, Several}
-use Rattle.grove_sorts.specs.declared.ident.Ident.{Ident}
-use Rattle.grove_sorts.specs.declared.ctor.Ctor.{Ctor}
 use Rattle.grove_edits.specs.declared.vertex.Vertex.{Vertex}
 use Rattle.grove_terms.specs.declared.node.Node.{Node}
 use Rattle.grove_terms.specs.declared.node.What.{What}
 use Rattle.grove_terms.specs.declared.node.What.TheVariants as whats
-use Rattle.mark_step.specs.declared.node.Mark.{Mark}
-use Rattle.mark_step.specs.declared.node.Mark.TheVariants as mark
 use Rattle.marking.specs.Marking.{MarkedNode, marked_plain, synthesised_in}
 use Rattle.judging.specs.Machine as machine
 use Rattle.judging.specs.declared.frame.Closed.{Closed}

@@ -1,7 +1,5 @@
 -- What is open stands for the same over tables that keep the meaning of their numbers.
-use Rattle.std.proofs.Common.{◌≡◌, ℕ, zero, suc, ◌+◌, ◌<◌, ◌≤◌, Bool, true, false, cond, List, [], ◌∷◌, ◌++◌, length, map, set, take, All, Option, Some, None, IfSome, refl, sym, ap, subst, ◌∙◌, arith}
-use Rattle.std.specs.Prelude.{if◌then◌else◌}
-use Rattle.std.specs.Option.{option_map}
+use Rattle.std.proofs.Common.{◌≡◌, ℕ, ◌+◌, Bool, true, false, cond, List, [], ◌∷◌, ◌++◌, take, Option, Some, None, IfSome, refl, sym, ap, subst, ◌∙◌, arith}
 use Rattle.std.specs.List.{slice_index_or}
 use Rattle.std.proofs.lemmas.List.Elements.{All-nil, All-cons, All-head, All-tail}
 use Rattle.grove_sorts.specs.declared.position.Position.{Position}
@@ -20,7 +18,7 @@ use Rattle.mark_step.specs.declared.node.Demand.{Demand}
 use Rattle.mark_step.specs.Scope.{Scope, scope_of, scope_at, IsTyped}
 use Rattle.mark_step.specs.Expression.{Wanted, Analyse, Demanded}
 use Rattle.mark_step.specs.Rows.{is_exp}
-use Rattle.mark_step.specs.Node.{wanted_at, demanded_at, IsModeOf, IsScopeOf, AreNumbers, IsNodeOf, IsDemandOf, type_or_unknown, types_from, types_before}
+use Rattle.mark_step.specs.Node.{wanted_at, demanded_at, IsModeOf, IsScopeOf, AreNumbers, IsNodeOf, IsDemandOf, type_or_unknown, types_from}
 use Rattle.judging.specs.declared.frame.OpenVertex.{OpenVertex}
 use Rattle.judging.specs.declared.frame.Frame.{Frame}
 use Rattle.judging.specs.declared.frame.Frame.TheVariants.{Open, Several}

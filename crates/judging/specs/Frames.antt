@@ -1,5 +1,5 @@
 -- What is open while the nodes of a tree are judged, by numbers, and what it stands for over the tables.
-use Rattle.std.specs.Prelude.{◌≡◌, ℕ, ◌<◌, ◌≤◌, ◌+◌, List, [], ◌∷◌, ◌++◌, map, drop, length, set, Option, None, Some, IfSome}
+use Rattle.std.specs.Prelude.{◌≡◌, ◌<◌, ◌≤◌, ◌+◌, List, [], ◌∷◌, ◌++◌, drop, length, set, Option, Some, IfSome}
 use Rattle.std.specs.Option.{option_map}
 use Rattle.grove_sorts.specs.declared.position.Position.{Position}
 use Rattle.grove_sorts.specs.declared.sort.Sort.{Sort}
@@ -10,7 +10,7 @@ use Rattle.type_core.specs.Typ.{Typ}
 use Rattle.type_core.specs.TypeTable.{IsTypeOf, type_at}
 use Rattle.ctx_table.specs.Context.{Context}
 use Rattle.mark_step.specs.Scope.{scope_at}
-use Rattle.mark_step.specs.Node.{wanted_at, bound_at, demanded_at, IsModeOf, IsNodeOf, IsDemandOf, AreDoneBefore, types_before, sort_at_index}
+use Rattle.mark_step.specs.Node.{wanted_at, bound_at, demanded_at, IsModeOf, IsNodeOf, IsDemandOf, AreDoneBefore, types_before}
 use Rattle.marking.specs.Marking.{MarkedNode}
 use Rattle.judging.specs.declared.frame.Given.{Given}
 use Rattle.judging.specs.declared.frame.OpenVertex.{OpenVertex}

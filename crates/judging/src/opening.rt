@@ -123,13 +123,7 @@ pub fn demand_next(
 }
 
 /// A vertex none of whose positions is judged, and of which this is demanded.
-pub fn fresh(
-    types: &TypeTable,
-    place: usize,
-    node: &Node,
-    ctor: Ctor,
-    demand: Demand,
-) -> OpenVertex
+pub fn fresh(types: &TypeTable, place: usize, node: &Node, ctor: Ctor, demand: Demand) -> OpenVertex
     ensures opened { (ctxs : List Context) → opened_at types.now ctxs result ≡ machine.fresh place node.now ctor (demanded_at types.now ctxs demand) }
     ensures left { left_of result ≡ positions ctor }
     ensures numbers { (ctxs : List Context) → IsDemandOf types.now ctxs demand → IsOpenOf types.now ctxs result }

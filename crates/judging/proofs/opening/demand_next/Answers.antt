@@ -1,4 +1,4 @@
-use Rattle.std.proofs.Common.{rules, ◌≡◌, ◌≤◌, ◌<◌, ◌+◌, ◌-◌, ◌∷◌, ◌++◌, [], length, ℕ, Some, None, sym, ap, ◌∙◌, refl, arith}
+use Rattle.std.proofs.Common.{◌≡◌, ◌-◌, [], length, Some, None, sym, ◌∙◌}
 use Rattle.std.specs.Prelude.{slice_get}
 use Rattle.judging.specs.declared.frame.Frame.TheVariants.{Open, Several}
 use Rattle.mark_step.specs.Node.{demanded_at}
