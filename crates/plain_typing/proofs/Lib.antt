@@ -1,3 +1,5 @@
 pub mod UnmarkedRows
 pub mod Unmarked
 pub mod Typings
+pub mod Places
+pub mod Steps
