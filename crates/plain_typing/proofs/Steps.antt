@@ -1,6 +1,6 @@
 -- What the walk stands for, step by step.
 use Rattle.std.proofs.Common.{◌≡◌, ◌↔◌, ℕ, zero, suc, ◌+◌, ◌<◌, ◌≤◌, Bool, true, false, cond, List, [], ◌∷◌, ◌++◌, length, set, drop, Option, Some, None, refl, sym, ap, subst, ◌∙◌, arith, length-set, length-append}
-use Rattle.std.specs.Prelude.{◌||◌, ◌-◌}
+use Rattle.std.specs.Prelude.{◌||◌, ◌-◌, Result, Ok, Err, IfOk}
 use Rattle.grove_sorts.specs.declared.position.Position.{Position}
 use Rattle.grove_sorts.specs.declared.sort.Sort.{Sort}
 use Rattle.grove_sorts.specs.declared.sort.Sort.TheVariants.{Top, Exp, Pat, Typ as TypeSort}
@@ -25,7 +25,7 @@ use Rattle.judging.specs.declared.frame.Closed.{Closed}
 use Rattle.judging.specs.Machine as machine
 use Rattle.judging.specs.Frames.{given_at, opened_at, left_of, frame_of, frame_at, frames_at, closed_at, filled_with, IsGivenOf, IsFrameOf, AreFramesOf}
 use Rattle.judging.proofs.Kept.{contexts-itself, frames_at-push, frames_at-kept}
-use Rattle.judging.proofs.Frames.{stays_open, closes, given_several, given_last, begins_vertex, begins_conflict}
+use Rattle.judging.proofs.Frames.{stays_open, closes, given_fills, given_several, given_last, begins_vertex, begins_conflict}
 use Rattle.plain_typing.specs.declared.walking.Walk.{Walk}
 use Rattle.plain_typing.specs.Walking.{IsUnmarkedAt, AreUnsettled, IsNoted, given_on, StandsFor}
 use Rattle.plain_typing.proofs.Unmarked.{unmarked_plain}
@@ -98,6 +98,22 @@ place_of_filled types ctxs f o r g below fs nodes is made frame are =
 
 pub stands_for : (types : List Typ) (ctxs : List Context) (g : Option Given) (walk : Walk) (s t : machine.State) → s ≡ t → StandsFor types ctxs g walk s → StandsFor types ctxs g walk t
 stands_for types ctxs g walk s t same stands = subst (StandsFor types ctxs g walk) same stands
+
+-- a vertex is filled, and gone on with
+pub stands_passed_to : (old new : List Typ) (ctxs : List Context) (f : Frame) (o r : OpenVertex) (g : Given) (walk after : Walk) {E : Type 0} (given : Result (Option Given) E)
+    → f ≡ Open o → r ≡ filled_with (sort_at_index o.view.ctor o.next) g o → IsFrameOf old ctxs f → IsGivenOf old g
+    → IfOk given (λ x. (nodes : List MarkedNode) → IsUnmarkedAt nodes r.place → AreUnsettled r.place (frames_at old ctxs walk.frames.items) nodes → IsNoted walk nodes
+    → StandsFor new ctxs x after (machine.opened (opened_at old ctxs r) (left_of r) (frames_at old ctxs walk.frames.items) nodes))
+    → IfOk given (λ x. (nodes : List MarkedNode) → AreUnsettled (length nodes) (frame_at old ctxs f ∷ frames_at old ctxs walk.frames.items) nodes → IsNoted walk nodes
+    → StandsFor new ctxs x after (machine.deliver (given_at old g) (frame_at old ctxs f ∷ frames_at old ctxs walk.frames.items) nodes))
+stands_passed_to old new ctxs f o r g walk after (Err e) is made frame number goes = tt
+stands_passed_to old new ctxs f o r g walk after (Ok x) is made frame number goes = λ nodes are noted.
+    let fs : List machine.Frame = frames_at old ctxs walk.frames.items in
+    let place = place_of_filled old ctxs f o r g (length nodes) fs nodes is made frame are in
+    stands_for new ctxs x after (machine.opened (opened_at old ctxs r) (left_of r) fs nodes) (machine.deliver (given_at old g) (frame_at old ctxs f ∷ fs) nodes)
+    (given_fills old ctxs f o r g fs nodes is made frame number) (goes nodes place.0 place.1 noted)
+
+-- ---- a conflict
 
 under_conflict : (types : List Typ) (ctxs : List Context) (f : Frame) (d : Demand) (n below : ℕ) (fs : List machine.Frame) (nodes : List MarkedNode) → f ≡ Several d n
     → AreUnsettled below (frame_at types ctxs f ∷ fs) nodes → AreUnsettled below fs nodes
