@@ -1,10 +1,10 @@
 -- What the walk stands for, step by step.
-use Rattle.std.proofs.Common.{◌≡◌, ◌↔◌, ℕ, zero, suc, ◌+◌, ◌<◌, ◌≤◌, Bool, true, false, cond, List, [], ◌∷◌, ◌++◌, length, set, drop, Option, Some, None, refl, sym, ap, subst, ◌∙◌, arith, length-set, length-append}
+use Rattle.std.proofs.Common.{◌≡◌, ◌↔◌, ℕ, zero, suc, ◌+◌, ◌<◌, ◌≤◌, ◌⊎◌, inl, inr, Bool, true, false, cond, List, [], ◌∷◌, ◌++◌, length, set, drop, Option, Some, None, refl, sym, ap, subst, ◌∙◌, arith, length-set, length-append}
 use Rattle.std.specs.Prelude.{◌||◌, ◌-◌, Result, Ok, Err, IfOk}
 use Rattle.grove_sorts.specs.declared.position.Position.{Position}
 use Rattle.grove_sorts.specs.declared.sort.Sort.{Sort}
 use Rattle.grove_sorts.specs.declared.sort.Sort.TheVariants.{Top, Exp, Pat, Typ as TypeSort}
-use Rattle.grove_sorts.specs.Ctor.{positions}
+use Rattle.grove_sorts.specs.Ctor.{positions, sort_of_ctor}
 use Rattle.type_core.specs.Typ.{Typ}
 use Rattle.type_core.specs.TypeTable.{KeepsTypes}
 use Rattle.ctx_table.specs.Context.{Context}
@@ -179,8 +179,7 @@ stands_whole types ctxs p g walk after s is before now same stands =
 stands_out : (types : List Typ) (ctxs : List Context) (walk : Walk) (s : machine.State) (stands : StandsFor types ctxs None walk s) → stands.nodes ≡ s.out
 stands_out types ctxs walk s stands = ap (λ (x : machine.State). x.out) stands.comes_to
 
--- a vertex is begun as it is gone on with
-pub stands_begun : (types new : List Typ) (ctxs : List Context) (o : OpenVertex) (v : Vertex) (n : Node) (w : What) (d : Demanded) (place : ℕ) (given : Option Given) (walk after : Walk)
+stands_begun : (types new : List Typ) (ctxs : List Context) (o : OpenVertex) (v : Vertex) (n : Node) (w : What) (d : Demanded) (place : ℕ) (given : Option Given) (walk after : Walk)
     → opened_at types ctxs o ≡ machine.fresh place n v.ctor d → left_of o ≡ positions v.ctor → w ≡ whats.Vertex v
     → ((nodes : List MarkedNode) → IsUnmarkedAt nodes o.place → AreUnsettled o.place (frames_at types ctxs walk.frames.items) nodes → IsNoted walk nodes
     → StandsFor new ctxs given after (machine.opened (opened_at types ctxs o) (left_of o) (frames_at types ctxs walk.frames.items) nodes))
@@ -198,6 +197,15 @@ stands_begun types new ctxs o v n w d place given walk after is left what goes s
     (subst (λ k. AreUnsettled k (frames_at types ctxs walk.frames.items) more) (sym at)
     (unsettled-push (length nodes) (frames_at types ctxs walk.frames.items) nodes (machine.unsettled n ∷ []) stands.unsettled))
     (λ h. push.0 (stands.noted.0 h), λ h. stands.noted.1 (push.1 h)))
+
+-- a vertex is begun, and gone on with
+pub stands_begun_with : (old new : List Typ) (ctxs : List Context) (o : OpenVertex) (v : Vertex) (n : Node) (w : What) (d : Demanded) (place : ℕ) (walk after : Walk) {E : Type 0} (given : Result (Option Given) E)
+    → opened_at old ctxs o ≡ machine.fresh place n v.ctor d → left_of o ≡ positions v.ctor → w ≡ whats.Vertex v
+    → IfOk given (λ x. (nodes : List MarkedNode) → IsUnmarkedAt nodes o.place → AreUnsettled o.place (frames_at old ctxs walk.frames.items) nodes → IsNoted walk nodes
+    → StandsFor new ctxs x after (machine.opened (opened_at old ctxs o) (left_of o) (frames_at old ctxs walk.frames.items) nodes))
+    → IfOk given (λ x. (s : machine.State) → StandsFor old ctxs None walk s → length s.out ≡ place → StandsFor new ctxs x after (machine.taken w n d s.frames s.out))
+stands_begun_with old new ctxs o v n w d place walk after (Err e) is left what goes = tt
+stands_begun_with old new ctxs o v n w d place walk after (Ok x) is left what goes = stands_begun old new ctxs o v n w d place x walk after is left what goes
 
 grown : (below : ℕ) (fs : List machine.Frame) (nodes : List MarkedNode) (m : MarkedNode) → AreUnsettled (length nodes) fs nodes → AreUnsettled (length (nodes ++ m ∷ [])) fs (nodes ++ m ∷ [])
 grown below fs nodes m are = unsettled-push (length (nodes ++ m ∷ [])) fs nodes (m ∷ []) (unsettled-more (length nodes) (length (nodes ++ m ∷ [])) fs nodes (omega (arith, length-append nodes (m ∷ []))) are)
@@ -221,7 +229,7 @@ stands_conflict types ctxs e count sort n w d walk after what each pushed same s
     }
 
 -- a node without children gives nothing
-pub stands_plain : (types : List Typ) (ctxs : List Context) (g : Given) (walk : Walk) (sort : Sort) (n : Node) (d : Demanded) → given_at types g ≡ machine.nothing
+stands_plain : (types : List Typ) (ctxs : List Context) (g : Given) (walk : Walk) (sort : Sort) (n : Node) (d : Demanded) → given_at types g ≡ machine.nothing
     → (s : machine.State) → StandsFor types ctxs None walk s → StandsFor types ctxs (Some g) walk (machine.deliver machine.nothing s.frames (s.out ++ marked_plain sort d.wanted n ∷ []))
 stands_plain types ctxs g walk sort n d gives s stands =
     let nodes : List MarkedNode = stands.nodes in
@@ -234,6 +242,17 @@ stands_plain types ctxs g walk sort n d gives s stands =
       unsettled = grown (length nodes) (frames_at types ctxs walk.frames.items) nodes m stands.unsettled;
       noted = (λ h. push.0 (stands.noted.0 h), λ h. stands.noted.1 (push.1 h));
     }
+
+-- a hole or a reference is a node without children
+pub stands_leaf : (types : List Typ) (ctxs : List Context) (g : Given) (walk : Walk) (n : Node) (w : What) (d : Demanded) → given_at types g ≡ machine.nothing
+    → ((sort : Sort) × (w ≡ whats.Hole sort)) ⊎ (((v : Vertex) × (w ≡ whats.MultiRef v)) ⊎ ((v : Vertex) × (w ≡ whats.CycleRef v)))
+    → (s : machine.State) → StandsFor types ctxs None walk s → StandsFor types ctxs (Some g) walk (machine.taken w n d s.frames s.out)
+stands_leaf types ctxs g walk n w d gives (inl (sort, is)) s stands =
+    stands_for types ctxs (Some g) walk _ _ (ap (λ (x : What). machine.taken x n d s.frames s.out) (sym is)) (stands_plain types ctxs g walk sort n d gives s stands)
+stands_leaf types ctxs g walk n w d gives (inr (inl (v, is))) s stands =
+    stands_for types ctxs (Some g) walk _ _ (ap (λ (x : What). machine.taken x n d s.frames s.out) (sym is)) (stands_plain types ctxs g walk (sort_of_ctor v.ctor) n d gives s stands)
+stands_leaf types ctxs g walk n w d gives (inr (inr (v, is))) s stands =
+    stands_for types ctxs (Some g) walk _ _ (ap (λ (x : What). machine.taken x n d s.frames s.out) (sym is)) (stands_plain types ctxs g walk (sort_of_ctor v.ctor) n d gives s stands)
 
 -- ---- the tables grow
 
