@@ -3,3 +3,5 @@ pub mod Unmarked
 pub mod Typings
 pub mod Places
 pub mod Steps
+pub mod Lengths
+pub mod Checked

@@ -1,6 +1,6 @@
 -- What the walk stands for, step by step.
 use Rattle.std.proofs.Common.{◌≡◌, ◌↔◌, ℕ, zero, suc, ◌+◌, ◌<◌, ◌≤◌, ◌⊎◌, inl, inr, Bool, true, false, cond, List, [], ◌∷◌, ◌++◌, length, set, drop, Option, Some, None, refl, sym, ap, subst, ◌∙◌, arith, length-set, length-append}
-use Rattle.std.specs.Prelude.{◌||◌, ◌-◌, Result, Ok, Err, IfOk}
+use Rattle.std.specs.Prelude.{◌||◌, ◌-◌, Result, Ok, Err, IfOk, OnOk}
 use Rattle.grove_sorts.specs.declared.position.Position.{Position}
 use Rattle.grove_sorts.specs.declared.sort.Sort.{Sort}
 use Rattle.grove_sorts.specs.declared.sort.Sort.TheVariants.{Top, Exp, Pat, Typ as TypeSort}
@@ -266,3 +266,15 @@ stands_kept old new oldc newc walk s keeps stays frames stands =
       unsettled = subst (λ xs. AreUnsettled (length stands.nodes) xs stands.nodes) (sym fs) stands.unsettled;
       noted = stands.noted;
     }
+
+-- a node is begun, and what it gives is handed on
+pub stands_taken : (old grown begun new : List Typ) (oldc newc : List Context) (n : Node) (d : Demanded) (place : ℕ) (given : Option Given) (walk next after : Walk) {T E : Type 0} (r : Result T E)
+    → KeepsTypes old grown → KeepsContexts oldc newc → AreFramesOf old oldc walk.frames.items → d ≡ machine.demanded_next (frames_at old oldc walk.frames.items)
+    → ((s : machine.State) → StandsFor grown newc None walk s → length s.out ≡ place → StandsFor begun newc given next (machine.taken n.what n d s.frames s.out))
+    → OnOk r ((s : machine.State) → StandsFor begun newc given next s → StandsFor new newc None after s)
+    → OnOk r ((s : machine.State) → StandsFor old oldc None walk s → length s.out ≡ place → StandsFor new newc None after (machine.step s n))
+stands_taken old grown begun new oldc newc n d place given walk next after (Err e) keeps stays frames demands begins goes = tt
+stands_taken old grown begun new oldc newc n d place given walk next after (Ok t) keeps stays frames demands begins goes = λ s stands long.
+    let demanded : d ≡ machine.demanded_next s.frames = demands ∙ ap (λ (x : machine.State). machine.demanded_next x.frames) stands.comes_to in
+    stands_for new newc None after _ _ (ap (λ x. machine.taken n.what n x s.frames s.out) demanded)
+    (goes (machine.taken n.what n d s.frames s.out) (begins s (stands_kept old grown oldc newc walk s keeps stays frames stands) long))
