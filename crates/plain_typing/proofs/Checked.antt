@@ -1,5 +1,5 @@
 -- What a walk over all nodes of a tree knows.
-use Rattle.std.proofs.Common.{◌≡◌, ◌↔◌, ℕ, ◌+◌, Bool, true, false, List, [], ◌∷◌, ◌++◌, length, drop, Option, Some, None, refl, sym, ap, subst, ◌∙◌, arith}
+use Rattle.std.proofs.Common.{◌≡◌, ◌↔◌, ℕ, ◌+◌, Bool, true, false, List, [], ◌∷◌, length, None, refl, sym, ap, subst, ◌∙◌}
 use Rattle.std.specs.Prelude.{not, IsTrue}
 use Rattle.grove_edits.specs.declared.vertex.Vertex.{Vertex}
 use Rattle.grove_terms.specs.declared.node.Node.{Node}
@@ -7,7 +7,7 @@ use Rattle.grove_terms.specs.Forest.{Forest, IsWellSorted}
 use Rattle.grove_terms.specs.Nodes.{tree_nodes}
 use Rattle.type_core.specs.Typ.{Typ}
 use Rattle.ctx_table.specs.Context.{Context}
-use Rattle.marking.specs.Marking.{MarkedNode, HasNoMark, marked_tree}
+use Rattle.marking.specs.Marking.{HasNoMark, marked_tree}
 use Rattle.marking.specs.Sorted.{IsSortedTree}
 use Rattle.judging.specs.Machine.{State, at, step, run}
 use Rattle.judging.specs.Frames.{frames_at}
@@ -55,19 +55,20 @@ not_true true Clean noted = (λ h. absurd cc, λ h. absurd (true_is_false (noted
 not_true false Clean noted = (λ h. noted.0 refl, λ h. refl)
 
 -- at the end it has met no mark exactly where the tree is typed
-pub come_to_end : (types : List Typ) (ctxs : List Context) (walk : Walk) (place : ℕ) (nodes left : List Node) → IsSortedTree nodes → left ≡ [] → HasCome types ctxs walk place nodes left
-    → IsTrue (not walk.has_mark) ↔ IsTypedTree nodes
-come_to_end types ctxs walk place nodes left tree none_left come =
+pub come_to_end : (types : List Typ) (ctxs : List Context) (walk : Walk) (place : ℕ) (tree nodes left : List Node) → IsSortedTree tree → nodes ≡ tree → left ≡ [] → HasCome types ctxs walk place nodes left
+    → IsTrue (not walk.has_mark) ↔ IsTypedTree tree
+come_to_end types ctxs walk place tree nodes left sorted same none_left come =
     let stands = come.stands in
     let whole : at (frames_at types ctxs walk.frames.items) stands.nodes ≡ run (at [] []) nodes = stands.comes_to ∙ ap (run come.so_far) (sym none_left) ∙ come.to_come in
-    let marked : (v : Vertex) (f : Forest) → IsWellSorted v f → nodes ≡ tree_nodes v f → stands.nodes ≡ marked_tree v f =
-    λ v f sorted listed. ap (λ (s : State). s.out) (whole ∙ ap (run (at [] [])) listed ∙ tree_marked v f sorted) in
-    let clean = not_true walk.has_mark (HasNoMark stands.nodes) stands.noted in
-    (λ h. record {
-      head = tree.head;
-      forest = tree.forest;
-      well_sorted = tree.well_sorted;
-      listed = tree.listed;
-      typed = (typed_is_clean tree.head tree.forest tree.well_sorted).1 (subst HasNoMark (marked tree.head tree.forest tree.well_sorted tree.listed) (clean.0 h));
-    },
-        λ typed. clean.1 (subst HasNoMark (sym (marked typed.head typed.forest typed.well_sorted typed.listed)) ((typed_is_clean typed.head typed.forest typed.well_sorted).0 typed.typed)))
+    let marked : (v : Vertex) (f : Forest) → IsWellSorted v f → tree ≡ tree_nodes v f → stands.nodes ≡ marked_tree v f =
+    λ v f well listed. ap (λ (s : State). s.out) (whole ∙ ap (run (at [] [])) (same ∙ listed) ∙ tree_marked v f well) in
+    let clean = not_true walk.has_mark (HasNoMark stands.nodes) stands.noted in (
+      λ h. record {
+        head = sorted.head;
+        forest = sorted.forest;
+        well_sorted = sorted.well_sorted;
+        listed = sorted.listed;
+        typed = (typed_is_clean sorted.head sorted.forest sorted.well_sorted).1 (subst HasNoMark (marked sorted.head sorted.forest sorted.well_sorted sorted.listed) (clean.0 h));
+      },
+      λ typed. clean.1 (subst HasNoMark (sym (marked typed.head typed.forest typed.well_sorted typed.listed)) ((typed_is_clean typed.head typed.forest typed.well_sorted).0 typed.typed)),
+    )

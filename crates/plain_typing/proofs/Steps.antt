@@ -1,5 +1,5 @@
 -- What the walk stands for, step by step.
-use Rattle.std.proofs.Common.{◌≡◌, ◌↔◌, ℕ, zero, suc, ◌+◌, ◌<◌, ◌≤◌, ◌⊎◌, inl, inr, Bool, true, false, cond, List, [], ◌∷◌, ◌++◌, length, set, drop, Option, Some, None, refl, sym, ap, subst, ◌∙◌, arith, length-set, length-append}
+use Rattle.std.proofs.Common.{◌≡◌, ◌↔◌, ℕ, zero, suc, ◌<◌, ◌≤◌, ◌⊎◌, inl, inr, Bool, true, false, List, [], ◌∷◌, ◌++◌, length, set, drop, Option, Some, None, refl, sym, ap, subst, ◌∙◌, arith, length-set, length-append}
 use Rattle.std.specs.Prelude.{◌||◌, ◌-◌, Result, Ok, Err, IfOk, OnOk}
 use Rattle.grove_sorts.specs.declared.position.Position.{Position}
 use Rattle.grove_sorts.specs.declared.sort.Sort.{Sort}
@@ -23,7 +23,7 @@ use Rattle.judging.specs.declared.frame.Frame.{Frame}
 use Rattle.judging.specs.declared.frame.Frame.TheVariants.{Open, Several}
 use Rattle.judging.specs.declared.frame.Closed.{Closed}
 use Rattle.judging.specs.Machine as machine
-use Rattle.judging.specs.Frames.{given_at, opened_at, left_of, frame_of, frame_at, frames_at, closed_at, filled_with, IsGivenOf, IsFrameOf, AreFramesOf}
+use Rattle.judging.specs.Frames.{given_at, opened_at, left_of, frame_at, frames_at, closed_at, filled_with, IsGivenOf, IsFrameOf, AreFramesOf}
 use Rattle.judging.proofs.Kept.{contexts-itself, frames_at-push, frames_at-kept}
 use Rattle.judging.proofs.Frames.{stays_open, closes, given_fills, given_several, given_last, begins_vertex, begins_conflict}
 use Rattle.plain_typing.specs.declared.walking.Walk.{Walk}

@@ -1,9 +1,8 @@
-use Rattle.std.proofs.Common.{◌≡◌, ◌∷◌, ◌++◌, [], Some, None, subst, sym, ap, ◌∙◌, refl, arith}
+use Rattle.std.proofs.Common.{◌≡◌, refl}
 use Rattle.grove_terms.specs.declared.node.What.TheVariants as whats
 use Rattle.mark_step.specs.declared.node.Demand.{Demand}
 use Rattle.mark_step.specs.declared.node.Mode.TheVariants.{Syn}
 use Rattle.mark_step.specs.Node.{demanded_at}
-use Rattle.judging.specs.declared.frame.Frame.TheVariants.{Several}
 use Rattle.judging.proofs.Kept.{types-itself}
 use Rattle.judging.proofs.Frames.{framed}
 use Rattle.plain_typing.proofs.Steps.{stands_begun_with, stands_conflict, stands_leaf}

@@ -1,7 +1,7 @@
-use Rattle.std.proofs.Common.{◌≡◌, ◌≤◌, ◌<◌, ◌+◌, ◌-◌, ◌∷◌, ◌++◌, [], length, ℕ, Some, None, sym, ap, ◌∙◌, refl, arith}
+use Rattle.std.proofs.Common.{◌≡◌, Some, refl}
 use Rattle.judging.proofs.Kept.{types-then}
 use Rattle.judging.proofs.Frames.{rest_are, off_is}
-use Rattle.plain_typing.proofs.Steps.{stands_passed, stands_whole}
+use Rattle.plain_typing.proofs.Steps.{stands_passed}
 use Rattle.plain_typing.proofs.walking.hand_on.Goals as goal
 
 pub pass-requires-clause-frames : goal.pass-requires-clause-frames

@@ -1,4 +1,4 @@
-use Rattle.std.proofs.Common.{◌≡◌, IfSome}
+use Rattle.std.proofs.Common.{IfSome}
 use Rattle.type_core.specs.TypeTable.{KeepsTypes}
 use Rattle.judging.specs.Machine.{State}
 use Rattle.judging.specs.Frames.{IsGivenOf, AreFramesOf}

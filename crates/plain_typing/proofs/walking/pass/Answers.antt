@@ -1,8 +1,8 @@
-use Rattle.std.proofs.Common.{◌≡◌, ◌≤◌, ◌<◌, ◌-◌, ◌∷◌, ◌++◌, [], length, ℕ, Some, None, sym, ap, ◌∙◌, refl, arith}
+use Rattle.std.proofs.Common.{◌≡◌, ◌-◌, refl, arith}
 use Rattle.judging.specs.declared.frame.Frame.TheVariants.{Open, Several}
-use Rattle.judging.specs.Frames.{given_at, frames_at}
-use Rattle.judging.proofs.Frames.{given_is, given_fills, several_are}
-use Rattle.plain_typing.proofs.Steps.{stands_passed_to, stands_several, stands_last}
+use Rattle.judging.specs.Frames.{given_at}
+use Rattle.judging.proofs.Frames.{given_is, several_are}
+use Rattle.plain_typing.proofs.Steps.{stands_passed_to, stands_several}
 use Rattle.plain_typing.proofs.walking.pass.Goals as goal
 
 pub go_on-requires-clause-vertex : goal.go_on-requires-clause-vertex
