@@ -132,18 +132,6 @@ stands_several types ctxs f d n g walk after nodes is more pushed same are noted
   noted = (λ h. noted.0 (sym same ∙ h), λ h. same ∙ noted.1 h);
 }
 
--- a conflict has no more children
-pub stands_last : (types : List Typ) (ctxs : List Context) (f : Frame) (d : Demand) (n : ℕ) (g : machine.Given) (h : Given) (walk : Walk) (nodes : List MarkedNode)
-    → f ≡ Several d n → n ≤ 1 → given_at types h ≡ machine.nothing
-    → AreUnsettled (length nodes) (frame_at types ctxs f ∷ frames_at types ctxs walk.frames.items) nodes → IsNoted walk nodes
-    → StandsFor types ctxs (Some h) walk (machine.deliver g (frame_at types ctxs f ∷ frames_at types ctxs walk.frames.items) nodes)
-stands_last types ctxs f d n g h walk nodes is few gives are noted = record {
-  nodes = nodes;
-  comes_to = given_last types ctxs f d n g (given_at types h) (frames_at types ctxs walk.frames.items) nodes is few gives;
-  unsettled = under_conflict types ctxs f d n (length nodes) (frames_at types ctxs walk.frames.items) nodes is are;
-  noted = noted;
-}
-
 -- ---- what is given is handed on
 
 -- what a frame makes of what it is given, for the walk that had the frame
@@ -160,19 +148,6 @@ stands_passed old new ctxs p next g f walk rest after is popped same passes s st
     ap (λ xs. machine.deliver (given_at old g) xs nodes) (sym fs) ∙ ap (λ (o : Option Given). given_on old o (frames_at old ctxs walk.frames.items) nodes) (sym is) ∙ stands.comes_to in
     stands_for new ctxs next after (machine.deliver (given_at old g) (frame_at old ctxs f ∷ frames_at old ctxs rest.frames.items) nodes) s to
     (passes nodes (subst (λ xs. AreUnsettled (length nodes) xs nodes) fs stands.unsettled) (λ h. stands.noted.0 (sym same ∙ h), λ h. same ∙ stands.noted.1 h))
-
--- where nothing is open, what is given goes nowhere
-pub stands_whole : (types : List Typ) (ctxs : List Context) (p : Option Given) (g : Given) (walk after : Walk) (s : machine.State)
-    → p ≡ Some g → walk.frames.items ≡ [] → after.frames.items ≡ [] → after.has_mark ≡ walk.has_mark → StandsFor types ctxs p walk s → StandsFor types ctxs None after s
-stands_whole types ctxs p g walk after s is before now same stands =
-    let nodes : List MarkedNode = stands.nodes in
-    record {
-      nodes = nodes;
-      comes_to = ap (λ fs. machine.at (frames_at types ctxs fs) nodes) now ∙ ap (λ fs. machine.deliver (given_at types g) (frames_at types ctxs fs) nodes) (sym before)
-          ∙ ap (λ (o : Option Given). given_on types o (frames_at types ctxs walk.frames.items) nodes) (sym is) ∙ stands.comes_to;
-      unsettled = subst (λ fs. AreUnsettled (length nodes) (frames_at types ctxs fs) nodes) (sym now) tt;
-      noted = (λ h. stands.noted.0 (sym same ∙ h), λ h. same ∙ stands.noted.1 h);
-    }
 
 -- ---- a node is begun
 
