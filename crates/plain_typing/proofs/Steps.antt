@@ -25,7 +25,7 @@ use Rattle.judging.specs.declared.frame.Closed.{Closed}
 use Rattle.judging.specs.Machine as machine
 use Rattle.judging.specs.Frames.{given_at, opened_at, left_of, frame_at, frames_at, closed_at, filled_with, IsGivenOf, IsFrameOf, AreFramesOf}
 use Rattle.judging.proofs.Kept.{contexts-itself, frames_at-push, frames_at-kept}
-use Rattle.judging.proofs.Frames.{stays_open, closes, given_fills, given_several, given_last, begins_vertex, begins_conflict}
+use Rattle.judging.proofs.Frames.{stays_open, closes, given_fills, given_several, begins_vertex, begins_conflict}
 use Rattle.plain_typing.specs.declared.walking.Walk.{Walk}
 use Rattle.plain_typing.specs.Walking.{IsUnmarkedAt, AreUnsettled, IsNoted, given_on, StandsFor}
 use Rattle.plain_typing.proofs.Unmarked.{unmarked_plain}

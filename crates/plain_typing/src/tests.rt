@@ -6,7 +6,7 @@ use ctx_table::CtxTable;
 use grove_edits::{Edge, Vertex};
 use grove_names::Name;
 use grove_sorts::{Ctor, Position, Sort, read_ident};
-use grove_terms::{Node, NoMemory, Tree, What};
+use grove_terms::{NoMemory, Node, Tree, What};
 use std::alloc::Global;
 use std::test::Fail;
 use type_core::TypeTable;
