@@ -1,0 +1,8 @@
+use Rattle.plain_typing.proofs.Samples.{sum, conflict, conflict_sorted, three_under}
+use Rattle.plain_typing.proofs.tests.a_conflict_of_numbers_is_typed.Goals as goal
+
+pub is_typed-requires : goal.is_typed-requires
+is_typed-requires g c =
+    let listed =
+    three_under c.in_ok-tree.tree _ _ c.child.result c.child-2.result c.child-3.result _ _ _ c.in_ok-tree.ensures c.child.ensures c.child-2.ensures c.child-3.ensures in
+    record { sorted = record { head = sum; forest = conflict; well_sorted = conflict_sorted; listed = listed } }
