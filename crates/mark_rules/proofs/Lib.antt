@@ -1,5 +1,3 @@
-pub mod Running
 pub mod Kept
-pub mod Filling
 pub mod Walks
 pub mod Marks

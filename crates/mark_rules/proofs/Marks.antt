@@ -12,10 +12,10 @@ use Rattle.mark_rules.specs.declared.taking.Walk.{Walk}
 use Rattle.mark_rules.specs.Reading.{meant_nodes}
 use Rattle.mark_rules.specs.Numbers.{AreMarkedNodesOf, AreMarkedListsOf}
 use Rattle.marking.specs.Sorted.{IsSortedTree, AreSortedTrees}
-use Rattle.mark_rules.specs.Machine.{State, at, step, run}
-use Rattle.mark_rules.specs.Walking.{state_at, frames_at, IsWalkOf}
+use Rattle.judging.specs.Machine.{State, at, step, run}
+use Rattle.mark_rules.specs.Walking.{state_at}
 use Rattle.mark_rules.proofs.Kept.{meant_nodes_kept, marked_nodes_kept}
-use Rattle.mark_rules.proofs.Running.{tree_marked}
+use Rattle.judging.proofs.Running.{tree_marked}
 
 -- one more node is taken
 pub one_more_node : (s t end : State) (left rest : List Node) (n : Node) → left ≡ n ∷ rest → t ≡ step s n → run s left ≡ end → run t rest ≡ end

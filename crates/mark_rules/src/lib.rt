@@ -2,16 +2,13 @@
 //! tests marks and prints them stands on this crate.
 #![tactic(auto)]
 
-mod closing;
 mod erasing;
-mod frame;
 mod marked_grove;
 mod marked_node;
 mod marked_tree;
 mod marked_tree_list;
 mod marking_trees;
 mod no_memory;
-mod opening;
 mod taking;
 
 pub use erasing::erase;

@@ -1,4 +1,4 @@
-ghost use Rattle.std.specs.Prelude.{◌≡◌, ◌∷◌, ◌++◌, [], drop, length, IfOk, OnOk, IfSome, Some};
+ghost use Rattle.std.specs.Prelude.{◌≡◌, List, ◌∷◌, ◌++◌, [], drop, length, IfOk, OnOk, IfSome, Some};
 ghost use Rattle.grove_sorts.specs.Ctor.{sort_of_ctor};
 ghost use Rattle.type_core.specs.Typ.{Typ};
 ghost use Rattle.type_core.specs.TypeTable.{KeepsTypes};
@@ -6,20 +6,19 @@ ghost use Rattle.ctx_table.specs.CtxTable.{KeepsContexts};
 ghost use Rattle.mark_step.specs.Node.{wanted_at, demanded_at, IsModeOf, IsDemandOf};
 ghost use Rattle.marking.specs.Marking.{marked_plain, marked_tree};
 ghost use Rattle.mark_rules.specs.Reading.{meant, meant_nodes};
-ghost use Rattle.mark_rules.specs.Machine as machine;
-ghost use Rattle.mark_rules.specs.Machine.{at, deliver, opened, taken, step, unsettled};
+ghost use Rattle.judging.specs.Machine as machine;
+ghost use Rattle.judging.specs.Machine.{deliver, opened, taken, step};
+ghost use Rattle.judging.specs.Frames.{given_at, opened_at, left_of, frame_at, frames_at, IsGivenOf, IsOpenOf, IsFrameOf};
 ghost use Rattle.mark_rules.specs.Numbers.{IsMarkedNodeOf, AreMarkedNodesOf};
-ghost use Rattle.mark_rules.specs.Walking.{given_at, opened_at, left_of, frame_at, frames_at, state_at, given_on, IsGivenOf, IsOpenOf, IsFrameOf, IsWalkOf};
+ghost use Rattle.mark_rules.specs.Walking.{state_at, given_on, IsWalkOf};
 
-use crate::closing::{close, untyped};
-use crate::frame::{Frame, Given, OpenVertex};
 use crate::marked_node::MarkedNode;
 use crate::marked_tree::MarkedTree;
 use crate::no_memory::NoMemory;
-use crate::opening::{demand_next, fill, fresh, nothing};
 use ctx_table::CtxTable;
 use grove_sorts::{Sort, position_count, sort_of};
-use grove_terms::{Node, Tree, What};
+use grove_terms::{Node, What};
+use judging::{Frame, Given, OpenVertex, close, demand_next, fill, fresh, nothing};
 use mark_step::{Demand, Mark, Mode};
 use std::alloc::Global;
 use type_core::TypeTable;
@@ -29,6 +28,19 @@ use type_core::TypeTable;
 pub(crate) struct Walk {
     pub(crate) frames: Vec<Frame>,
     pub(crate) out: MarkedTree,
+}
+
+// The node of an open vertex, which is not marked yet.
+fn unsettled(node: &Node) -> MarkedNode
+    ensures node { (types : List Typ) → meant types result ≡ machine.unsettled node.now }
+    ensures numbers { (types : List Typ) → IsMarkedNodeOf types result }
+{
+    MarkedNode {
+        node: *node,
+        mode: None,
+        typ: None,
+        mark: Mark::None,
+    }
 }
 
 // The node of a position without a sole child, or of a reference.
@@ -92,7 +104,13 @@ fn go_on(
         return Ok(None);
     }
     let closed = close(alloc, types, ctxs, &vertex)?;
-    walk.out.set(vertex.place, closed.node);
+    let node = MarkedNode {
+        node: vertex.node,
+        mode: closed.mode,
+        typ: closed.typ,
+        mark: closed.mark,
+    };
+    walk.out.set(vertex.place, node);
     Ok(Some(closed.given))
 }
 
@@ -172,7 +190,7 @@ fn begin(
     match node.what {
         What::Vertex(vertex) => {
             let place = walk.out.len();
-            walk.out.push(untyped(node))?;
+            walk.out.push(unsettled(node))?;
             let begun = fresh(types, place, node, vertex.ctor, demand);
             go_on(alloc, types, ctxs, walk, begun)
         }

@@ -1,0 +1,3 @@
+pub mod UnmarkedRows
+pub mod Unmarked
+pub mod Typings

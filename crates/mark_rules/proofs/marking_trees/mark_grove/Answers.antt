@@ -1,4 +1,4 @@
-use Rattle.mark_rules.proofs.Kept.{types-then}
+use Rattle.judging.proofs.Kept.{types-then}
 use Rattle.mark_rules.proofs.Marks.{marked_trees_kept, lists_kept}
 use Rattle.mark_rules.proofs.marking_trees.mark_grove.Goals as goal
 

@@ -1,6 +1,6 @@
 use Rattle.std.proofs.Common.{◌≡◌, drop, [], ap, ◌∙◌, arith}
 use Rattle.std.proofs.lemmas.Grind.{common_steps}
-use Rattle.mark_rules.specs.Machine.{at, run}
+use Rattle.judging.specs.Machine.{at, run}
 use Rattle.mark_rules.proofs.Marks.{all_taken}
 use Rattle.mark_rules.proofs.marking_trees.mark_tree.Goals as goal
 

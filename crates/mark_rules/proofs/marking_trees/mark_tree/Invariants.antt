@@ -1,7 +1,7 @@
 use Rattle.std.proofs.Common.{◌≡◌, [], drop}
 use Rattle.type_core.specs.TypeTable.{KeepsTypes}
 use Rattle.ctx_table.specs.CtxTable.{KeepsContexts}
-use Rattle.mark_rules.specs.Machine.{at, run}
+use Rattle.judging.specs.Machine.{at, run}
 use Rattle.mark_rules.specs.Walking.{state_at, IsWalkOf}
 use Rattle.mark_rules.proofs.marking_trees.mark_tree.Given as goal
 

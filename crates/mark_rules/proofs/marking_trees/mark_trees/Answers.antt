@@ -1,7 +1,7 @@
 use Rattle.std.proofs.Common.{◌≡◌, ◌∷◌, ◌+◌, drop, List, [], refl, subst, arith}
 use Rattle.std.proofs.lemmas.Grind.{common_steps}
 use Rattle.grove_terms.specs.declared.node.Node.{Node}
-use Rattle.mark_rules.proofs.Kept.{types-then, contexts-then}
+use Rattle.judging.proofs.Kept.{types-then, contexts-then}
 use Rattle.mark_rules.proofs.Marks.{one_more_tree, more_numbers, rest_sorted, marked_for}
 use Rattle.mark_rules.proofs.marking_trees.mark_trees.Goals as goal
 

@@ -1,10 +1,12 @@
 use Rattle.std.proofs.Common.{rules, ◌≡◌, ◌≤◌, ◌<◌, ◌+◌, ◌-◌, ◌∷◌, ◌++◌, [], length, ℕ, Some, None, sym, ap, ◌∙◌, refl, arith}
-use Rattle.mark_rules.proofs.Walks.{stays_open, is_closed, still_marked, framed}
-use Rattle.mark_rules.proofs.Kept.{frames_kept, contexts-itself}
+use Rattle.judging.proofs.Kept.{frames_kept, contexts-itself}
+use Rattle.judging.proofs.Frames.{stays_open, framed}
+use Rattle.mark_rules.specs.Reading.{meant_nodes}
+use Rattle.mark_rules.proofs.Walks.{is_closed, still_marked}
 use Rattle.mark_rules.proofs.taking.go_on.Goals as goal
 
 pub returns-then-vertex-position_count-clause-state : goal.returns-then-vertex-position_count-clause-state
-returns-then-vertex-position_count-clause-state c = stays_open c.args.types.now c.args.ctxs.now c.args.vertex c.args.walk.now.frames.items c.push.new.self.items c.args.walk.now.out (omega arith) c.in_ok-push.ensures.items
+returns-then-vertex-position_count-clause-state c = stays_open c.args.types.now c.args.ctxs.now c.args.vertex c.args.walk.now.frames.items c.push.new.self.items (meant_nodes c.args.types.now c.args.walk.now.out) (omega arith) c.in_ok-push.ensures.items
 
 pub returns-then-vertex-position_count-clause-walk : goal.returns-then-vertex-position_count-clause-walk
 returns-then-vertex-position_count-clause-walk c = record {
@@ -14,11 +16,11 @@ returns-then-vertex-position_count-clause-walk c = record {
 
 pub returns-clause-state : goal.returns-clause-state
 returns-clause-state c =
-    is_closed c.args.types.now c.close.new.types c.args.ctxs.now c.args.vertex c.in_ok-closed.closed.given c.in_ok-closed.closed.node c.args.walk.now.frames.items c.args.walk.now.out c.set.new.self c.in_ok-closed.ensures.kept
+    is_closed c.args.types.now c.close.new.types c.args.ctxs.now c.args.vertex c.in_ok-closed.closed c.args.walk.now.frames.items c.args.walk.now.out c.set.new.self c.in_ok-closed.ensures.kept
     c.requires.walk.frames c.requires.walk.out (omega arith) c.in_ok-closed.ensures.node c.in_ok-closed.ensures.given c.set.ensures
 
 pub returns-clause-walk : goal.returns-clause-walk
 returns-clause-walk c = record {
   frames = frames_kept c.args.types.now c.close.new.types c.args.ctxs.now c.args.ctxs.now c.in_ok-closed.ensures.kept (contexts-itself c.args.ctxs.now) c.args.walk.now.frames.items c.requires.walk.frames;
-  out = still_marked c.args.types.now c.close.new.types c.args.vertex.place c.in_ok-closed.closed.node c.args.walk.now.out c.set.new.self c.in_ok-closed.ensures.kept c.requires.walk.out c.in_ok-closed.ensures.numbers.node c.set.ensures;
+  out = still_marked c.args.types.now c.close.new.types c.args.vertex c.in_ok-closed.closed c.args.walk.now.out c.set.new.self c.in_ok-closed.ensures.kept c.requires.walk.out c.in_ok-closed.ensures.numbers c.set.ensures;
 }

@@ -1,8 +1,9 @@
 use Rattle.std.proofs.Common.{rules, ◌≡◌, ◌≤◌, ◌<◌, ◌+◌, ◌-◌, ◌∷◌, ◌++◌, [], length, ℕ, Some, None, sym, ap, ◌∙◌, refl, arith}
 use Rattle.mark_rules.specs.Reading.{meant_nodes}
-use Rattle.mark_rules.specs.Walking.{given_at, given_on, frames_at}
-use Rattle.mark_rules.proofs.Kept.{types-then}
-use Rattle.mark_rules.proofs.Walks.{popped, rest_are, off_is, given_along}
+use Rattle.judging.specs.Frames.{given_at}
+use Rattle.judging.proofs.Kept.{types-then}
+use Rattle.judging.proofs.Frames.{popped, rest_are, off_is}
+use Rattle.mark_rules.proofs.Walks.{given_along}
 use Rattle.mark_rules.proofs.taking.hand_on.Goals as goal
 
 pub pass-requires-clause-walk : goal.pass-requires-clause-walk

@@ -1,7 +1,8 @@
 use Rattle.std.proofs.Common.{◌≡◌, IfSome}
 use Rattle.type_core.specs.TypeTable.{KeepsTypes}
-use Rattle.mark_rules.specs.Walking.{given_on, IsGivenOf, IsWalkOf}
-use Rattle.mark_rules.proofs.Walks.{pending}
+use Rattle.judging.specs.Frames.{IsGivenOf}
+use Rattle.judging.proofs.Frames.{pending}
+use Rattle.mark_rules.specs.Walking.{given_on, IsWalkOf}
 use Rattle.mark_rules.proofs.taking.hand_on.Given as goal
 
 abbrev pub invariant-loop-pending : goal.invariant-loop-pending

@@ -1,8 +1,10 @@
 use Rattle.std.proofs.Common.{rules, ◌≡◌, ◌≤◌, ◌<◌, ◌+◌, ◌-◌, ◌∷◌, ◌++◌, [], length, ℕ, Some, None, sym, ap, ◌∙◌, refl, arith}
-use Rattle.mark_rules.specs.declared.frame.Frame.TheVariants.{Open, Several}
+use Rattle.judging.specs.declared.frame.Frame.TheVariants.{Open, Several}
 use Rattle.mark_rules.specs.Reading.{meant_nodes}
-use Rattle.mark_rules.specs.Walking.{given_at, given_on, frames_at}
-use Rattle.mark_rules.proofs.Walks.{given_is, given_fills, given_several, several_are, given_last, if_ok_then}
+use Rattle.judging.specs.Frames.{given_at, frames_at}
+use Rattle.judging.proofs.Results.{if_ok_then}
+use Rattle.judging.proofs.Frames.{given_is, given_fills, given_several, several_are}
+use Rattle.mark_rules.specs.Walking.{given_on}
 use Rattle.mark_rules.proofs.taking.pass.Goals as goal
 
 pub go_on-requires-clause-vertex : goal.go_on-requires-clause-vertex
@@ -13,7 +15,7 @@ go_on-requires-clause-vertex c =
 pub returns-then-left-gt1-clause-state : goal.returns-then-left-gt1-clause-state
 returns-then-left-gt1-clause-state c =
     let is : c.args.frame ≡ Several c.in-Several.demand c.in-Several.left = cc in
-    given_several c.args.types.now c.args.ctxs.now c.args.frame c.in-Several.demand c.in-Several.left (given_at c.args.types.now c.args.given) c.args.walk.now.frames.items c.push.new.self.items c.args.walk.now.out is (omega arith)
+    given_several c.args.types.now c.args.ctxs.now c.args.frame c.in-Several.demand c.in-Several.left (given_at c.args.types.now c.args.given) c.args.walk.now.frames.items c.push.new.self.items (meant_nodes c.args.types.now c.args.walk.now.out) is (omega arith)
     c.in_ok-push-in-Several.ensures.items
 
 pub returns-then-left-gt1-clause-walk : goal.returns-then-left-gt1-clause-walk

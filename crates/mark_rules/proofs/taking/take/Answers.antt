@@ -1,8 +1,9 @@
 use Rattle.std.proofs.Common.{◌≡◌, sym, ap, ◌∙◌}
-use Rattle.mark_rules.specs.Machine.{demanded_next}
-use Rattle.mark_rules.specs.Walking.{state_at, given_on, frames_at}
+use Rattle.judging.specs.Machine.{demanded_next}
+use Rattle.judging.specs.Frames.{frames_at}
+use Rattle.judging.proofs.Results.{on_ok_then}
 use Rattle.mark_rules.proofs.Kept.{walk_kept}
-use Rattle.mark_rules.proofs.Walks.{on_ok_then, took}
+use Rattle.mark_rules.proofs.Walks.{took}
 use Rattle.mark_rules.proofs.taking.take.Goals as goal
 
 pub begin-requires-clause-walk : goal.begin-requires-clause-walk

@@ -1,12 +1,13 @@
-ghost use Rattle.std.specs.Prelude.{◌≡◌, slice_get, ◌<◌, ◌-◌, [], ◌∷◌, length, None, unwrap_or, IfOk};
+ghost use Rattle.std.specs.Prelude.{◌≡◌, slice_get, ◌<◌, ◌-◌, List, length, unwrap_or, IfOk};
 ghost use Rattle.grove_sorts.specs.declared.sort.Sort.{Sort};
 ghost use Rattle.grove_sorts.specs.Ctor.{positions};
-ghost use Rattle.type_core.specs.Typ as typ;
-ghost use Rattle.type_core.specs.TypeTable.{IsTypeOf, type_at, KeepsTypes};
+ghost use Rattle.type_core.specs.TypeTable.{KeepsTypes};
+ghost use Rattle.ctx_table.specs.Context.{Context};
 ghost use Rattle.ctx_table.specs.CtxTable.{KeepsContexts};
 ghost use Rattle.mark_step.specs.Node.{demanded_at, IsDemandOf, sort_at_index};
-ghost use Rattle.mark_rules.specs.Machine.{demanded_by, demanded_next, nothing};
-ghost use Rattle.mark_rules.specs.Walking.{given_at, opened_at, frames_at, filled_with, IsGivenOf, IsOpenOf, AreFramesOf};
+ghost use Rattle.judging.specs.Machine as machine;
+ghost use Rattle.judging.specs.Machine.{demanded_by, demanded_next};
+ghost use Rattle.judging.specs.Frames.{given_at, opened_at, left_of, frames_at, filled_with, IsGivenOf, IsOpenOf, AreFramesOf};
 
 use crate::frame::{Frame, Given, OpenVertex};
 use crate::no_memory::NoMemory;
@@ -34,9 +35,9 @@ fn sort_at_place(ctor: &Ctor, index: usize) -> Option<Sort>
     Some(sort)
 }
 
-// What is given where there is neither a type nor a name.
-pub(crate) fn nothing(types: &TypeTable) -> Given
-    ensures given { given_at types.now result ≡ nothing }
+/// What is given where there is neither a type nor a name.
+pub fn nothing(types: &TypeTable) -> Given
+    ensures given { given_at types.now result ≡ machine.nothing }
     ensures number { IsGivenOf types.now result }
 {
     Given {
@@ -45,8 +46,8 @@ pub(crate) fn nothing(types: &TypeTable) -> Given
     }
 }
 
-// The vertex once the child at its next position has given something.
-pub(crate) fn fill(vertex: &OpenVertex, given: Given) -> OpenVertex
+/// The vertex once the child at its next position has given something.
+pub fn fill(vertex: &OpenVertex, given: Given) -> OpenVertex
     requires { vertex.now.next < length (positions vertex.now.view.ctor) }
     ensures { result ≡ filled_with (sort_at_index vertex.now.view.ctor vertex.now.next) given vertex.now }
 {
@@ -97,8 +98,9 @@ fn innermost(frames: &[Frame]) -> Option<Frame>
     frames.last().copied()
 }
 
-// What is demanded of the next node.
-pub(crate) fn demand_next(
+/// What is demanded of the next node, which is the head of the tree where nothing is open. The last frame is the innermost. The
+/// numbers of both tables keep their meaning, also where memory runs out.
+pub fn demand_next(
     alloc: Global,
     types: &mut TypeTable,
     ctxs: &mut CtxTable,
@@ -120,26 +122,11 @@ pub(crate) fn demand_next(
     }
 }
 
-// A vertex none of whose positions is marked.
-pub(crate) fn fresh(
-    types: &TypeTable,
-    place: usize,
-    node: &Node,
-    ctor: Ctor,
-    demand: Demand,
-) -> OpenVertex
-    ensures place { result.place ≡ place }
-    ensures node { result.node ≡ node.now }
-    ensures ctor { result.view.ctor ≡ ctor }
-    ensures ctx { result.view.ctx ≡ demand.ctx }
-    ensures mode { result.view.mode ≡ demand.mode }
-    ensures name { result.view.binder.name ≡ None }
-    ensures typ { type_at types.now result.view.binder.typ ≡ typ.Unknown }
-    ensures typ_number { IsTypeOf types.now result.view.binder.typ }
-    ensures earlier { type_at types.now result.earlier ≡ typ.Unknown }
-    ensures earlier_number { IsTypeOf types.now result.earlier }
-    ensures done { result.view.done ≡ None ∷ None ∷ None ∷ [] }
-    ensures next { result.next ≡ 0 }
+/// A vertex none of whose positions is judged, and of which this is demanded.
+pub fn fresh(types: &TypeTable, place: usize, node: &Node, ctor: Ctor, demand: Demand) -> OpenVertex
+    ensures opened { (ctxs : List Context) → opened_at types.now ctxs result ≡ machine.fresh place node.now ctor (demanded_at types.now ctxs demand) }
+    ensures left { left_of result ≡ positions ctor }
+    ensures numbers { (ctxs : List Context) → IsDemandOf types.now ctxs demand → IsOpenOf types.now ctxs result }
 {
     let unknown = types.unknown();
     OpenVertex {

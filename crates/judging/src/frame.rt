@@ -1,43 +1,46 @@
-use crate::marked_node::MarkedNode;
 use grove_sorts::Ident;
 use grove_terms::Node;
-use mark_step::{Demand, NodeView};
+use mark_step::{Demand, Mark, Mode, NodeView};
 use type_core::TypeId;
 
 /// What a child gives to the vertex that it stands under.
-#[derive(Clone, Copy, Debug)]
-pub(crate) struct Given {
+#[derive(Clone, Copy, Debug, PartialEq, Eq)]
+pub struct Given {
     /// Its type, unknown where it has none.
-    pub(crate) typ: TypeId,
+    pub typ: TypeId,
     /// Its name, where it is a pattern with one.
-    pub(crate) name: Option<Ident>,
+    pub name: Option<Ident>,
 }
 
-/// A vertex of which some positions are marked.
+/// A vertex of which some positions are judged.
 #[derive(Clone, Copy, Debug)]
-pub(crate) struct OpenVertex {
+pub struct OpenVertex {
     /// The index of its node.
-    pub(crate) place: usize,
-    pub(crate) node: Node,
+    pub place: usize,
+    pub node: Node,
     /// The vertex as its rule sees it. Its binder has the last type at a position for types.
-    pub(crate) view: NodeView,
+    pub view: NodeView,
     /// The type at such a position before it.
-    pub(crate) earlier: TypeId,
+    pub earlier: TypeId,
     /// The index of the position that comes next.
-    pub(crate) next: usize,
+    pub next: usize,
 }
 
 /// What is open.
 #[derive(Clone, Copy, Debug)]
-pub(crate) enum Frame {
+pub enum Frame {
     Open(OpenVertex),
     /// A conflict: what is demanded of its children, and how many are left.
     Several(Demand, u64),
 }
 
-/// A vertex that is marked: its node, and what it gives.
+/// A vertex whose positions are all judged: what marking adds to its node, and what it gives.
 #[derive(Clone, Copy, Debug)]
-pub(crate) struct Closed {
-    pub(crate) node: MarkedNode,
-    pub(crate) given: Given,
+pub struct Closed {
+    /// What is wanted of it, where it is an expression.
+    pub mode: Option<Mode>,
+    /// Its type, where it is an expression or a type.
+    pub typ: Option<TypeId>,
+    pub mark: Mark,
+    pub given: Given,
 }

@@ -1,9 +1,10 @@
-use Rattle.std.proofs.Common.{rules, ◌≡◌, ◌≤◌, ◌<◌, ◌+◌, ◌-◌, ◌∷◌, ◌++◌, [], length, ℕ, Some, None, sym, ap, ◌∙◌, refl, arith}
+use Rattle.std.proofs.Common.{◌≡◌, ◌-◌, [], length, Some, None, sym, ◌∙◌}
 use Rattle.std.specs.Prelude.{slice_get}
-use Rattle.mark_rules.specs.declared.frame.Frame.TheVariants.{Open, Several}
+use Rattle.judging.specs.declared.frame.Frame.TheVariants.{Open, Several}
 use Rattle.mark_step.specs.Node.{demanded_at}
-use Rattle.mark_rules.proofs.Walks.{outermost, if_ok_then, innermost_is, innermost_demands, next_of_open}
-use Rattle.mark_rules.proofs.opening.demand_next.Goals as goal
+use Rattle.judging.proofs.Results.{if_ok_then}
+use Rattle.judging.proofs.Frames.{outermost, innermost_is, innermost_demands, next_of_open}
+use Rattle.judging.proofs.opening.demand_next.Goals as goal
 
 pub demand_at-requires-clause-vertex : goal.demand_at-requires-clause-vertex
 demand_at-requires-clause-vertex c =

@@ -1,6 +1,6 @@
 -- A position is filled.
-use Rattle.std.proofs.Common.{◌≡◌, ◌≢◌, ℕ, zero, suc, ◌+◌, ◌<◌, ◌≤◌, ◌⊎◌, inl, inr, Bool, true, false, cond, List, [], ◌∷◌, ◌++◌, length, map, set, take, drop, Option, Some, None, IsSome, IfSome, refl, sym, ap, subst, ◌∙◌, arith, append-nil, length-take, length-set}
-use Rattle.std.specs.Prelude.{slice_get, if◌then◌else◌}
+use Rattle.std.proofs.Common.{◌≡◌, ℕ, zero, suc, ◌+◌, ◌<◌, ◌≤◌, ◌⊎◌, inl, inr, Bool, true, false, cond, List, [], ◌∷◌, ◌++◌, length, set, take, drop, Option, Some, None, IsSome, IfSome, refl, sym, ap, subst, ◌∙◌, arith, length-take, length-set}
+use Rattle.std.specs.Prelude.{slice_get}
 use Rattle.std.specs.Option.{option_map}
 use Rattle.std.specs.List.{slice_index_or}
 use Rattle.std.proofs.lemmas.List.{get_or-set_same, get_or-set_other}
@@ -16,11 +16,11 @@ use Rattle.type_core.specs.Typ.{Typ}
 use Rattle.type_core.specs.TypeTable.{IsTypeOf, type_at}
 use Rattle.ctx_table.specs.Context.{Context}
 use Rattle.mark_step.specs.Rows.{is_exp}
-use Rattle.mark_step.specs.Node.{AreNumbers, AreDoneBefore, IsNodeOf, sort_at_index, type_or_unknown, types_from}
-use Rattle.mark_rules.specs.declared.frame.Given.{Given}
-use Rattle.mark_rules.specs.declared.frame.OpenVertex.{OpenVertex}
-use Rattle.mark_rules.specs.Walking.{given_at, opened_at, left_of, filled_with, IsGivenOf, IsOpenOf}
-use Rattle.mark_rules.specs.Machine as machine
+use Rattle.mark_step.specs.Node.{AreNumbers, sort_at_index, type_or_unknown, types_from}
+use Rattle.judging.specs.declared.frame.Given.{Given}
+use Rattle.judging.specs.declared.frame.OpenVertex.{OpenVertex}
+use Rattle.judging.specs.Frames.{given_at, opened_at, left_of, filled_with, IsGivenOf, IsOpenOf}
+use Rattle.judging.specs.Machine as machine
 
 pub record Split (xs : List (Position × Sort)) (i : ℕ) (p : Position × Sort) (ps : List (Position × Sort)) : Type 0 where
   pub here : slice_get xs i ≡ Some p

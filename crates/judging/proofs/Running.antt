@@ -1,5 +1,5 @@
 -- Taking the nodes of a tree one by one gives its marked nodes.
-use Rattle.std.proofs.Common.{◌≡◌, ℕ, zero, suc, ◌+◌, Bool, true, false, cond, List, [], ◌∷◌, ◌++◌, length, map, Option, Some, None, refl, sym, ap, subst, ◌∙◌, append-nil, append_assoc, arith}
+use Rattle.std.proofs.Common.{◌≡◌, ℕ, zero, suc, ◌+◌, Bool, true, false, cond, List, [], ◌∷◌, ◌++◌, length, Some, None, refl, sym, ap, subst, ◌∙◌, append-nil, append_assoc, arith}
 use Rattle.std.specs.Prelude.{if◌then◌else◌, set, is_none}
 use Rattle.std.proofs.Math.Seq.{set-append_seam}
 use Rattle.grove_sorts.specs.declared.ctor.Ctor.{Ctor}
@@ -23,10 +23,10 @@ use Rattle.mark_step.specs.Scope.{Scope}
 use Rattle.mark_step.specs.Expression.{Wanted, Synthesise, Analyse, Expression, Demanded}
 use Rattle.mark_step.specs.Step.{demand}
 use Rattle.mark_step.specs.Rows.{is_exp}
-use Rattle.marking.specs.Types.{if_sole, type_in, child_name, tree_type, child_type, pattern_name}
-use Rattle.marking.specs.Marking.{MarkedNode, expression, judged_in, judged_child, marked_plain, marked_vertex, marked_place, marked_places, marked_children, by_itself, marked_tree, synthesised_in, children_types}
+use Rattle.marking.specs.Types.{if_sole, child_name, tree_type, child_type, pattern_name}
+use Rattle.marking.specs.Marking.{MarkedNode, expression, judged_in, judged_child, marked_plain, marked_vertex, marked_place, marked_places, marked_children, marked_tree, synthesised_in, children_types}
 use Rattle.mark_step.specs.Step.{settled}
-use Rattle.mark_rules.specs.Machine.{Given, nothing, of_type, of_name, Opened, Frame, Of, Several, State, at, given_of, head_of, unsettled, fresh, filled, demanded_by, demanded_next, deliver, opened, taken, step, run}
+use Rattle.judging.specs.Machine.{Given, nothing, of_type, of_name, Opened, Frame, Of, Several, State, at, given_of, head_of, unsettled, fresh, filled, demanded_by, demanded_next, deliver, opened, taken, step, run}
 
 pub run-append : (s : State) (xs ys : List Node) → run s (xs ++ ys) ≡ run (run s xs) ys
 run-append s [] ys = refl

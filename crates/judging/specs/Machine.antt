@@ -1,5 +1,5 @@
 -- The marking of the nodes of a tree, node by node: what is open when some nodes are taken, and which nodes are marked.
-use Rattle.std.specs.Prelude.{ℕ, zero, suc, List, [], ◌∷◌, ◌++◌, length, set, Option, None, Some, if◌then◌else◌}
+use Rattle.std.specs.Prelude.{ℕ, zero, suc, List, [], ◌∷◌, ◌++◌, length, set, Option, None, Some}
 use Rattle.grove_sorts.specs.declared.ident.Ident.{Ident}
 use Rattle.grove_sorts.specs.declared.ctor.Ctor.{Ctor}
 use Rattle.grove_sorts.specs.declared.ctor.Ctor.TheVariants.{TNum, TBool, TArrow, TProd}
@@ -13,8 +13,7 @@ use Rattle.grove_terms.specs.declared.node.What.TheVariants.{Vertex, Hole, Confl
 use Rattle.type_core.specs.declared.former.Former.TheVariants.{Arrow, Product}
 use Rattle.type_core.specs.Typ.{Typ, Unknown, Num, Boolean, Pair}
 use Rattle.mark_step.specs.declared.node.Mark.TheVariants as mark
-use Rattle.mark_step.specs.Scope.{Scope}
-use Rattle.mark_step.specs.Expression.{Wanted, Synthesise, Bound, Expression, Demanded}
+use Rattle.mark_step.specs.Expression.{Synthesise, Bound, Expression, Demanded}
 use Rattle.mark_step.specs.Step.{demand, settled}
 use Rattle.marking.specs.Types.{pattern_name}
 use Rattle.marking.specs.Marking.{MarkedNode, marked_plain, marked_expression, synthesised_in}

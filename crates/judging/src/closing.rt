@@ -1,20 +1,17 @@
-ghost use Rattle.std.specs.Prelude.{◌≡◌, length, Some, None, IfOk};
+ghost use Rattle.std.specs.Prelude.{◌≡◌, length, None, IfOk};
 ghost use Rattle.grove_sorts.specs.declared.sort.Sort.{Sort};
 ghost use Rattle.grove_sorts.specs.Ctor.{positions, sort_of_ctor};
 ghost use Rattle.mark_step.specs.declared.node.Mark.{Mark};
 ghost use Rattle.type_core.specs.TypeTable.{IsTypeOf, type_at, KeepsTypes};
 ghost use Rattle.marking.specs.Types.{pattern_name};
-ghost use Rattle.mark_rules.specs.Reading.{meant};
-ghost use Rattle.mark_rules.specs.Machine.{made, given_of, given_by_sort, head_of, head_by_sort, typed_node, of_type};
-ghost use Rattle.mark_rules.specs.Walking.{given_at, opened_at, IsOpenOf, IsClosedOf};
+ghost use Rattle.judging.specs.Machine.{made, given_of, given_by_sort, head_of, head_by_sort, typed_node, of_type};
+ghost use Rattle.judging.specs.Frames.{given_at, opened_at, closed_at, IsOpenOf, IsClosedOf};
 
 use crate::frame::{Closed, Given, OpenVertex};
-use crate::marked_node::MarkedNode;
 use crate::no_memory::NoMemory;
 use crate::opening::nothing;
 use ctx_table::CtxTable;
 use grove_sorts::{Ctor, Ident, Sort, sort_of};
-use grove_terms::Node;
 use mark_step::{Mark, settle};
 use std::alloc::Global;
 use type_core::{TypeId, TypeTable};
@@ -50,18 +47,18 @@ fn name_of(ctor: &Ctor) -> Option<Ident>
     }
 }
 
-// A node without a type.
-pub(crate) fn untyped(node: &Node) -> MarkedNode
-    ensures node { result.node ≡ node.now }
+// A vertex without a type, which gives this.
+fn untyped(given: Given) -> Closed
     ensures mode { result.mode ≡ None }
     ensures typ { result.typ ≡ None }
     ensures mark { result.mark ≡ Mark.None }
+    ensures given { result.given ≡ given }
 {
-    MarkedNode {
-        node: *node,
+    Closed {
         mode: None,
         typ: None,
         mark: Mark::None,
+        given,
     }
 }
 
@@ -74,19 +71,16 @@ fn close_expression(
     requires sort { sort_of_ctor vertex.now.view.ctor ≡ Sort.Exp }
     requires vertex { IsOpenOf types.old ctxs.now vertex.now }
     requires whole { vertex.now.next ≡ length (positions vertex.now.view.ctor) }
-    ensures node { IfOk result (λ c. meant types.new c.node ≡ head_by_sort Sort.Exp (opened_at types.old ctxs.now vertex.now)) }
+    ensures node { IfOk result (λ c. closed_at types.new vertex.now.node c ≡ head_by_sort Sort.Exp (opened_at types.old ctxs.now vertex.now)) }
     ensures given { IfOk result (λ c. given_at types.new c.given ≡ given_by_sort Sort.Exp (opened_at types.old ctxs.now vertex.now)) }
     ensures numbers { IfOk result (IsClosedOf types.new) }
     ensures kept { KeepsTypes types.old types.new }
 {
     let settled = settle(alloc, types, ctxs, &vertex.view)?;
     Ok(Closed {
-        node: MarkedNode {
-            node: vertex.node,
-            mode: Some(vertex.view.mode),
-            typ: Some(settled.typ),
-            mark: settled.mark,
-        },
+        mode: Some(vertex.view.mode),
+        typ: Some(settled.typ),
+        mark: settled.mark,
         given: Given {
             typ: settled.typ,
             name: None,
@@ -97,7 +91,7 @@ fn close_expression(
 fn close_type(types: &mut TypeTable, vertex: &OpenVertex) -> Result<Closed, NoMemory>
     requires earlier { IsTypeOf types.old vertex.now.earlier }
     requires last { IsTypeOf types.old vertex.now.view.binder.typ }
-    ensures node { IfOk result (λ c. meant types.new c.node ≡ typed_node vertex.now.node
+    ensures node { IfOk result (λ c. closed_at types.new vertex.now.node c ≡ typed_node vertex.now.node
         (made vertex.now.view.ctor (type_at types.old vertex.now.earlier) (type_at types.old vertex.now.view.binder.typ))) }
     ensures given { IfOk result (λ c. given_at types.new c.given
         ≡ of_type (made vertex.now.view.ctor (type_at types.old vertex.now.earlier) (type_at types.old vertex.now.view.binder.typ))) }
@@ -111,18 +105,16 @@ fn close_type(types: &mut TypeTable, vertex: &OpenVertex) -> Result<Closed, NoMe
         vertex.view.binder.typ,
     )?;
     Ok(Closed {
-        node: MarkedNode {
-            node: vertex.node,
-            mode: None,
-            typ: Some(typ),
-            mark: Mark::None,
-        },
+        mode: None,
+        typ: Some(typ),
+        mark: Mark::None,
         given: Given { typ, name: None },
     })
 }
 
-/// The marked node of a vertex whose positions are all marked, and what it gives.
-pub(crate) fn close(
+/// What marking adds to the node of a vertex whose positions are all judged, and what the vertex gives. The numbers of the table keep
+/// their meaning, also where memory runs out.
+pub fn close(
     alloc: Global,
     types: &mut TypeTable,
     ctxs: &CtxTable,
@@ -130,7 +122,7 @@ pub(crate) fn close(
 ) -> Result<Closed, NoMemory>
     requires vertex { IsOpenOf types.old ctxs.now vertex.now }
     requires whole { vertex.now.next ≡ length (positions vertex.now.view.ctor) }
-    ensures node { IfOk result (λ c. meant types.new c.node ≡ head_of (opened_at types.old ctxs.now vertex.now)) }
+    ensures node { IfOk result (λ c. closed_at types.new vertex.now.node c ≡ head_of (opened_at types.old ctxs.now vertex.now)) }
     ensures given { IfOk result (λ c. given_at types.new c.given ≡ given_of (opened_at types.old ctxs.now vertex.now)) }
     ensures numbers { IfOk result (IsClosedOf types.new) }
     ensures kept { KeepsTypes types.old types.new }
@@ -138,16 +130,10 @@ pub(crate) fn close(
     match sort_of(&vertex.view.ctor) {
         Sort::Exp => close_expression(alloc, types, ctxs, vertex),
         Sort::Typ => close_type(types, vertex),
-        Sort::Pat => Ok(Closed {
-            node: untyped(&vertex.node),
-            given: Given {
-                typ: types.unknown(),
-                name: name_of(&vertex.view.ctor),
-            },
-        }),
-        Sort::Top => Ok(Closed {
-            node: untyped(&vertex.node),
-            given: nothing(types),
-        }),
+        Sort::Pat => Ok(untyped(Given {
+            typ: types.unknown(),
+            name: name_of(&vertex.view.ctor),
+        })),
+        Sort::Top => Ok(untyped(nothing(types))),
     }
 }

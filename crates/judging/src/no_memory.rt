@@ -1,0 +1,26 @@
+use std::error::Error;
+use std::fmt;
+
+/// Memory ran out.
+#[derive(Clone, Copy, Debug, PartialEq, Eq)]
+pub struct NoMemory;
+
+impl fmt::Display for NoMemory {
+    fn fmt<W: fmt::Write>(&self, f: &mut fmt::Formatter<W>) -> fmt::Result {
+        f.write_str("out of memory")
+    }
+}
+
+impl Error for NoMemory {}
+
+impl From<type_core::NoMemory> for NoMemory {
+    fn from(_error: type_core::NoMemory) -> NoMemory {
+        NoMemory
+    }
+}
+
+impl From<mark_step::NoMemory> for NoMemory {
+    fn from(_error: mark_step::NoMemory) -> NoMemory {
+        NoMemory
+    }
+}

@@ -1,0 +1,34 @@
+ghost use Rattle.std.specs.Prelude.{◌↔◌, IfOk, IsTrue};
+ghost use Rattle.type_core.specs.TypeTable.{KeepsTypes};
+ghost use Rattle.ctx_table.specs.CtxTable.{KeepsContexts};
+ghost use Rattle.marking.specs.Sorted.{IsSortedTree};
+ghost use Rattle.plain_typing.specs.Typed.{IsTypedTree};
+
+use crate::no_memory::NoMemory;
+use crate::walking::{Walk, take};
+use ctx_table::CtxTable;
+use grove_terms::Tree;
+use std::alloc::Global;
+use type_core::TypeTable;
+
+/// Whether a well-sorted tree is typed. The numbers of both tables keep their meaning, also where memory runs out.
+pub fn is_typed(
+    alloc: Global,
+    tree: &Tree,
+    types: &mut TypeTable,
+    ctxs: &mut CtxTable,
+) -> Result<bool, NoMemory>
+    requires sorted { IsSortedTree tree.now }
+    ensures typed { IfOk result (λ typed. IsTrue typed ↔ IsTypedTree tree.now) }
+    ensures types { KeepsTypes types.old types.new }
+    ensures contexts { KeepsContexts ctxs.old ctxs.new }
+{
+    let mut walk = Walk {
+        frames: Vec::new(alloc),
+        has_mark: false,
+    };
+    for (place, node) in tree.as_slice().iter().enumerate() {
+        take(alloc, types, ctxs, &mut walk, place, node)?;
+    }
+    Ok(!walk.has_mark)
+}

@@ -1,0 +1,173 @@
+ghost use Rattle.std.specs.Prelude.{◌≡◌, ◌∷◌, List, length, IfOk, OnOk, IfSome, Some};
+ghost use Rattle.type_core.specs.TypeTable.{KeepsTypes};
+ghost use Rattle.ctx_table.specs.CtxTable.{KeepsContexts};
+ghost use Rattle.mark_step.specs.Node.{demanded_at, IsDemandOf};
+ghost use Rattle.marking.specs.Marking.{MarkedNode, has_mark};
+ghost use Rattle.judging.specs.Machine.{State, deliver, opened, taken, step};
+ghost use Rattle.judging.specs.Frames.{given_at, opened_at, left_of, frame_at, frames_at, IsGivenOf, IsOpenOf, IsFrameOf, AreFramesOf};
+ghost use Rattle.plain_typing.specs.Walking.{IsUnmarkedAt, AreUnsettled, IsNoted, StandsFor};
+
+use crate::no_memory::NoMemory;
+use ctx_table::CtxTable;
+use grove_sorts::position_count;
+use grove_terms::{Node, What};
+use judging::{Frame, Given, OpenVertex, close, demand_next, fill, fresh, nothing};
+use mark_step::{Demand, Mark, Mode};
+use std::alloc::Global;
+use type_core::TypeTable;
+
+/// A tree of which some nodes are judged: what is open, innermost last, and whether a vertex that is closed has a mark.
+#[derive(Debug, Drop)]
+pub(crate) struct Walk {
+    pub(crate) frames: Vec<Frame>,
+    pub(crate) has_mark: bool,
+}
+
+fn is_mark(mark: Mark) -> bool
+    ensures { result ≡ has_mark mark }
+{
+    !matches!(mark, Mark::None)
+}
+
+// Opens the vertex where some of its positions are left, and else closes it and tells what it gives.
+fn go_on(
+    alloc: Global,
+    types: &mut TypeTable,
+    ctxs: &CtxTable,
+    walk: &mut Walk,
+    vertex: OpenVertex,
+) -> Result<Option<Given>, NoMemory>
+    requires frames { AreFramesOf types.old ctxs.now walk.old.frames.items }
+    requires vertex { IsOpenOf types.old ctxs.now vertex }
+    ensures state { IfOk result (λ given. (nodes : List MarkedNode) → IsUnmarkedAt nodes vertex.place
+        → AreUnsettled vertex.place (frames_at types.old ctxs.now walk.old.frames.items) nodes → IsNoted walk.old nodes
+        → StandsFor types.new ctxs.now given walk.new
+        (opened (opened_at types.old ctxs.now vertex) (left_of vertex) (frames_at types.old ctxs.now walk.old.frames.items) nodes)) }
+    ensures given { IfOk result (λ given. IfSome given (IsGivenOf types.new)) }
+    ensures shorter { IfOk result (λ given. IfSome given (λ g. length walk.new.frames.items ≡ length walk.old.frames.items)) }
+    ensures frames { OnOk result (AreFramesOf types.new ctxs.now walk.new.frames.items) }
+    ensures kept { KeepsTypes types.old types.new }
+{
+    if vertex.next < position_count(&vertex.view.ctor) {
+        walk.frames.push(Frame::Open(vertex))?;
+        return Ok(None);
+    }
+    let closed = close(alloc, types, ctxs, &vertex)?;
+    if is_mark(closed.mark) {
+        walk.has_mark = true;
+    }
+    Ok(Some(closed.given))
+}
+
+// Gives something to a frame that was the innermost, and tells what that gives to the next one.
+fn pass(
+    alloc: Global,
+    types: &mut TypeTable,
+    ctxs: &CtxTable,
+    walk: &mut Walk,
+    frame: Frame,
+    given: Given,
+) -> Result<Option<Given>, NoMemory>
+    requires frames { AreFramesOf types.old ctxs.now walk.old.frames.items }
+    requires frame { IsFrameOf types.old ctxs.now frame }
+    requires given { IsGivenOf types.old given }
+    ensures state { IfOk result (λ g. (nodes : List MarkedNode)
+        → AreUnsettled (length nodes) (frame_at types.old ctxs.now frame ∷ frames_at types.old ctxs.now walk.old.frames.items) nodes → IsNoted walk.old nodes
+        → StandsFor types.new ctxs.now g walk.new (deliver (given_at types.old given)
+        (frame_at types.old ctxs.now frame ∷ frames_at types.old ctxs.now walk.old.frames.items) nodes)) }
+    ensures given { IfOk result (λ given. IfSome given (IsGivenOf types.new)) }
+    ensures shorter { IfOk result (λ given. IfSome given (λ g. length walk.new.frames.items ≡ length walk.old.frames.items)) }
+    ensures frames { OnOk result (AreFramesOf types.new ctxs.now walk.new.frames.items) }
+    ensures kept { KeepsTypes types.old types.new }
+{
+    match frame {
+        Frame::Open(vertex) => go_on(alloc, types, ctxs, walk, fill(&vertex, given)),
+        Frame::Several(demand, left) => {
+            if left > 1 {
+                walk.frames.push(Frame::Several(demand, left - 1))?;
+                return Ok(None);
+            }
+            Ok(Some(nothing(types)))
+        }
+    }
+}
+
+// Gives something to the innermost frame, and where that is whole, what it gives to the next one, and so on.
+fn hand_on(
+    alloc: Global,
+    types: &mut TypeTable,
+    ctxs: &CtxTable,
+    walk: &mut Walk,
+    given: Option<Given>,
+) -> Result<(), NoMemory>
+    requires frames { AreFramesOf types.old ctxs.now walk.old.frames.items }
+    requires given { IfSome given (IsGivenOf types.old) }
+    ensures state { OnOk result ((s : State) → StandsFor types.old ctxs.now given walk.old s → StandsFor types.new ctxs.now None walk.new s) }
+    ensures frames { OnOk result (AreFramesOf types.new ctxs.now walk.new.frames.items) }
+    ensures kept { KeepsTypes types.old types.new }
+{
+    let mut pending = given;
+    while let Some(given) = pending {
+        let Some(frame) = walk.frames.pop() else {
+            return Ok(());
+        };
+        pending = pass(alloc, types, ctxs, walk, frame, given)?;
+    }
+    Ok(())
+}
+
+// Judges a node, of which this is demanded, as far as it can be, and tells what it gives.
+fn begin(
+    alloc: Global,
+    types: &mut TypeTable,
+    ctxs: &CtxTable,
+    walk: &mut Walk,
+    place: usize,
+    node: &Node,
+    demand: Demand,
+) -> Result<Option<Given>, NoMemory>
+    requires frames { AreFramesOf types.old ctxs.now walk.old.frames.items }
+    requires demand { IsDemandOf types.old ctxs.now demand }
+    ensures state { IfOk result (λ given. (s : State) → StandsFor types.old ctxs.now None walk.old s → length s.out ≡ place
+        → StandsFor types.new ctxs.now given walk.new (taken node.now.what node.now (demanded_at types.old ctxs.now demand) s.frames s.out)) }
+    ensures given { IfOk result (λ given. IfSome given (IsGivenOf types.new)) }
+    ensures frames { OnOk result (AreFramesOf types.new ctxs.now walk.new.frames.items) }
+    ensures kept { KeepsTypes types.old types.new }
+{
+    match node.what {
+        What::Vertex(vertex) => {
+            let begun = fresh(types, place, node, vertex.ctor, demand);
+            go_on(alloc, types, ctxs, walk, begun)
+        }
+        What::Conflict(_, count) => {
+            let each = Demand {
+                ctx: demand.ctx,
+                mode: Mode::Syn,
+            };
+            walk.frames.push(Frame::Several(each, count))?;
+            Ok(None)
+        }
+        What::Hole(_) | What::MultiRef(_) | What::CycleRef(_) => Ok(Some(nothing(types))),
+    }
+}
+
+// Takes the next node, which stands at this place.
+pub(crate) fn take(
+    alloc: Global,
+    types: &mut TypeTable,
+    ctxs: &mut CtxTable,
+    walk: &mut Walk,
+    place: usize,
+    node: &Node,
+) -> Result<(), NoMemory>
+    requires frames { AreFramesOf types.old ctxs.old walk.old.frames.items }
+    ensures state { OnOk result ((s : State) → StandsFor types.old ctxs.old None walk.old s → length s.out ≡ place
+        → StandsFor types.new ctxs.new None walk.new (step s node.now)) }
+    ensures frames { OnOk result (AreFramesOf types.new ctxs.new walk.new.frames.items) }
+    ensures types { KeepsTypes types.old types.new }
+    ensures contexts { KeepsContexts ctxs.old ctxs.new }
+{
+    let demand = demand_next(alloc, types, ctxs, &walk.frames)?;
+    let given = begin(alloc, types, ctxs, walk, place, node, demand)?;
+    hand_on(alloc, types, ctxs, walk, given)
+}
