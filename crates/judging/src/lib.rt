@@ -13,3 +13,6 @@ pub use frame::{Closed, Frame, Given, OpenVertex};
 pub use laws::taking_all_nodes_marks_the_tree;
 pub use no_memory::NoMemory;
 pub use opening::{demand_next, fill, fresh, nothing};
+
+#[cfg(test)]
+mod tests;

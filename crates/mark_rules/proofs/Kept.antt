@@ -1,5 +1,5 @@
 -- The nodes so far, and a walk, stand for the same over tables that keep the meaning of their numbers.
-use Rattle.std.proofs.Common.{◌≡◌, ℕ, zero, suc, List, [], ◌∷◌, ◌++◌, length, map, set, Option, Some, None, IfSome, refl, sym, ap, subst, ◌∙◌}
+use Rattle.std.proofs.Common.{◌≡◌, ℕ, zero, suc, List, [], ◌∷◌, ◌++◌, length, set, Option, Some, None, IfSome, refl, ap, ◌∙◌}
 use Rattle.std.specs.Option.{option_map}
 use Rattle.type_core.specs.declared.type_id.TypeId.{TypeId}
 use Rattle.type_core.specs.Typ.{Typ}

@@ -1,10 +1,9 @@
 -- Trees and groves are marked.
-use Rattle.std.proofs.Common.{◌≡◌, ℕ, List, [], ◌∷◌, ◌++◌, map, drop, refl, sym, ap, subst, ◌∙◌, append-nil, append_assoc}
+use Rattle.std.proofs.Common.{◌≡◌, List, [], ◌∷◌, ◌++◌, map, refl, sym, ap, subst, ◌∙◌, append-nil, append_assoc}
 use Rattle.type_core.specs.Typ.{Typ}
 use Rattle.type_core.specs.TypeTable.{KeepsTypes}
 use Rattle.ctx_table.specs.Context.{Context}
 use Rattle.grove_terms.specs.declared.node.Node.{Node}
-use Rattle.grove_terms.specs.Nodes.{tree_nodes}
 use Rattle.marking.specs.Marking.{marked_tree, MarkedNode as MeantNode}
 use Rattle.marking.specs.Grove.{IsMarkedTree, AreMarkedTrees}
 use Rattle.mark_rules.specs.declared.marked_node.MarkedNode.{MarkedNode}

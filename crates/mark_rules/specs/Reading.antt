@@ -1,5 +1,5 @@
 -- What the nodes of marked trees stand for, over a table of types.
-use Rattle.std.specs.Prelude.{List, map, Option, None, Some}
+use Rattle.std.specs.Prelude.{List, map}
 use Rattle.std.specs.Option.{option_map}
 use Rattle.type_core.specs.Typ.{Typ}
 use Rattle.type_core.specs.TypeTable.{type_at}

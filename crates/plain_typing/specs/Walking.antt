@@ -1,5 +1,5 @@
 -- A walk over the nodes of a tree that keeps no marked nodes, and what it stands for.
-use Rattle.std.specs.Prelude.{◌≡◌, ◌↔◌, ℕ, zero, suc, ◌<◌, Bool, false, List, [], ◌∷◌, length, Option, None, Some}
+use Rattle.std.specs.Prelude.{◌≡◌, ◌↔◌, ℕ, zero, suc, ◌<◌, false, List, [], ◌∷◌, length, Option, None, Some}
 use Rattle.type_core.specs.Typ.{Typ}
 use Rattle.ctx_table.specs.Context.{Context}
 use Rattle.marking.specs.Marking.{MarkedNode, has_mark, HasNoMark}

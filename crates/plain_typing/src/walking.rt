@@ -53,9 +53,7 @@ fn go_on(
         return Ok(None);
     }
     let closed = close(alloc, types, ctxs, &vertex)?;
-    if is_mark(closed.mark) {
-        walk.has_mark = true;
-    }
+    walk.has_mark |= is_mark(closed.mark);
     Ok(Some(closed.given))
 }
 

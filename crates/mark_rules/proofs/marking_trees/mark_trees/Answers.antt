@@ -1,4 +1,4 @@
-use Rattle.std.proofs.Common.{◌≡◌, ◌∷◌, ◌+◌, drop, List, [], refl, subst, arith}
+use Rattle.std.proofs.Common.{◌≡◌, ◌∷◌, ◌+◌, drop, List, [], arith}
 use Rattle.std.proofs.lemmas.Grind.{common_steps}
 use Rattle.grove_terms.specs.declared.node.Node.{Node}
 use Rattle.judging.proofs.Kept.{types-then, contexts-then}

@@ -1,4 +1,4 @@
-use Rattle.std.proofs.Common.{◌≡◌, ◌∷◌, ◌++◌, [], sym, ap, ◌∙◌, refl}
+use Rattle.std.proofs.Common.{◌≡◌, ap, ◌∙◌, refl}
 use Rattle.grove_terms.specs.declared.node.What.TheVariants as whats
 use Rattle.mark_step.specs.declared.node.Demand.{Demand}
 use Rattle.mark_step.specs.declared.node.Mode.TheVariants.{Syn}

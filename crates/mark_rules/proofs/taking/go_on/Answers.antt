@@ -1,4 +1,4 @@
-use Rattle.std.proofs.Common.{rules, ◌≡◌, ◌≤◌, ◌<◌, ◌+◌, ◌-◌, ◌∷◌, ◌++◌, [], length, ℕ, Some, None, sym, ap, ◌∙◌, refl, arith}
+use Rattle.std.proofs.Common.{arith}
 use Rattle.judging.proofs.Kept.{frames_kept, contexts-itself}
 use Rattle.judging.proofs.Frames.{stays_open, framed}
 use Rattle.mark_rules.specs.Reading.{meant_nodes}

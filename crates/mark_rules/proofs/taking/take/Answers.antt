@@ -1,4 +1,4 @@
-use Rattle.std.proofs.Common.{◌≡◌, sym, ap, ◌∙◌}
+use Rattle.std.proofs.Common.{ap, ◌∙◌}
 use Rattle.judging.specs.Machine.{demanded_next}
 use Rattle.judging.specs.Frames.{frames_at}
 use Rattle.judging.proofs.Results.{on_ok_then}

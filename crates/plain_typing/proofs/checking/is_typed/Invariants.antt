@@ -1,0 +1,14 @@
+use Rattle.std.proofs.Common.{drop}
+use Rattle.type_core.specs.TypeTable.{KeepsTypes}
+use Rattle.ctx_table.specs.CtxTable.{KeepsContexts}
+use Rattle.judging.specs.Frames.{AreFramesOf}
+use Rattle.plain_typing.proofs.Checked.{HasCome}
+use Rattle.plain_typing.proofs.checking.is_typed.Given as goal
+
+abbrev pub invariant-loop-place : goal.invariant-loop-place
+invariant-loop-place l = record {
+  frames : AreFramesOf l.types l.ctxs l.walk.frames.items;
+  come : HasCome l.types l.ctxs l.walk l.place l.node-items (drop l.place l.node-items);
+  types : KeepsTypes l.fn.types l.types;
+  contexts : KeepsContexts l.fn.ctxs l.ctxs;
+}
