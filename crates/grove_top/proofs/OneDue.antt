@@ -1,6 +1,6 @@
 -- For any words and bytes one status and one text are due.
 use Rattle.std.specs.declared.alloc.Global.{Global}
-use Rattle.std.proofs.Common.{◌≡◌, ◌⊎◌, inl, inr, ℕ, suc, List, [], ◌∷◌, length, refl, sym, ap, subst, ◌∙◌, arith}
+use Rattle.std.proofs.Common.{◌≡◌, ◌⊎◌, inl, inr, ℕ, suc, List, [], ◌∷◌, length, get_or, nat_eq, if◌then◌else◌, refl, sym, ap, subst, ◌∙◌, arith}
 use Rattle.std.specs.Prelude.{String}
 use Rattle.grove_edits.specs.declared.edit.Edit.{Edit}
 use Rattle.grove_edits.specs.Graph.{graph, IsSame, IsCanonical, HasSameEdits}
@@ -169,17 +169,19 @@ one_command_due command text x y ReadFault t a b = absurd a
 one_command_due command text x y WriteFault t a b = absurd a
 one_command_due command text x y NoMemory t a b = absurd a
 
+-- the command that a word is of, by its first letter
+command_read : List ℕ → Command
+command_read word = if nat_eq (get_or word 0 0) 109 then Merge else if nat_eq (get_or word 0 0) 115 then Show else Check
+
+reads_back : (c : Command) → command_read (word_of c) ≡ c
+unfolding command_read
+reads_back Merge = refl
+reads_back Show = refl
+reads_back Check = refl
+
 -- the words are those of one command at most
 one_command_by : (c d : Command) → word_of c ≡ word_of d → c ≡ d
-one_command_by Merge Merge e = refl
-one_command_by Merge Show e = absurd cc
-one_command_by Merge Check e = absurd cc
-one_command_by Show Merge e = absurd cc
-one_command_by Show Show e = refl
-one_command_by Show Check e = absurd cc
-one_command_by Check Merge e = absurd cc
-one_command_by Check Show e = absurd cc
-one_command_by Check Check e = refl
+one_command_by c d e = sym (reads_back c) ∙ ap command_read e ∙ reads_back d
 
 tail_same : (x y : List ℕ) → x ∷ [] ≡ y ∷ [] → x ≡ y
 tail_same x y e = cc
