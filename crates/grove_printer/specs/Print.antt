@@ -1,5 +1,5 @@
 -- The print text of groves.
-use Rattle.std.specs.Prelude.{◌≡◌, ℕ, List, [], ◌∷◌, ◌++◌, length, Option, Some, None, codes, decimal}
+use Rattle.std.specs.Prelude.{◌≡◌, ℕ, List, [], ◌∷◌, ◌++◌, length, Option, Some, None, codes, decimal, if◌then◌else◌}
 use Rattle.grove_names.specs.Name.{name_text}
 use Rattle.grove_sorts.specs.declared.position.Position.{Position}
 use Rattle.grove_sorts.specs.declared.sort.Sort.{Sort}
@@ -14,7 +14,7 @@ use Rattle.type_core.specs.Typ.{Typ, type_text}
 use Rattle.mark_step.specs.declared.node.Mark.{Mark}
 use Rattle.mark_step.specs.declared.node.Mark.TheVariants as mark
 use Rattle.mark_step.specs.Expression.{Wanted, Synthesise, Analyse}
-use Rattle.marking.specs.Marking.{MarkedNode}
+use Rattle.marking.specs.Marking.{MarkedNode, has_mark}
 use Rattle.marking.specs.Grove.{MarkedTrees}
 
 -- new bytes begin with the old ones
@@ -109,3 +109,16 @@ abbrev pub print_text : MarkedTrees → List ℕ
 print_text grove =
     (heading (codes "none ") (length grove.none) ++ trees_text grove.none)
     ++ ((heading (codes "multi ") (length grove.multi) ++ trees_text grove.multi) ++ (heading (codes "cycle ") (length grove.cycle) ++ trees_text grove.cycle))
+
+-- the lines of the nodes that have a mark
+abbrev pub tree_marked_lines : List MarkedNode → List ℕ
+tree_marked_lines [] = []
+tree_marked_lines (m ∷ ms) = if has_mark m.mark then node_line m ++ tree_marked_lines ms else tree_marked_lines ms
+
+abbrev pub trees_marked_lines : List (List MarkedNode) → List ℕ
+trees_marked_lines [] = []
+trees_marked_lines (t ∷ ts) = tree_marked_lines t ++ trees_marked_lines ts
+
+-- the same of all trees, in the order of the print text and without its headings
+abbrev pub marked_lines : MarkedTrees → List ℕ
+marked_lines grove = trees_marked_lines grove.none ++ (trees_marked_lines grove.multi ++ trees_marked_lines grove.cycle)

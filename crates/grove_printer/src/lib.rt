@@ -2,10 +2,13 @@
 #![tactic(auto)]
 
 mod columns;
+mod line;
+mod marked_lines;
 mod marks;
 mod no_memory;
 mod print;
 
+pub use marked_lines::print_marked_lines;
 pub use no_memory::NoMemory;
 pub use print::print_grove;
 

@@ -4,6 +4,7 @@ ghost use Rattle.type_core.specs.TypeTable.{IsTypeOf, type_at};
 ghost use Rattle.mark_step.specs.Node.{IsModeOf, wanted_at};
 ghost use Rattle.mark_rules.specs.Reading.{meant};
 ghost use Rattle.mark_rules.specs.Numbers.{IsMarkedNodeOf};
+ghost use Rattle.marking.specs.Marking.{has_mark};
 ghost use Rattle.grove_printer.specs.Print.{Extends, sort_of_node, mode_column, type_column, mark_text, mark_columns};
 
 use crate::no_memory::NoMemory;
@@ -78,6 +79,12 @@ fn sort_of_node(what: &What) -> Sort
         }
         What::Hole(sort) | What::Conflict(sort, _) => *sort,
     }
+}
+
+pub(crate) fn has_mark(mark: Mark) -> bool
+    ensures { result ≡ has_mark mark }
+{
+    !matches!(mark, Mark::None)
 }
 
 fn mark_word(mark: Mark) -> &'static [u8]

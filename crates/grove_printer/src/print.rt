@@ -1,10 +1,9 @@
 ghost use Rattle.std.specs.Prelude.{◌≡◌, ◌++◌, length, map, OnOk, OnErr};
-ghost use Rattle.mark_rules.specs.Reading.{meant, meant_nodes, meant_grove};
-ghost use Rattle.mark_rules.specs.Numbers.{IsMarkedNodeOf, AreMarkedNodesOf, AreMarkedListsOf, IsMarkedGroveOf};
-ghost use Rattle.grove_printer.specs.Print.{Extends, node_line, tree_text, trees_text, heading, print_text};
+ghost use Rattle.mark_rules.specs.Reading.{meant_nodes, meant_grove};
+ghost use Rattle.mark_rules.specs.Numbers.{AreMarkedNodesOf, AreMarkedListsOf, IsMarkedGroveOf};
+ghost use Rattle.grove_printer.specs.Print.{Extends, tree_text, trees_text, heading, print_text};
 
-use crate::columns::append_columns;
-use crate::marks::append_marks;
+use crate::line::{append_line, whole_or_nothing};
 use crate::no_memory::NoMemory;
 use mark_rules::{MarkedGrove, MarkedNode, MarkedTree, MarkedTreeList};
 use text_parts::write_number;
@@ -22,10 +21,7 @@ pub fn print_grove(
 {
     let start = out.len();
     let written = append_grove(marked, types, out);
-    if written.is_err() {
-        out.truncate(start);
-    }
-    written
+    whole_or_nothing(written, start, out)
 }
 
 // After an error each of these functions may have appended a part.
@@ -76,17 +72,5 @@ fn append_tree(nodes: &[MarkedNode], types: &TypeTable, out: &mut Vec<u8>) -> Re
     for node in nodes {
         append_line(node, types, out)?;
     }
-    Ok(())
-}
-
-fn append_line(node: &MarkedNode, types: &TypeTable, out: &mut Vec<u8>) -> Result<(), NoMemory>
-    requires { IsMarkedNodeOf types.now node.now }
-    ensures appended { OnOk result (out.new.items ≡ out.old.items ++ node_line (meant types.now node.now)) }
-    ensures in_part { OnErr result (Extends out.old.items out.new.items) }
-{
-    append_columns(&node.node, out)?;
-    out.push(b' ')?;
-    append_marks(node, types, out)?;
-    out.push(b'\n')?;
     Ok(())
 }

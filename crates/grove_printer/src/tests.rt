@@ -1,35 +1,55 @@
+ghost use Rattle.std.specs.Prelude.{List, IfOk};
+ghost use Rattle.type_core.specs.Typ.{Typ};
+ghost use Rattle.mark_rules.specs.Numbers.{IsMarkedNodeOf, IsMarkedGroveOf};
+
 use super::*;
-use grove_edits::Vertex;
+use grove_edits::{Edge, Vertex};
 use grove_names::Name;
 use grove_sorts::{Ctor, Position, Sort};
 use grove_terms::{Node, What};
 use mark_rules::{MarkedGrove, MarkedNode, MarkedTree, MarkedTreeList};
 use mark_step::{Mark, Mode};
+use std::alloc::Global;
 use std::test::Fail;
 use type_core::TypeTable;
 
-#[test]
-fn a_marked_grove_is_printed(rt: HostRuntime) -> Result<(), Fail> {
-    let alloc = rt.alloc();
-    let types = TypeTable::new(alloc)?;
-    let root = Vertex {
-        name: Name {
-            author: 0,
-            counter: 0,
-        },
-        ctor: Ctor::Root,
-    };
+fn vertex(author: u32, counter: u64, ctor: Ctor) -> Vertex {
+    Vertex {
+        name: Name { author, counter },
+        ctor,
+    }
+}
+
+// The marked grove of one tree: the root, and another node.
+fn below_the_root(alloc: Global, node: MarkedNode) -> Result<MarkedGrove, Fail>
+    ensures { (types : List Typ) → IsMarkedNodeOf types node → IfOk result (IsMarkedGroveOf types) }
+{
     let head = MarkedNode {
         node: Node {
             depth: 0,
             position: None,
             edge: None,
-            what: What::Vertex(root),
+            what: What::Vertex(vertex(0, 0, Ctor::Root)),
         },
         mode: None,
         typ: None,
         mark: Mark::None,
     };
+    let mut tree = MarkedTree::new(alloc);
+    tree.push(head)?;
+    tree.push(node)?;
+    let mut none = MarkedTreeList::new(alloc);
+    none.push(tree)?;
+    Ok(MarkedGrove {
+        none,
+        multi: MarkedTreeList::new(alloc),
+        cycle: MarkedTreeList::new(alloc),
+    })
+}
+
+#[test]
+fn a_marked_grove_is_printed(rt: HostRuntime) -> Result<(), Fail> {
+    let types = TypeTable::new(rt.alloc())?;
     let hole = MarkedNode {
         node: Node {
             depth: 1,
@@ -41,21 +61,46 @@ fn a_marked_grove_is_printed(rt: HostRuntime) -> Result<(), Fail> {
         typ: Some(types.num()),
         mark: Mark::Inconsistent,
     };
-    let mut tree = MarkedTree::new(alloc);
-    tree.push(head)?;
-    tree.push(hole)?;
-    let mut none = MarkedTreeList::new(alloc);
-    none.push(tree)?;
-    let marked = MarkedGrove {
-        none,
-        multi: MarkedTreeList::new(alloc),
-        cycle: MarkedTreeList::new(alloc),
-    };
-    let mut text = Vec::new(alloc);
+    let marked = below_the_root(rt.alloc(), hole)?;
+    let mut text = Vec::new(rt.alloc());
     print_grove(&marked, &types, &mut text)?;
     assert_eq!(rt;
         text.as_slice(),
         b"none 1\n0 - - 0.0 root top - -\n1 main - - hole ana:bool num inconsistent\nmulti 0\ncycle 0\n".as_slice()
+    );
+    Ok(())
+}
+
+#[test]
+fn a_marked_line_stands_alone(rt: HostRuntime) -> Result<(), Fail> {
+    let types = TypeTable::new(rt.alloc())?;
+    let choose = vertex(1, 1, Ctor::Choose);
+    let edge = Edge {
+        name: Name {
+            author: 1,
+            counter: 2,
+        },
+        source: vertex(0, 0, Ctor::Root),
+        position: Position::Main,
+        target: choose,
+    };
+    let node = MarkedNode {
+        node: Node {
+            depth: 1,
+            position: Some(Position::Main),
+            edge: Some(edge),
+            what: What::Vertex(choose),
+        },
+        mode: Some(Mode::Syn),
+        typ: Some(types.unknown()),
+        mark: Mark::Branches,
+    };
+    let marked = below_the_root(rt.alloc(), node)?;
+    let mut text = Vec::new(rt.alloc());
+    print_marked_lines(&marked, &types, &mut text)?;
+    assert_eq!(rt;
+        text.as_slice(),
+        b"1 main 1.2 1.1 if syn ? branches\n".as_slice()
     );
     Ok(())
 }

@@ -5,7 +5,7 @@ use Rattle.graph_store.specs.Store.{Entries, state_in}
 use Rattle.graph_store.proofs.Raises.{canonical_of_edits}
 use Rattle.grove_terms.proofs.OneGrove.{grove_along}
 use Rattle.grove_top.specs.declared.command.Command.{Command}
-use Rattle.grove_top.specs.declared.command.Command.TheVariants.{Merge, Show}
+use Rattle.grove_top.specs.declared.command.Command.TheVariants.{Merge, Show, Check}
 use Rattle.grove_top.specs.Due.{IsAnswered}
 use Rattle.grove_top.specs.Graph.{IsGraphOf, IsAnswerOf}
 
@@ -24,5 +24,16 @@ answer_told Show text answer entries of_text is = record {
   spelled = of_text.spelled;
   is_grove = grove_along (state_in entries) (graph of_text.edits) is.grove of_text.same is.is_grove;
   is_marked = is.is_marked;
+  written = is.written;
+}
+answer_told Check text answer entries of_text is = record {
+  edits = of_text.edits;
+  grove = is.grove;
+  marked = is.marked;
+  typed = is.typed;
+  spelled = of_text.spelled;
+  is_grove = grove_along (state_in entries) (graph of_text.edits) is.grove of_text.same is.is_grove;
+  is_marked = is.is_marked;
+  are_typed = is.are_typed;
   written = is.written;
 }

@@ -3,3 +3,4 @@ pub mod Statuses
 pub mod WordsAre
 pub mod Answered
 pub mod Sorted
+pub mod Counting

@@ -6,6 +6,7 @@ use Rattle.grove_edits.specs.Graph.{graph, IsCanonical}
 use Rattle.grove_terms.specs.declared.grove.Grove.{Grove}
 use Rattle.grove_terms.specs.Grove.{IsGrove}
 use Rattle.marking.specs.Grove.{MarkedTrees, IsMarkedGrove}
+use Rattle.plain_typing.specs.Typed.{AreTyped}
 use Rattle.grove_printer.specs.Print.{print_text}
 use Rattle.edit_text.specs.declared.line_fault.LineFault.TheVariants as lines
 use Rattle.edit_text.specs.Text.{text_of, IsMalformed, HasRest}
@@ -15,8 +16,9 @@ use Rattle.grove_top.specs.declared.outcome.Fault.TheVariants.{Syntax, BadVertex
 use Rattle.grove_top.specs.declared.outcome.Status.{Status}
 use Rattle.grove_top.specs.declared.outcome.Status.TheVariants.{Done, Usage, Malformed, TooLong, ReadFault, WriteFault, NoMemory}
 use Rattle.grove_top.specs.declared.command.Command.{Command}
-use Rattle.grove_top.specs.declared.command.Command.TheVariants.{Merge, Show}
+use Rattle.grove_top.specs.declared.command.Command.TheVariants.{Merge, Show, Check}
 use Rattle.grove_top.specs.Words.{AreOf, AreOfNone}
+use Rattle.grove_top.specs.Check.{all_trees, check_text}
 
 -- what is written where the words are those of no command
 abbrev pub usage_text : List ℕ
@@ -63,10 +65,23 @@ pub record IsShown (text shown : List ℕ) : Type 0 where
   pub is_marked : IsMarkedGrove grove marked
   pub written : shown ≡ print_text marked
 
+-- the marked lines of that grove, and how many of its trees are typed
+pub record IsChecked (text checked : List ℕ) : Type 0 where
+  pub edits : List Edit
+  pub grove : Grove
+  pub marked : MarkedTrees
+  pub typed : ℕ
+  pub spelled : text ≡ text_of edits
+  pub is_grove : IsGrove (graph edits) grove
+  pub is_marked : IsMarkedGrove grove marked
+  pub are_typed : AreTyped (all_trees grove) typed
+  pub written : checked ≡ check_text marked (length (all_trees grove)) typed
+
 -- what a command makes of a good text
 abbrev pub IsAnswered : Command → List ℕ → List ℕ → Type 0
 IsAnswered Merge text answer = IsMerged text answer
 IsAnswered Show text answer = IsShown text answer
+IsAnswered Check text answer = IsChecked text answer
 
 -- what is due for the words of a command
 abbrev pub IsCommandDue : Command → List ℕ → Status → List ℕ → Type 0

@@ -2,11 +2,12 @@
 use Rattle.std.specs.declared.alloc.Global.{Global}
 use Rattle.std.specs.Prelude.{String, ◌≡◌, ℕ, List, [], ◌∷◌, map, codes, string_bytes}
 use Rattle.grove_top.specs.declared.command.Command.{Command}
-use Rattle.grove_top.specs.declared.command.Command.TheVariants.{Merge, Show}
+use Rattle.grove_top.specs.declared.command.Command.TheVariants.{Merge, Show, Check}
 
 abbrev pub word_of : Command → List ℕ
 word_of Merge = codes "merge"
 word_of Show = codes "show"
+word_of Check = codes "check"
 
 -- the words are the one of the command
 abbrev pub AreOf : Command → List (String Global) → Type 0

@@ -5,4 +5,6 @@ pub enum Command {
     Merge,
     /// The print text of its grove.
     Show,
+    /// The marked lines of that text, and how many trees there are and how many are typed.
+    Check,
 }

@@ -1,25 +1,20 @@
 ghost use Rattle.std.specs.Prelude.{◌≡◌, ◌≤◌, length, IfOk};
 ghost use Rattle.graph_store.specs.Store.{state_in};
-ghost use Rattle.walks.specs.Whole.{AreLive};
 ghost use Rattle.grove_top.specs.declared.limit.TheConstants.{MOST_BYTES};
 ghost use Rattle.grove_top.specs.Due.{IsCommandDue, malformed_text, fault_word};
 ghost use Rattle.grove_top.specs.Graph.{IsAnswerOf, IsCanonicalText, IsOfEdits, IsPrintText};
 
+use crate::check::check_text;
 use crate::command::Command;
 use crate::graph::read_graph;
+use crate::marked::mark_graph;
 use crate::no_memory::NoMemory;
 use crate::outcome::{Fault, Status};
-use child_index::ChildIndex;
-use ctx_table::CtxTable;
 use edit_text::{TextFault, write_edits};
 use graph_store::GraphStore;
-use grove_decompose::decompose;
 use grove_printer::print_grove;
-use mark_rules::mark_grove;
-use parent_index::ParentIndex;
 use std::alloc::Global;
 use text_parts::write_number;
-use type_core::TypeTable;
 
 /// A status, and the whole text to write with it.
 #[derive(Drop)]
@@ -54,6 +49,7 @@ fn answer(alloc: Global, command: Command, store: &GraphStore) -> Result<Vec<u8>
     match command {
         Command::Merge => canonical_text(alloc, store),
         Command::Show => print_text(alloc, store),
+        Command::Check => check_text(alloc, store),
     }
 }
 
@@ -70,15 +66,9 @@ fn print_text(alloc: Global, store: &GraphStore) -> Result<Vec<u8>, NoMemory>
     requires { IsOfEdits (state_in store.now) }
     ensures { IfOk result (λ text. IsPrintText (state_in store.now) text.items) }
 {
-    let live = store.live_edges(alloc)?;
-    let children = ChildIndex::of(alloc, &live)?;
-    let parents = ParentIndex::of(alloc, &live)?;
-    let grove = decompose(alloc, store, &children, &parents)?;
-    let mut types = TypeTable::new(alloc)?;
-    let mut contexts = CtxTable::new(alloc)?;
-    let marked = mark_grove(alloc, &grove, &mut types, &mut contexts)?;
+    let program = mark_graph(alloc, store)?;
     let mut text = Vec::new(alloc);
-    print_grove(&marked, &types, &mut text)?;
+    print_grove(&program.marked, &program.types, &mut text)?;
     Ok(text)
 }
 

@@ -2,11 +2,13 @@
 //! What is written is what the definitions say is due for the words and the bytes; the program stands on this crate.
 #![tactic(auto)]
 
+mod check;
 mod command;
 mod commands;
 mod graph;
 mod laws;
 mod limit;
+mod marked;
 mod no_memory;
 mod outcome;
 mod top;

@@ -85,3 +85,9 @@ impl From<mark_rules::NoMemory> for NoMemory {
         NoMemory
     }
 }
+
+impl From<plain_typing::NoMemory> for NoMemory {
+    fn from(_error: plain_typing::NoMemory) -> NoMemory {
+        NoMemory
+    }
+}

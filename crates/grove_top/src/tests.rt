@@ -173,6 +173,26 @@ fn groves_are_shown(rt: HostRuntime) -> Result<(), Fail> {
     Ok(())
 }
 
+#[test]
+fn groves_are_checked(rt: HostRuntime) -> Result<(), Fail> {
+    let cases: [(&[u8], &[u8]); 3] = [
+        (b"", b"roots 1 typed 1\n"),
+        (
+            b"+1.2 0.0 root main 1.1 plus\n+1.4 1.1 plus left 1.3 num:7\n+1.5 1.1 plus right 1.3 num:7\n",
+            b"roots 2 typed 2\n",
+        ),
+        (
+            b"+1.2 0.0 root main 1.1 ap\n+1.4 1.1 ap fun 1.3 lam\n+1.6 1.3 lam type 1.5 tarrow\n+1.8 1.5 tarrow from 1.7 tnum\n+1.10 1.5 tarrow to 1.9 tnum\n+1.12 1.1 ap arg 1.11 lam\n+1.14 1.11 lam param 1.13 pvar:x\n+1.16 1.11 lam type 1.15 tbool\n+1.18 1.11 lam body 1.17 var:x\n",
+            b"2 arg 1.12 1.11 lam ana:(num->num) (num->num) ascription\n3 body 1.18 1.17 var:x ana:num bool inconsistent\nroots 1 typed 0\n",
+        ),
+    ];
+    for (text, want) in cases {
+        let checked = written(rt.alloc(), "check", text)?;
+        assert_eq!(rt; checked.as_slice(), want);
+    }
+    Ok(())
+}
+
 // So many vertices `fst` below the root, each under the one before.
 fn chain(alloc: Global, count: u64) -> Result<Vec<u8>, Fail> {
     let mut text = Vec::from_slice(alloc, b"+2.1 0.0 root main 1.1 fst\n")?;

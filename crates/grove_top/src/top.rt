@@ -88,6 +88,8 @@ fn command_of(words: &[String]) -> Option<Command>
         Some(Command::Merge)
     } else if is_word(words, "show") {
         Some(Command::Show)
+    } else if is_word(words, "check") {
+        Some(Command::Check)
     } else {
         None
     }

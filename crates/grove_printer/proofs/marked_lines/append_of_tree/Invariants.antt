@@ -1,0 +1,12 @@
+use Rattle.std.proofs.Common.{◌≡◌, ◌++◌, drop}
+use Rattle.mark_rules.specs.Reading.{meant_nodes}
+use Rattle.mark_rules.specs.Numbers.{AreMarkedNodesOf}
+use Rattle.grove_printer.specs.Print.{Extends, tree_marked_lines}
+use Rattle.grove_printer.proofs.marked_lines.append_of_tree.Given as goal
+
+abbrev pub invariant-loop-node : goal.invariant-loop-node
+invariant-loop-node l = record {
+  written : l.out.items ++ tree_marked_lines (meant_nodes l.types (drop l.node-index l.nodes)) ≡ l.initial.out.items ++ tree_marked_lines (meant_nodes l.types l.nodes);
+  front : Extends l.initial.out.items l.out.items;
+  numbers : AreMarkedNodesOf l.types (drop l.node-index l.nodes);
+}

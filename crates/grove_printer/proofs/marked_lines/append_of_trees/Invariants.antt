@@ -1,0 +1,12 @@
+use Rattle.std.proofs.Common.{◌≡◌, ◌++◌, drop, map}
+use Rattle.mark_rules.specs.Reading.{meant_nodes}
+use Rattle.mark_rules.specs.Numbers.{AreMarkedListsOf}
+use Rattle.grove_printer.specs.Print.{Extends, trees_marked_lines}
+use Rattle.grove_printer.proofs.marked_lines.append_of_trees.Given as goal
+
+abbrev pub invariant-loop-tree : goal.invariant-loop-tree
+invariant-loop-tree l = record {
+  written : l.out.items ++ trees_marked_lines (map (meant_nodes l.types) (drop l.tree-index l.trees)) ≡ l.initial.out.items ++ trees_marked_lines (map (meant_nodes l.types) l.trees);
+  front : Extends l.initial.out.items l.out.items;
+  numbers : AreMarkedListsOf l.types (drop l.tree-index l.trees);
+}

@@ -1,0 +1,43 @@
+ghost use Rattle.std.specs.Prelude.{◌≡◌, ◌++◌, take, OnOk, OnErr};
+ghost use Rattle.mark_rules.specs.Reading.{meant};
+ghost use Rattle.mark_rules.specs.Numbers.{IsMarkedNodeOf};
+ghost use Rattle.grove_printer.specs.Print.{Extends, node_line};
+
+use crate::columns::append_columns;
+use crate::marks::append_marks;
+use crate::no_memory::NoMemory;
+use mark_rules::MarkedNode;
+use type_core::TypeTable;
+
+/// Appends the line of a node; after an error a part of it may stand.
+pub(crate) fn append_line(
+    node: &MarkedNode,
+    types: &TypeTable,
+    out: &mut Vec<u8>,
+) -> Result<(), NoMemory>
+    requires { IsMarkedNodeOf types.now node.now }
+    ensures appended { OnOk result (out.new.items ≡ out.old.items ++ node_line (meant types.now node.now)) }
+    ensures in_part { OnErr result (Extends out.old.items out.new.items) }
+{
+    append_columns(&node.node, out)?;
+    out.push(b' ')?;
+    append_marks(node, types, out)?;
+    out.push(b'\n')?;
+    Ok(())
+}
+
+/// What was written since the buffer had a length stays where it is whole; after an error it is taken off.
+pub(crate) fn whole_or_nothing(
+    written: Result<(), NoMemory>,
+    length: usize,
+    out: &mut Vec<u8>,
+) -> Result<(), NoMemory>
+    ensures same { result ≡ written }
+    ensures whole { OnOk written (out.new.items ≡ out.old.items) }
+    ensures nothing { OnErr written (out.new.items ≡ take length out.old.items) }
+{
+    if written.is_err() {
+        out.truncate(length);
+    }
+    written
+}

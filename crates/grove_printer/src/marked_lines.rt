@@ -1,0 +1,73 @@
+ghost use Rattle.std.specs.Prelude.{◌≡◌, ◌++◌, map, OnOk, OnErr};
+ghost use Rattle.mark_rules.specs.Reading.{meant_nodes, meant_grove};
+ghost use Rattle.mark_rules.specs.Numbers.{AreMarkedNodesOf, AreMarkedListsOf, IsMarkedGroveOf};
+ghost use Rattle.grove_printer.specs.Print.{Extends, tree_marked_lines, trees_marked_lines, marked_lines};
+
+use crate::line::{append_line, whole_or_nothing};
+use crate::marks::has_mark;
+use crate::no_memory::NoMemory;
+use mark_rules::{MarkedGrove, MarkedNode, MarkedTree};
+use type_core::TypeTable;
+
+/// Appends the lines of the print text whose nodes have a mark, without headings.
+pub fn print_marked_lines(
+    marked: &MarkedGrove,
+    types: &TypeTable,
+    out: &mut Vec<u8>,
+) -> Result<(), NoMemory>
+    requires { IsMarkedGroveOf types.now marked.now }
+    ensures appended { OnOk result (out.new.items ≡ out.old.items ++ marked_lines (meant_grove types.now marked.now)) }
+    ensures unchanged { OnErr result (out.new.items ≡ out.old.items) }
+{
+    let start = out.len();
+    let written = append_marked_lines(marked, types, out);
+    whole_or_nothing(written, start, out)
+}
+
+// After an error each of these functions may have appended a part.
+
+fn append_marked_lines(
+    marked: &MarkedGrove,
+    types: &TypeTable,
+    out: &mut Vec<u8>,
+) -> Result<(), NoMemory>
+    requires { IsMarkedGroveOf types.now marked.now }
+    ensures appended { OnOk result (out.new.items ≡ out.old.items ++ marked_lines (meant_grove types.now marked.now)) }
+    ensures in_part { OnErr result (Extends out.old.items out.new.items) }
+{
+    append_of_trees(marked.none.as_slice(), types, out)?;
+    append_of_trees(marked.multi.as_slice(), types, out)?;
+    append_of_trees(marked.cycle.as_slice(), types, out)
+}
+
+fn append_of_trees(
+    trees: &[MarkedTree],
+    types: &TypeTable,
+    out: &mut Vec<u8>,
+) -> Result<(), NoMemory>
+    requires { AreMarkedListsOf types.now trees.now }
+    ensures appended { OnOk result (out.new.items ≡ out.old.items ++ trees_marked_lines (map (meant_nodes types.now) trees.now)) }
+    ensures in_part { OnErr result (Extends out.old.items out.new.items) }
+{
+    for tree in trees {
+        append_of_tree(tree.as_slice(), types, out)?;
+    }
+    Ok(())
+}
+
+fn append_of_tree(
+    nodes: &[MarkedNode],
+    types: &TypeTable,
+    out: &mut Vec<u8>,
+) -> Result<(), NoMemory>
+    requires { AreMarkedNodesOf types.now nodes.now }
+    ensures appended { OnOk result (out.new.items ≡ out.old.items ++ tree_marked_lines (meant_nodes types.now nodes.now)) }
+    ensures in_part { OnErr result (Extends out.old.items out.new.items) }
+{
+    for node in nodes {
+        if has_mark(node.mark) {
+            append_line(node, types, out)?;
+        }
+    }
+    Ok(())
+}
