@@ -1,8 +1,8 @@
-pub mod UnmarkedRows
-pub mod Unmarked
+mod UnmarkedRows
+mod Unmarked
 pub mod Typings
-pub mod Places
-pub mod Steps
-pub mod Lengths
-pub mod Checked
+mod Places
+mod Steps
+mod Lengths
+mod Checked
 mod Samples

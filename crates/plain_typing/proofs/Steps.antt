@@ -86,7 +86,7 @@ left_some (p ∷ ps) zero lt none = cc
 left_some (p ∷ ps) (suc i) lt none = left_some ps i (omega (arith, lt)) none
 
 -- the place of a vertex that was open stays as it is filled
-pub place_of_filled : (types : List Typ) (ctxs : List Context) (f : Frame) (o r : OpenVertex) (g : Given) (below : ℕ) (fs : List machine.Frame) (nodes : List MarkedNode)
+place_of_filled : (types : List Typ) (ctxs : List Context) (f : Frame) (o r : OpenVertex) (g : Given) (below : ℕ) (fs : List machine.Frame) (nodes : List MarkedNode)
     → f ≡ Open o → r ≡ filled_with (sort_at_index o.view.ctor o.next) g o → IsFrameOf types ctxs f → AreUnsettled below (frame_at types ctxs f ∷ fs) nodes
     → IsUnmarkedAt nodes r.place × AreUnsettled r.place fs nodes
 place_of_filled types ctxs f o r g below fs nodes is made frame are =
@@ -96,18 +96,18 @@ place_of_filled types ctxs f o r g below fs nodes is made frame are =
     (unsettled-first (opened_at types ctxs o) (left_of o) below fs nodes (left_some (positions o.view.ctor) o.next some.1)
     (subst (λ (x : Frame). AreUnsettled below (frame_at types ctxs x ∷ fs) nodes) is are))
 
-pub stands_for : (types : List Typ) (ctxs : List Context) (g : Option Given) (walk : Walk) (s t : machine.State) → s ≡ t → StandsFor types ctxs g walk s → StandsFor types ctxs g walk t
+stands_for : (types : List Typ) (ctxs : List Context) (g : Option Given) (walk : Walk) (s t : machine.State) → s ≡ t → StandsFor types ctxs g walk s → StandsFor types ctxs g walk t
 stands_for types ctxs g walk s t same stands = subst (StandsFor types ctxs g walk) same stands
 
 -- a vertex is filled, and gone on with
-pub stands_passed_to : (old new : List Typ) (ctxs : List Context) (f : Frame) (o r : OpenVertex) (g : Given) (walk after : Walk) {E : Type 0} (given : Result (Option Given) E)
+pub stands_filled : (old new : List Typ) (ctxs : List Context) (f : Frame) (o r : OpenVertex) (g : Given) (walk after : Walk) {E : Type 0} (given : Result (Option Given) E)
     → f ≡ Open o → r ≡ filled_with (sort_at_index o.view.ctor o.next) g o → IsFrameOf old ctxs f → IsGivenOf old g
     → IfOk given (λ x. (nodes : List MarkedNode) → IsUnmarkedAt nodes r.place → AreUnsettled r.place (frames_at old ctxs walk.frames.items) nodes → IsNoted walk nodes
     → StandsFor new ctxs x after (machine.opened (opened_at old ctxs r) (left_of r) (frames_at old ctxs walk.frames.items) nodes))
     → IfOk given (λ x. (nodes : List MarkedNode) → AreUnsettled (length nodes) (frame_at old ctxs f ∷ frames_at old ctxs walk.frames.items) nodes → IsNoted walk nodes
     → StandsFor new ctxs x after (machine.deliver (given_at old g) (frame_at old ctxs f ∷ frames_at old ctxs walk.frames.items) nodes))
-stands_passed_to old new ctxs f o r g walk after (Err e) is made frame number goes = tt
-stands_passed_to old new ctxs f o r g walk after (Ok x) is made frame number goes = λ nodes are noted.
+stands_filled old new ctxs f o r g walk after (Err e) is made frame number goes = tt
+stands_filled old new ctxs f o r g walk after (Ok x) is made frame number goes = λ nodes are noted.
     let fs : List machine.Frame = frames_at old ctxs walk.frames.items in
     let place = place_of_filled old ctxs f o r g (length nodes) fs nodes is made frame are in
     stands_for new ctxs x after (machine.opened (opened_at old ctxs r) (left_of r) fs nodes) (machine.deliver (given_at old g) (frame_at old ctxs f ∷ fs) nodes)
@@ -182,8 +182,8 @@ pub stands_begun_with : (old new : List Typ) (ctxs : List Context) (o : OpenVert
 stands_begun_with old new ctxs o v n w d place walk after (Err e) is left what goes = tt
 stands_begun_with old new ctxs o v n w d place walk after (Ok x) is left what goes = stands_begun old new ctxs o v n w d place x walk after is left what goes
 
-grown : (below : ℕ) (fs : List machine.Frame) (nodes : List MarkedNode) (m : MarkedNode) → AreUnsettled (length nodes) fs nodes → AreUnsettled (length (nodes ++ m ∷ [])) fs (nodes ++ m ∷ [])
-grown below fs nodes m are = unsettled-push (length (nodes ++ m ∷ [])) fs nodes (m ∷ []) (unsettled-more (length nodes) (length (nodes ++ m ∷ [])) fs nodes (omega (arith, length-append nodes (m ∷ []))) are)
+grown : (fs : List machine.Frame) (nodes : List MarkedNode) (m : MarkedNode) → AreUnsettled (length nodes) fs nodes → AreUnsettled (length (nodes ++ m ∷ [])) fs (nodes ++ m ∷ [])
+grown fs nodes m are = unsettled-push (length (nodes ++ m ∷ [])) fs nodes (m ∷ []) (unsettled-more (length nodes) (length (nodes ++ m ∷ [])) fs nodes (omega (arith, length-append nodes (m ∷ []))) are)
 
 -- a conflict begins
 pub stands_conflict : (types : List Typ) (ctxs : List Context) (e : Demand) (count : ℕ) (sort : Sort) (n : Node) (w : What) (d : Demanded) (walk after : Walk)
@@ -199,7 +199,7 @@ stands_conflict types ctxs e count sort n w d walk after what each pushed same s
       nodes = nodes ++ m ∷ [];
       comes_to = begins_conflict types ctxs e count sort n w d walk.frames.items after.frames.items nodes what each pushed
           ∙ ap (λ (x : machine.State). machine.taken w n d x.frames x.out) stands.comes_to;
-      unsettled = subst (λ xs. AreUnsettled (length (nodes ++ m ∷ [])) xs (nodes ++ m ∷ [])) (sym fs) (grown (length nodes) (frames_at types ctxs walk.frames.items) nodes m stands.unsettled);
+      unsettled = subst (λ xs. AreUnsettled (length (nodes ++ m ∷ [])) xs (nodes ++ m ∷ [])) (sym fs) (grown (frames_at types ctxs walk.frames.items) nodes m stands.unsettled);
       noted = (λ h. push.0 (stands.noted.0 (sym same ∙ h)), λ h. same ∙ stands.noted.1 (push.1 h));
     }
 
@@ -214,7 +214,7 @@ stands_plain types ctxs g walk sort n d gives s stands =
       nodes = nodes ++ m ∷ [];
       comes_to = ap (λ x. machine.deliver x (frames_at types ctxs walk.frames.items) (nodes ++ m ∷ [])) gives
           ∙ ap (λ (x : machine.State). machine.deliver machine.nothing x.frames (x.out ++ m ∷ [])) stands.comes_to;
-      unsettled = grown (length nodes) (frames_at types ctxs walk.frames.items) nodes m stands.unsettled;
+      unsettled = grown (frames_at types ctxs walk.frames.items) nodes m stands.unsettled;
       noted = (λ h. push.0 (stands.noted.0 h), λ h. stands.noted.1 (push.1 h));
     }
 
@@ -231,7 +231,7 @@ stands_leaf types ctxs g walk n w d gives (inr (inr (v, is))) s stands =
 
 -- ---- the tables grow
 
-pub stands_kept : (old new : List Typ) (oldc newc : List Context) (walk : Walk) (s : machine.State) → KeepsTypes old new → KeepsContexts oldc newc → AreFramesOf old oldc walk.frames.items
+stands_kept : (old new : List Typ) (oldc newc : List Context) (walk : Walk) (s : machine.State) → KeepsTypes old new → KeepsContexts oldc newc → AreFramesOf old oldc walk.frames.items
     → StandsFor old oldc None walk s → StandsFor new newc None walk s
 stands_kept old new oldc newc walk s keeps stays frames stands =
     let fs = frames_at-kept old new oldc newc keeps stays walk.frames.items frames in

@@ -2,7 +2,7 @@ use Rattle.std.proofs.Common.{◌≡◌, ◌-◌, refl, arith}
 use Rattle.judging.specs.declared.frame.Frame.TheVariants.{Open, Several}
 use Rattle.judging.specs.Frames.{given_at}
 use Rattle.judging.proofs.Frames.{given_is, several_are}
-use Rattle.plain_typing.proofs.Steps.{stands_passed_to, stands_several}
+use Rattle.plain_typing.proofs.Steps.{stands_filled, stands_several}
 use Rattle.plain_typing.proofs.walking.pass.Goals as goal
 
 pub go_on-requires-clause-vertex : goal.go_on-requires-clause-vertex
@@ -25,5 +25,5 @@ returns-then-left-gt1-clause-frames c =
 pub returns-in-Open-clause-state : goal.returns-in-Open-clause-state
 returns-in-Open-clause-state c =
     let is : c.args.frame ≡ Open c.in-Open.vertex = cc in
-    stands_passed_to c.args.types.now c.go_on.new.types c.args.ctxs.now c.args.frame c.in-Open.vertex c.fill.result c.args.given c.args.walk.now c.go_on.new.walk c.go_on.result is c.fill.ensures c.requires.frame c.requires.given
+    stands_filled c.args.types.now c.go_on.new.types c.args.ctxs.now c.args.frame c.in-Open.vertex c.fill.result c.args.given c.args.walk.now c.go_on.new.walk c.go_on.result is c.fill.ensures c.requires.frame c.requires.given
     c.go_on.ensures.state
