@@ -1,5 +1,5 @@
 -- States put back, the last first.
-use Rattle.std.proofs.Common.{◌≡◌, ℕ, zero, suc, ◌+◌, ◌<◌, ◌≤◌, Bool, true, false, cond, List, [], ◌∷◌, ◌++◌, length, slice_index_or, refl, sym, ap, subst, ◌∙◌, arith}
+use Rattle.std.proofs.Common.{◌≡◌, ℕ, ◌+◌, ◌<◌, ◌≤◌, Bool, true, false, cond, List, [], ◌∷◌, ◌++◌, length, slice_index_or, refl, sym, ap, subst, ◌∙◌, arith}
 use Rattle.edge_lattice.specs.declared.state.State.{State}
 use Rattle.edge_lattice.specs.declared.state.State.TheVariants.{Absent}
 use Rattle.edge_lattice.specs.State.{state_join}
@@ -9,7 +9,7 @@ use Rattle.grove_edits.specs.Edit.{edit_edge, edit_kind}
 use Rattle.grove_edits.specs.Graph.{Graph, graph, graph_join, is_same_edge, IsSame, state_of}
 use Rattle.grove_edits.proofs.Orders.{one_edge}
 use Rattle.graph_store.specs.Restored.{restored, HaveRoom}
-use Rattle.graph_store.specs.Store.{Entries, state_in, HasRoom, KeepsRoom, with_state}
+use Rattle.graph_store.specs.Store.{Entries, HasRoom, KeepsRoom, with_state}
 use Rattle.graph_store.proofs.Joins.{join_nothing}
 
 with_state-same : (edge : Edge) (s : State) (g h : Graph) → IsSame g h → IsSame (with_state edge s g) (with_state edge s h)
@@ -84,10 +84,6 @@ raised_next edits olds edit old first before raised lt at so_far was is e =
 pub length-last : (olds : List State) (old : State) → length (olds ++ old ∷ []) ≡ length olds + 1
 length-last [] old = refl
 length-last (x ∷ olds) old = let rest = length-last olds old in omega (arith, rest)
-
--- raising one edit once room is made is raising it
-pub one_more : (before roomy after : Graph) (edit : Edit) → IsSame roomy before → IsSame after (graph_join roomy (graph (edit ∷ []))) → IsSame after (graph_join before (graph (edit ∷ [])))
-one_more before roomy after edit same joined e = joined e ∙ ap (λ s. state_join s (graph (edit ∷ []) e)) (same e)
 
 -- ---- the last state is taken off the list, and its edge gets it
 

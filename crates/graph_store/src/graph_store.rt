@@ -1,4 +1,4 @@
-ghost use Rattle.std.specs.Prelude.{◌≡◌, ◌<◌, [], ◌∷◌, List, length, slice_index_or, OnOk, OnErr, IfOk};
+ghost use Rattle.std.specs.Prelude.{◌≡◌, ◌<◌, true, [], ◌∷◌, List, length, slice_index_or, OnOk, OnErr, IfOk};
 ghost use Rattle.std.specs.List.{All};
 ghost use Rattle.std.specs.Map.{set_value};
 ghost use Rattle.std.specs.Option.{option_copied};
@@ -12,13 +12,13 @@ ghost use Rattle.graph_store.specs.Change.{change_from};
 ghost use Rattle.graph_store.specs.Greatest.{IsGreatest, IsNameOf};
 ghost use Rattle.graph_store.specs.Least.{IsLeast};
 ghost use Rattle.graph_store.specs.Listed.{IsEditOf};
-ghost use Rattle.graph_store.specs.Named.{IsNamed};
+ghost use Rattle.graph_store.specs.Named.{IsNamed, is_present};
 ghost use Rattle.graph_store.specs.Restored.{HaveRoom, restored};
 ghost use Rattle.graph_store.specs.Vertices.{AreLeastTwo, IsVertexNamed};
 ghost use Rattle.graph_store.specs.Store.{state_in, HasRoom, KeepsRoom, only, with_state, well_formed};
 
 use crate::change::Change;
-use crate::ends::{make_room_at_ends, recount};
+use crate::ends::{count_ends, make_room_at_ends, recount, uncount_ends};
 use crate::greatest::{greatest_of_edges, greatest_of_vertices};
 use crate::named::{ROOT, bound_after, first_named};
 use crate::no_memory::NoMemory;
@@ -217,6 +217,30 @@ impl GraphStore {
         self.states.make_room(edge, State::Absent)
     }
 
+    // Joins a state of one edge, which need not have room yet, and answers the state that it had.
+    fn enter(&mut self, edge: &Edge, asked: State) -> Result<State, NoMemory>
+        requires { is_present asked ≡ true }
+        ensures joined { OnOk result (IsSame (state_in self.new) (graph_join (state_in self.old) (only edge.now asked))) }
+        ensures old { IfOk result (λ old. old ≡ state_in self.old edge.now) }
+        ensures room { OnOk result (HasRoom self.new edge.now) }
+        ensures unchanged { OnErr result (IsSame (state_in self.new) (state_in self.old)) }
+        ensures room_stays { KeepsRoom self.old self.new }
+    {
+        if let Some(old) = self.states.get(edge) {
+            self.raise_to(edge, asked);
+            return Ok(old);
+        }
+        count_ends(&mut self.ends, edge)?;
+        let entered = self.states.enter(edge, asked);
+        match entered {
+            Ok(()) => Ok(State::Absent),
+            Err(fault) => {
+                uncount_ends(&mut self.ends, edge);
+                Err(fault)
+            }
+        }
+    }
+
     // Joins a state of one edge.
     fn raise_to(&mut self, edge: &Edge, asked: State) -> Change
         requires { HasRoom self.old edge.now }
@@ -245,10 +269,9 @@ impl GraphStore {
         ensures room_stays { KeepsRoom self.old self.new }
     {
         for edit in edits {
-            let edge = edit.edge();
-            self.make_room(&edge)?;
-            olds.push(self.state(&edge))?;
-            self.raise(edit);
+            olds.reserve(1)?;
+            let old = self.enter(&edit.edge(), asked_by(edit.kind()))?;
+            olds.push_reserved(old);
         }
         Ok(())
     }
