@@ -1,5 +1,5 @@
 -- The trees of the grove of a graph of edits are well sorted.
-use Rattle.std.proofs.Common.{◌≡◌, ℕ, List, [], ◌∷◌}
+use Rattle.std.proofs.Common.{ℕ, List, [], ◌∷◌}
 use Rattle.grove_edits.specs.declared.vertex.Vertex.{Vertex}
 use Rattle.grove_edits.specs.declared.edge.Edge.{Edge}
 use Rattle.grove_edits.specs.declared.edit.Edit.{Edit}
