@@ -61,12 +61,22 @@ impl<K: Keyed> EdgeIndex<K> {
         }
     }
 
+    /// An index without edges, and room for the lists of so many keys.
+    fn with_capacity(alloc: Global, keys: usize) -> Result<EdgeIndex<K>, NoMemory>
+        ensures empty { IfOk result (λ index. index ≡ []) }
+    {
+        Ok(EdgeIndex {
+            alloc,
+            lists: IndexMap::with_capacity(alloc, keys)?,
+        })
+    }
+
     /// The index of some edges that are in edge order.
     pub fn of(alloc: Global, edges: &[Edge]) -> Result<EdgeIndex<K>, NoMemory>
         requires { IsInEdgeOrder edges.now }
         ensures live { IfOk result (λ index. live index ≡ edges.now) }
     {
-        let mut index = EdgeIndex::new(alloc);
+        let mut index = EdgeIndex::with_capacity(alloc, edges.len())?;
         for edge in edges {
             index.append(edge)?;
         }

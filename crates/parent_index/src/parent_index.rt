@@ -102,6 +102,8 @@ impl ParentOf for ParentIndex {
 
     ghost live = { λ index. live_edges index };
 
+    // Inlined, so that a caller copies no more of the edges than it reads.
+    #[inline(always)]
     fn few<L: Ledger>(&self, vertex: &Vertex, steps: &mut Steps<L>) -> Few {
         let parents = self.parents_at(vertex);
         steps.tick();
