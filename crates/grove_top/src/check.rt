@@ -34,7 +34,8 @@ pub(crate) fn check_text(alloc: Global, store: &GraphStore) -> Result<Vec<u8>, N
     Ok(text)
 }
 
-// For each tree of a grove in turn, whether it is typed.
+// For each tree of a grove in turn, whether it is typed. The length of one list is known to fit in a number, the sum of the lengths of
+// the grove's three lists is not.
 fn verdicts(
     alloc: Global,
     grove: &Grove,
