@@ -12,7 +12,7 @@ pub(crate) fn last_of_each_edge(alloc: Global, sorted: &[Edit]) -> Result<Vec<Ed
     requires { IsSorted ⟦<Edit as Ord>⟧.cmp sorted.now }
     ensures { IfOk result (λ edits. IsCanonical (graph sorted.now) edits.items) }
 {
-    let mut edits = Vec::new(alloc);
+    let mut edits = Vec::with_capacity(alloc, sorted.len())?;
     for i in 0..sorted.len() {
         if !begins_with_edge(&sorted[i + 1..], &sorted[i]) {
             edits.push(sorted[i])?;
@@ -27,6 +27,6 @@ fn begins_with_edge(edits: &[Edit], edit: &Edit) -> bool
 {
     match edits {
         [] => false,
-        [first, ..] => edit.edge() == first.edge(),
+        [first, ..] => edit.as_edge() == first.as_edge(),
     }
 }

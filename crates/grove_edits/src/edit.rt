@@ -56,6 +56,13 @@ impl Edit {
         self.edge
     }
 
+    /// The same edge, lent.
+    pub fn as_edge(&self) -> &Edge
+        ensures { result.now ≡ edit_edge self.now }
+    {
+        &self.edge
+    }
+
     pub fn kind(&self) -> EditKind
         ensures { result ≡ edit_kind self.now }
     {

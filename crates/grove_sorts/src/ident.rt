@@ -19,7 +19,7 @@ pub enum IdentFault {
 pub struct Ident {
     // Zero past the end, so that equal identifiers are equal values.
     bytes: [u8; 32],
-    len: usize,
+    len: u8,
     ghost whole: { length bytes ≡ 32 },
     ghost short: { len ≤ 32 },
     ghost spelled: { IsIdentifier (take len bytes) },
@@ -38,7 +38,7 @@ impl Ident {
         bytes[..spelling.len()].copy_from_slice(spelling);
         Ident {
             bytes,
-            len: spelling.len(),
+            len: spelling.len() as u8,
         }
     }
 
@@ -46,7 +46,7 @@ impl Ident {
     pub fn as_slice(&self) -> &[u8]
         ensures bytes { result.now ≡ ident_bytes self.now }
     {
-        &self.bytes[..self.len]
+        &self.bytes[..usize::from(self.len)]
     }
 }
 
