@@ -7,6 +7,7 @@ ghost use Rattle.edit_stream.specs.Fault.{IsFeedFault, IfMalformed, IfNoMemory, 
 
 use crate::feed_fault::FeedFault;
 use crate::finish_fault::FinishFault;
+use crate::no_memory::NoMemory;
 use crate::reading::read_lines;
 use edit_text::LineFault;
 use grove_edits::EditList;
@@ -81,8 +82,9 @@ impl EditStream {
         ensures unchanged { IfErr result (λ fault. IfNoMemory fault ((self.new ≡ self.old) × (out.new ≡ out.old))) }
     {
         let reading = read_lines(self.alloc, &self.kept, end, rest)?;
-        out.extend_from_slice(reading.edits.as_slice())?;
-        self.lines = self.lines.saturating_add(reading.edits.len() as u64);
+        let count = reading.edits.len() as u64;
+        append(out, reading.edits)?;
+        self.lines = self.lines.saturating_add(count);
         self.kept = reading.kept;
         self.fault = reading.fault;
         match self.fault {
@@ -116,4 +118,17 @@ impl EditStream {
             Err(FinishFault::Rest { line })
         }
     }
+}
+
+// Appends edits. They are most often the first ones, and then no edit is copied.
+fn append(out: &mut EditList, edits: EditList) -> Result<(), NoMemory>
+    ensures appended { OnOk result (out.new ≡ out.old ++ edits) }
+    ensures unchanged { OnErr result (out.new ≡ out.old) }
+{
+    if out.is_empty() {
+        *out = edits;
+        return Ok(());
+    }
+    out.extend_from_slice(edits.as_slice())?;
+    Ok(())
 }
