@@ -117,16 +117,16 @@ module _ (types : List Typ) (ctxs : List Context) (g : Given) (given : IsGivenOf
   filled_at : (s : Sort) → p.1 ≡ s → opened_at types ctxs (filled_with (Some s) g o) ≡ machine.filled s (given_at types g) (opened_at types ctxs o)
   filled_at Exp s = ap (λ (ts : List Typ). before_is ts) (before_exp s) where
     before_is : List Typ → machine.Opened
-    before_is ts = record { place = o.place; node = o.node; ctor = o.view.ctor; demanded = (opened_at types ctxs o).demanded; bound = (opened_at types ctxs o).bound; earlier = type_at types o.earlier; before = ts }
+    before_is ts = record { place = o.place; node = o.node.now; ctor = o.view.ctor; demanded = (opened_at types ctxs o).demanded; bound = (opened_at types ctxs o).bound; earlier = type_at types o.earlier; before = ts }
   filled_at TypeSort s = ap (λ (ts : List Typ). before_is ts) (before_other (ap is_exp s)) where
     before_is : List Typ → machine.Opened
-    before_is ts = record { place = o.place; node = o.node; ctor = o.view.ctor; demanded = (opened_at types ctxs o).demanded; bound = record { name = o.view.binder.name; typ = type_at types g.typ }; earlier = type_at types o.view.binder.typ; before = ts }
+    before_is ts = record { place = o.place; node = o.node.now; ctor = o.view.ctor; demanded = (opened_at types ctxs o).demanded; bound = record { name = o.view.binder.name; typ = type_at types g.typ }; earlier = type_at types o.view.binder.typ; before = ts }
   filled_at Pat s = ap (λ (ts : List Typ). before_is ts) (before_other (ap is_exp s)) where
     before_is : List Typ → machine.Opened
-    before_is ts = record { place = o.place; node = o.node; ctor = o.view.ctor; demanded = (opened_at types ctxs o).demanded; bound = record { name = g.name; typ = type_at types o.view.binder.typ }; earlier = type_at types o.earlier; before = ts }
+    before_is ts = record { place = o.place; node = o.node.now; ctor = o.view.ctor; demanded = (opened_at types ctxs o).demanded; bound = record { name = g.name; typ = type_at types o.view.binder.typ }; earlier = type_at types o.earlier; before = ts }
   filled_at Top s = ap (λ (ts : List Typ). before_is ts) (before_other (ap is_exp s)) where
     before_is : List Typ → machine.Opened
-    before_is ts = record { place = o.place; node = o.node; ctor = o.view.ctor; demanded = (opened_at types ctxs o).demanded; bound = (opened_at types ctxs o).bound; earlier = type_at types o.earlier; before = ts }
+    before_is ts = record { place = o.place; node = o.node.now; ctor = o.view.ctor; demanded = (opened_at types ctxs o).demanded; bound = (opened_at types ctxs o).bound; earlier = type_at types o.earlier; before = ts }
 
   pub opened_filled : opened_at types ctxs (filled_with (sort_at_index o.view.ctor o.next) g o) ≡ machine.filled p.1 (given_at types g) (opened_at types ctxs o)
   opened_filled = ap (λ (s : Option Sort). opened_at types ctxs (filled_with s g o)) sort_here ∙ filled_at p.1 refl

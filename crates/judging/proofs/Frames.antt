@@ -60,8 +60,8 @@ stays_open types ctxs o fs new out some pushed = by (left-cases (positions o.vie
 
 -- where none is left, its node is put in its place
 pub closes : (old new : List Typ) (ctxs : List Context) (o : OpenVertex) (c : Closed) (fs : List Frame) (out after : List MarkedNode) → KeepsTypes old new → AreFramesOf old ctxs fs
-    → length (positions o.view.ctor) ≤ o.next → closed_at new o.node c ≡ machine.head_of (opened_at old ctxs o) → given_at new c.given ≡ machine.given_of (opened_at old ctxs o)
-    → after ≡ set out o.place (closed_at new o.node c)
+    → length (positions o.view.ctor) ≤ o.next → closed_at new o.node.now c ≡ machine.head_of (opened_at old ctxs o) → given_at new c.given ≡ machine.given_of (opened_at old ctxs o)
+    → after ≡ set out o.place (closed_at new o.node.now c)
     → machine.deliver (given_at new c.given) (frames_at new ctxs fs) after ≡ machine.opened (opened_at old ctxs o) (left_of o) (frames_at old ctxs fs) out
 closes old new ctxs o c fs out after keeps frames whole node gives is =
     ap (λ x. machine.deliver x (frames_at new ctxs fs) after) gives

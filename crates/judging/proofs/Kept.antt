@@ -112,8 +112,8 @@ module _ (old new : List Typ) (oldc newc : List Context) (keeps : KeepsTypes old
 
   same_opened : (o : OpenVertex) (s s2 : Scope) (w w2 : Wanted) (t t2 e e2 : Typ) (b b2 : List Typ) → s ≡ s2 → w ≡ w2 → t ≡ t2 → e ≡ e2 → b ≡ b2
       → ◌≡◌ {A = machine.Opened}
-      (record { place = o.place; node = o.node; ctor = o.view.ctor; demanded = record { scope = s; wanted = w }; bound = record { name = o.view.binder.name; typ = t }; earlier = e; before = b })
-      (record { place = o.place; node = o.node; ctor = o.view.ctor; demanded = record { scope = s2; wanted = w2 }; bound = record { name = o.view.binder.name; typ = t2 }; earlier = e2; before = b2 })
+      (record { place = o.place; node = o.node.now; ctor = o.view.ctor; demanded = record { scope = s; wanted = w }; bound = record { name = o.view.binder.name; typ = t }; earlier = e; before = b })
+      (record { place = o.place; node = o.node.now; ctor = o.view.ctor; demanded = record { scope = s2; wanted = w2 }; bound = record { name = o.view.binder.name; typ = t2 }; earlier = e2; before = b2 })
   same_opened o s s2 w w2 t t2 e e2 b b2 p q r u v = cc
 
   pub opened_at-kept : (o : OpenVertex) → IsOpenOf old oldc o → opened_at new newc o ≡ opened_at old oldc o

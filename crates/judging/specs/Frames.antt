@@ -27,7 +27,7 @@ given_at types g = record { typ = type_at types g.typ; name = g.name }
 abbrev pub opened_at : List Typ → List Context → OpenVertex → machine.Opened
 opened_at types ctxs o = record {
   place = o.place;
-  node = o.node;
+  node = o.node.now;
   ctor = o.view.ctor;
   demanded = record { scope = scope_at types ctxs o.view.ctx; wanted = wanted_at types o.view.mode };
   bound = bound_at types o.view.binder;

@@ -71,7 +71,7 @@ fn close_expression(
     requires sort { sort_of_ctor vertex.now.view.ctor ≡ Sort.Exp }
     requires vertex { IsOpenOf types.old ctxs.now vertex.now }
     requires whole { vertex.now.next ≡ length (positions vertex.now.view.ctor) }
-    ensures node { IfOk result (λ c. closed_at types.new vertex.now.node c ≡ head_by_sort Sort.Exp (opened_at types.old ctxs.now vertex.now)) }
+    ensures node { IfOk result (λ c. closed_at types.new vertex.now.node.now c ≡ head_by_sort Sort.Exp (opened_at types.old ctxs.now vertex.now)) }
     ensures given { IfOk result (λ c. given_at types.new c.given ≡ given_by_sort Sort.Exp (opened_at types.old ctxs.now vertex.now)) }
     ensures numbers { IfOk result (IsClosedOf types.new) }
     ensures kept { KeepsTypes types.old types.new }
@@ -91,7 +91,7 @@ fn close_expression(
 fn close_type(types: &mut TypeTable, vertex: &OpenVertex) -> Result<Closed, NoMemory>
     requires earlier { IsTypeOf types.old vertex.now.earlier }
     requires last { IsTypeOf types.old vertex.now.view.binder.typ }
-    ensures node { IfOk result (λ c. closed_at types.new vertex.now.node c ≡ typed_node vertex.now.node
+    ensures node { IfOk result (λ c. closed_at types.new vertex.now.node.now c ≡ typed_node vertex.now.node.now
         (made vertex.now.view.ctor (type_at types.old vertex.now.earlier) (type_at types.old vertex.now.view.binder.typ))) }
     ensures given { IfOk result (λ c. given_at types.new c.given
         ≡ of_type (made vertex.now.view.ctor (type_at types.old vertex.now.earlier) (type_at types.old vertex.now.view.binder.typ))) }
@@ -122,7 +122,7 @@ pub fn close(
 ) -> Result<Closed, NoMemory>
     requires vertex { IsOpenOf types.old ctxs.now vertex.now }
     requires whole { vertex.now.next ≡ length (positions vertex.now.view.ctor) }
-    ensures node { IfOk result (λ c. closed_at types.new vertex.now.node c ≡ head_of (opened_at types.old ctxs.now vertex.now)) }
+    ensures node { IfOk result (λ c. closed_at types.new vertex.now.node.now c ≡ head_of (opened_at types.old ctxs.now vertex.now)) }
     ensures given { IfOk result (λ c. given_at types.new c.given ≡ given_of (opened_at types.old ctxs.now vertex.now)) }
     ensures numbers { IfOk result (IsClosedOf types.new) }
     ensures kept { KeepsTypes types.old types.new }

@@ -14,10 +14,11 @@ pub struct Given {
 
 /// A vertex of which some positions are judged.
 #[derive(Clone, Copy, Debug)]
-pub struct OpenVertex {
+pub struct OpenVertex<'t> {
     /// The index of its node.
     pub place: usize,
-    pub node: Node,
+    /// Its node, of the tree that is judged.
+    pub node: &'t Node,
     /// The vertex as its rule sees it. Its binder has the last type at a position for types.
     pub view: NodeView,
     /// The type at such a position before it.
@@ -28,8 +29,8 @@ pub struct OpenVertex {
 
 /// What is open.
 #[derive(Clone, Copy, Debug)]
-pub enum Frame {
-    Open(OpenVertex),
+pub enum Frame<'t> {
+    Open(OpenVertex<'t>),
     /// A conflict: what is demanded of its children, and how many are left.
     Several(Demand, u64),
 }

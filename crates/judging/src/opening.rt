@@ -1,4 +1,5 @@
 ghost use Rattle.std.specs.Prelude.{◌≡◌, slice_get, ◌<◌, ◌-◌, List, length, unwrap_or, IfOk};
+ghost use Rattle.std.specs.Option.{option_map};
 ghost use Rattle.grove_sorts.specs.declared.sort.Sort.{Sort};
 ghost use Rattle.grove_sorts.specs.Ctor.{positions};
 ghost use Rattle.type_core.specs.TypeTable.{KeepsTypes};
@@ -46,23 +47,21 @@ pub fn nothing(types: &TypeTable) -> Given
     }
 }
 
-/// The vertex once the child at its next position has given something.
-pub fn fill(vertex: &OpenVertex, given: Given) -> OpenVertex
-    requires { vertex.now.next < length (positions vertex.now.view.ctor) }
-    ensures { result ≡ filled_with (sort_at_index vertex.now.view.ctor vertex.now.next) given vertex.now }
+/// Gives a vertex what the child at its next position has given.
+pub fn fill(vertex: &mut OpenVertex, given: Given)
+    requires { vertex.old.next < length (positions vertex.old.view.ctor) }
+    ensures { vertex.new ≡ filled_with (sort_at_index vertex.old.view.ctor vertex.old.next) given vertex.old }
 {
-    let mut open = *vertex;
-    match sort_at_place(&open.view.ctor, open.next) {
-        Some(Sort::Exp) => open.view.done[open.next] = Some(given.typ),
+    match sort_at_place(&vertex.view.ctor, vertex.next) {
+        Some(Sort::Exp) => vertex.view.done[vertex.next] = Some(given.typ),
         Some(Sort::Typ) => {
-            open.earlier = open.view.binder.typ;
-            open.view.binder.typ = given.typ;
+            vertex.earlier = vertex.view.binder.typ;
+            vertex.view.binder.typ = given.typ;
         }
-        Some(Sort::Pat) => open.view.binder.name = given.name,
+        Some(Sort::Pat) => vertex.view.binder.name = given.name,
         _ => {}
     }
-    open.next += 1;
-    open
+    vertex.next += 1;
 }
 
 // What is demanded at the next position of the vertex.
@@ -92,10 +91,10 @@ fn demand_at(
     })
 }
 
-fn innermost(frames: &[Frame]) -> Option<Frame>
-    ensures { result ≡ slice_get frames.now (length frames.now - 1) }
+fn innermost<'f, 't>(frames: &'f [Frame<'t>]) -> Option<&'f Frame<'t>>
+    ensures { option_map (λ frame. frame.now) result ≡ slice_get frames.now (length frames.now - 1) }
 {
-    frames.last().copied()
+    frames.last()
 }
 
 /// What is demanded of the next node, which is the head of the tree where nothing is open. The last frame is the innermost. The
@@ -117,13 +116,19 @@ pub fn demand_next(
             ctx: ctxs.empty(),
             mode: Mode::Syn,
         }),
-        Some(Frame::Open(vertex)) => demand_at(alloc, types, ctxs, &vertex),
-        Some(Frame::Several(demand, _)) => Ok(demand),
+        Some(Frame::Open(vertex)) => demand_at(alloc, types, ctxs, vertex),
+        Some(Frame::Several(demand, _)) => Ok(*demand),
     }
 }
 
 /// A vertex none of whose positions is judged, and of which this is demanded.
-pub fn fresh(types: &TypeTable, place: usize, node: &Node, ctor: Ctor, demand: Demand) -> OpenVertex
+pub fn fresh<'t>(
+    types: &TypeTable,
+    place: usize,
+    node: &'t Node,
+    ctor: Ctor,
+    demand: Demand,
+) -> OpenVertex<'t>
     ensures opened { (ctxs : List Context) → opened_at types.now ctxs result ≡ machine.fresh place node.now ctor (demanded_at types.now ctxs demand) }
     ensures left { left_of result ≡ positions ctor }
     ensures numbers { (ctxs : List Context) → IsDemandOf types.now ctxs demand → IsOpenOf types.now ctxs result }
@@ -131,7 +136,7 @@ pub fn fresh(types: &TypeTable, place: usize, node: &Node, ctor: Ctor, demand: D
     let unknown = types.unknown();
     OpenVertex {
         place,
-        node: *node,
+        node,
         view: NodeView {
             ctor,
             ctx: demand.ctx,

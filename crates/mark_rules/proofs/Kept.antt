@@ -49,7 +49,7 @@ module _ (old new : List Typ) (keeps : KeepsTypes old new) where
 
 module _ (old new : List Typ) (oldc newc : List Context) (keeps : KeepsTypes old new) (keepsc : KeepsContexts oldc newc) where
   pub walk_kept : (w : Walk) → IsWalkOf old oldc w → IsWalkOf new newc w
-  walk_kept w h = record { frames = frames_kept old new oldc newc keeps keepsc w.frames.items h.frames; out = marked_nodes_kept old new keeps w.out h.out }
+  walk_kept w h = record { frames = frames_kept old new oldc newc keeps keepsc w.frames.items h.frames; out = marked_nodes_kept old new keeps w.out h.out; stand = h.stand }
 
   pub state_at-kept : (w : Walk) → IsWalkOf old oldc w → state_at new newc w ≡ state_at old oldc w
   state_at-kept w h =

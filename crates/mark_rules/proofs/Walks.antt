@@ -36,15 +36,15 @@ abbrev pub node_of : Node → Closed → MarkedNode
 node_of n c = record { node = n; mode = c.mode; typ = c.typ; mark = c.mark }
 
 pub is_closed : (old new : List Typ) (ctxs : List Context) (o : OpenVertex) (c : Closed) (fs : List Frame) (out after : List MarkedNode) → KeepsTypes old new → AreFramesOf old ctxs fs → AreMarkedNodesOf old out
-    → length (positions o.view.ctor) ≤ o.next → closed_at new o.node c ≡ machine.head_of (opened_at old ctxs o) → given_at new c.given ≡ machine.given_of (opened_at old ctxs o) → after ≡ set out o.place (node_of o.node c)
+    → length (positions o.view.ctor) ≤ o.next → closed_at new o.node.now c ≡ machine.head_of (opened_at old ctxs o) → given_at new c.given ≡ machine.given_of (opened_at old ctxs o) → after ≡ set out o.place (node_of o.node.now c)
     → machine.deliver (given_at new c.given) (frames_at new ctxs fs) (meant_nodes new after) ≡ machine.opened (opened_at old ctxs o) (left_of o) (frames_at old ctxs fs) (meant_nodes old out)
 is_closed old new ctxs o c fs out after keeps all nodes whole node gives is =
     frames.closes old new ctxs o c fs (meant_nodes old out) (meant_nodes new after) keeps all whole node gives
-    (ap (meant_nodes new) is ∙ meant_nodes-set new out o.place (node_of o.node c) ∙ ap (λ ms. set ms o.place (closed_at new o.node c)) (meant_nodes_kept old new keeps out nodes))
+    (ap (meant_nodes new) is ∙ meant_nodes-set new out o.place (node_of o.node.now c) ∙ ap (λ ms. set ms o.place (closed_at new o.node.now c)) (meant_nodes_kept old new keeps out nodes))
 
-pub still_marked : (old new : List Typ) (o : OpenVertex) (c : Closed) (out after : List MarkedNode) → KeepsTypes old new → AreMarkedNodesOf old out → IsClosedOf new c → after ≡ set out o.place (node_of o.node c) → AreMarkedNodesOf new after
+pub still_marked : (old new : List Typ) (o : OpenVertex) (c : Closed) (out after : List MarkedNode) → KeepsTypes old new → AreMarkedNodesOf old out → IsClosedOf new c → after ≡ set out o.place (node_of o.node.now c) → AreMarkedNodesOf new after
 still_marked old new o c out after keeps nodes is put =
-    subst (AreMarkedNodesOf new) (sym put) (are_marked-set new out o.place (node_of o.node c) (marked_nodes_kept old new keeps out nodes) (record { mode = is.mode; typ = is.typ }))
+    subst (AreMarkedNodesOf new) (sym put) (are_marked-set new out o.place (node_of o.node.now c) (marked_nodes_kept old new keeps out nodes) (record { mode = is.mode; typ = is.typ }))
 
 -- ---- a node is begun
 

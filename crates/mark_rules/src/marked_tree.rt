@@ -1,9 +1,13 @@
-ghost use Rattle.std.specs.Prelude.{◌≡◌, ◌<◌, ◌^◌, [], ◌∷◌, ◌++◌, length, set, slice_get, IfOk, OnOk, OnErr};
+ghost use Rattle.std.specs.Prelude.{◌≡◌, ◌<◌, ◌^◌, [], ◌∷◌, ◌++◌, length, set, slice_get, Some, IfOk, OnOk, OnErr};
+ghost use Rattle.grove_terms.specs.declared.node.Node.{Node};
+ghost use Rattle.mark_rules.specs.Reading.{bare_nodes};
 
 use crate::marked_node::MarkedNode;
 use crate::no_memory::NoMemory;
+use mark_step::{Mark, Mode};
 use std::alloc::Global;
 use std::marker::Model;
+use type_core::TypeId;
 
 /// The nodes of a marked tree in preorder.
 #[derive(Debug, Drop)]
@@ -48,12 +52,21 @@ impl MarkedTree {
         Ok(())
     }
 
-    // Puts another node in the place of the one at an index.
-    pub(crate) fn set(&mut self, index: usize, node: MarkedNode)
-        ensures { self.new ≡ set self.old index node }
+    // Puts what marking adds to the node at an index, if there is one.
+    pub(crate) fn settle(
+        &mut self,
+        index: usize,
+        mode: Option<Mode>,
+        typ: Option<TypeId>,
+        mark: Mark,
+    )
+        ensures { (node : Node) → slice_get (bare_nodes self.old) index ≡ Some node
+            → self.new ≡ set self.old index (record { node = node; mode = mode; typ = typ; mark = mark }) }
     {
-        if let Some(place) = self.nodes.get_mut(index) {
-            *place = node;
+        if let Some(marked) = self.nodes.get_mut(index) {
+            marked.mode = mode;
+            marked.typ = typ;
+            marked.mark = mark;
         }
     }
 

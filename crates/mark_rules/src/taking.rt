@@ -1,16 +1,16 @@
-ghost use Rattle.std.specs.Prelude.{◌≡◌, List, ◌∷◌, ◌++◌, [], drop, length, IfOk, OnOk, IfSome, Some};
+ghost use Rattle.std.specs.Prelude.{◌≡◌, List, ◌∷◌, ◌++◌, [], drop, length, slice_get, IfOk, OnOk, IfSome, Some};
 ghost use Rattle.grove_sorts.specs.Ctor.{sort_of_ctor};
 ghost use Rattle.type_core.specs.Typ.{Typ};
 ghost use Rattle.type_core.specs.TypeTable.{KeepsTypes};
 ghost use Rattle.ctx_table.specs.CtxTable.{KeepsContexts};
 ghost use Rattle.mark_step.specs.Node.{wanted_at, demanded_at, IsModeOf, IsDemandOf};
 ghost use Rattle.marking.specs.Marking.{marked_plain, marked_tree};
-ghost use Rattle.mark_rules.specs.Reading.{meant, meant_nodes};
+ghost use Rattle.mark_rules.specs.Reading.{meant, meant_nodes, bare_nodes};
 ghost use Rattle.judging.specs.Machine as machine;
 ghost use Rattle.judging.specs.Machine.{deliver, opened, taken, step};
 ghost use Rattle.judging.specs.Frames.{given_at, opened_at, left_of, frame_at, frames_at, IsGivenOf, IsOpenOf, IsFrameOf};
 ghost use Rattle.mark_rules.specs.Numbers.{IsMarkedNodeOf, AreMarkedNodesOf};
-ghost use Rattle.mark_rules.specs.Walking.{state_at, given_on, IsWalkOf};
+ghost use Rattle.mark_rules.specs.Walking.{state_at, given_on, StandsAt, IsWalkOf};
 
 use crate::marked_node::MarkedNode;
 use crate::marked_tree::MarkedTree;
@@ -25,8 +25,8 @@ use type_core::TypeTable;
 
 /// A tree of which some nodes are marked: what is open, innermost last, and the nodes.
 #[derive(Debug, Drop)]
-pub(crate) struct Walk {
-    pub(crate) frames: Vec<Frame>,
+pub(crate) struct Walk<'t> {
+    pub(crate) frames: Vec<Frame<'t>>,
     pub(crate) out: MarkedTree,
 }
 
@@ -83,16 +83,17 @@ fn list_plain(
 }
 
 // Opens the vertex where some of its positions are left, and else closes it and tells what it gives.
-fn go_on(
+fn go_on<'t>(
     alloc: Global,
     types: &mut TypeTable,
     ctxs: &CtxTable,
-    walk: &mut Walk,
-    vertex: OpenVertex,
+    walk: &mut Walk<'t>,
+    vertex: &OpenVertex<'t>,
 ) -> Result<Option<Given>, NoMemory>
     requires walk { IsWalkOf types.old ctxs.now walk.old }
-    requires vertex { IsOpenOf types.old ctxs.now vertex }
-    ensures state { IfOk result (λ given. given_on types.new ctxs.now given walk.new ≡ opened (opened_at types.old ctxs.now vertex) (left_of vertex)
+    requires vertex { IsOpenOf types.old ctxs.now vertex.now }
+    requires stands { slice_get (bare_nodes walk.old.out) vertex.now.place ≡ Some vertex.now.node.now }
+    ensures state { IfOk result (λ given. given_on types.new ctxs.now given walk.new ≡ opened (opened_at types.old ctxs.now vertex.now) (left_of vertex.now)
         (frames_at types.old ctxs.now walk.old.frames.items) (meant_nodes types.old walk.old.out)) }
     ensures given { IfOk result (λ given. IfSome given (IsGivenOf types.new)) }
     ensures shorter { IfOk result (λ given. IfSome given (λ g. length walk.new.frames.items ≡ length walk.old.frames.items)) }
@@ -100,44 +101,43 @@ fn go_on(
     ensures kept { KeepsTypes types.old types.new }
 {
     if vertex.next < position_count(&vertex.view.ctor) {
-        walk.frames.push(Frame::Open(vertex))?;
+        walk.frames.push(Frame::Open(*vertex))?;
         return Ok(None);
     }
-    let closed = close(alloc, types, ctxs, &vertex)?;
-    let node = MarkedNode {
-        node: vertex.node,
-        mode: closed.mode,
-        typ: closed.typ,
-        mark: closed.mark,
-    };
-    walk.out.set(vertex.place, node);
+    let closed = close(alloc, types, ctxs, vertex)?;
+    walk.out
+        .settle(vertex.place, closed.mode, closed.typ, closed.mark);
     Ok(Some(closed.given))
 }
 
 // Gives something to a frame that was the innermost, and tells what that gives to the next one.
-fn pass(
+fn pass<'t>(
     alloc: Global,
     types: &mut TypeTable,
     ctxs: &CtxTable,
-    walk: &mut Walk,
-    frame: Frame,
+    walk: &mut Walk<'t>,
+    frame: &mut Frame<'t>,
     given: Given,
 ) -> Result<Option<Given>, NoMemory>
     requires walk { IsWalkOf types.old ctxs.now walk.old }
-    requires frame { IsFrameOf types.old ctxs.now frame }
+    requires frame { IsFrameOf types.old ctxs.now frame.old }
+    requires stands { StandsAt (bare_nodes walk.old.out) frame.old }
     requires given { IsGivenOf types.old given }
     ensures state { IfOk result (λ g. given_on types.new ctxs.now g walk.new ≡ deliver (given_at types.old given)
-        (frame_at types.old ctxs.now frame ∷ frames_at types.old ctxs.now walk.old.frames.items) (meant_nodes types.old walk.old.out)) }
+        (frame_at types.old ctxs.now frame.old ∷ frames_at types.old ctxs.now walk.old.frames.items) (meant_nodes types.old walk.old.out)) }
     ensures given { IfOk result (λ given. IfSome given (IsGivenOf types.new)) }
     ensures shorter { IfOk result (λ given. IfSome given (λ g. length walk.new.frames.items ≡ length walk.old.frames.items)) }
     ensures walk { OnOk result (IsWalkOf types.new ctxs.now walk.new) }
     ensures kept { KeepsTypes types.old types.new }
 {
     match frame {
-        Frame::Open(vertex) => go_on(alloc, types, ctxs, walk, fill(&vertex, given)),
+        Frame::Open(vertex) => {
+            fill(vertex, given);
+            go_on(alloc, types, ctxs, walk, vertex)
+        }
         Frame::Several(demand, left) => {
-            if left > 1 {
-                walk.frames.push(Frame::Several(demand, left - 1))?;
+            if *left > 1 {
+                walk.frames.push(Frame::Several(*demand, *left - 1))?;
                 return Ok(None);
             }
             Ok(Some(nothing(types)))
@@ -161,21 +161,21 @@ fn hand_on(
 {
     let mut pending = given;
     while let Some(given) = pending {
-        let Some(frame) = walk.frames.pop() else {
+        let Some(mut frame) = walk.frames.pop() else {
             return Ok(());
         };
-        pending = pass(alloc, types, ctxs, walk, frame, given)?;
+        pending = pass(alloc, types, ctxs, walk, &mut frame, given)?;
     }
     Ok(())
 }
 
 // Marks a node, of which this is demanded, as far as it can be, and tells what it gives.
-fn begin(
+fn begin<'t>(
     alloc: Global,
     types: &mut TypeTable,
     ctxs: &CtxTable,
-    walk: &mut Walk,
-    node: &Node,
+    walk: &mut Walk<'t>,
+    node: &'t Node,
     demand: Demand,
 ) -> Result<Option<Given>, NoMemory>
     requires walk { IsWalkOf types.old ctxs.now walk.old }
@@ -192,7 +192,7 @@ fn begin(
             let place = walk.out.len();
             walk.out.push(unsettled(node))?;
             let begun = fresh(types, place, node, vertex.ctor, demand);
-            go_on(alloc, types, ctxs, walk, begun)
+            go_on(alloc, types, ctxs, walk, &begun)
         }
         What::Hole(sort) => Ok(Some(list_plain(types, &mut walk.out, sort, mode, node)?)),
         What::Conflict(sort, count) => {
@@ -212,12 +212,12 @@ fn begin(
 }
 
 // Takes the next node.
-pub(crate) fn take(
+pub(crate) fn take<'t>(
     alloc: Global,
     types: &mut TypeTable,
     ctxs: &mut CtxTable,
-    walk: &mut Walk,
-    node: &Node,
+    walk: &mut Walk<'t>,
+    node: &'t Node,
 ) -> Result<(), NoMemory>
     requires walk { IsWalkOf types.old ctxs.old walk.old }
     ensures state { OnOk result (state_at types.new ctxs.new walk.new ≡ step (state_at types.old ctxs.old walk.old) node.now) }

@@ -50,12 +50,12 @@ noted-or true mark Clean noted = (λ h. absurd cc, λ h. noted.1 h.0)
 noted-or false mark Clean noted = (λ h. (noted.0 refl, h), λ h. h.1)
 
 pub stands_closed : (old new : List Typ) (ctxs : List Context) (o : OpenVertex) (c : Closed) (walk after : Walk) (nodes : List MarkedNode) → KeepsTypes old new
-    → AreFramesOf old ctxs walk.frames.items → length (positions o.view.ctor) ≤ o.next → closed_at new o.node c ≡ machine.head_of (opened_at old ctxs o)
+    → AreFramesOf old ctxs walk.frames.items → length (positions o.view.ctor) ≤ o.next → closed_at new o.node.now c ≡ machine.head_of (opened_at old ctxs o)
     → given_at new c.given ≡ machine.given_of (opened_at old ctxs o) → after.frames.items ≡ walk.frames.items → after.has_mark ≡ (walk.has_mark || has_mark c.mark)
     → IsUnmarkedAt nodes o.place → AreUnsettled o.place (frames_at old ctxs walk.frames.items) nodes → IsNoted walk nodes
     → StandsFor new ctxs (Some c.given) after (machine.opened (opened_at old ctxs o) (left_of o) (frames_at old ctxs walk.frames.items) nodes)
 stands_closed old new ctxs o c walk after nodes keeps frames whole node gives stay marks is are noted =
-    let head : MarkedNode = closed_at new o.node c in
+    let head : MarkedNode = closed_at new o.node.now c in
     let later : List MarkedNode = set nodes o.place head in
     let both = noted-or walk.has_mark (has_mark c.mark) (HasNoMark nodes) noted in
     let put = no_mark-set nodes o.place head is in

@@ -18,8 +18,8 @@ use type_core::TypeTable;
 
 /// A tree of which some nodes are judged: what is open, innermost last, and whether a vertex that is closed has a mark.
 #[derive(Debug, Drop)]
-pub(crate) struct Walk {
-    pub(crate) frames: Vec<Frame>,
+pub(crate) struct Walk<'t> {
+    pub(crate) frames: Vec<Frame<'t>>,
     pub(crate) has_mark: bool,
 }
 
@@ -30,59 +30,62 @@ fn is_mark(mark: Mark) -> bool
 }
 
 // Opens the vertex where some of its positions are left, and else closes it and tells what it gives.
-fn go_on(
+fn go_on<'t>(
     alloc: Global,
     types: &mut TypeTable,
     ctxs: &CtxTable,
-    walk: &mut Walk,
-    vertex: OpenVertex,
+    walk: &mut Walk<'t>,
+    vertex: &OpenVertex<'t>,
 ) -> Result<Option<Given>, NoMemory>
     requires frames { AreFramesOf types.old ctxs.now walk.old.frames.items }
-    requires vertex { IsOpenOf types.old ctxs.now vertex }
-    ensures state { IfOk result (λ given. (nodes : List MarkedNode) → IsUnmarkedAt nodes vertex.place
-        → AreUnsettled vertex.place (frames_at types.old ctxs.now walk.old.frames.items) nodes → IsNoted walk.old nodes
+    requires vertex { IsOpenOf types.old ctxs.now vertex.now }
+    ensures state { IfOk result (λ given. (nodes : List MarkedNode) → IsUnmarkedAt nodes vertex.now.place
+        → AreUnsettled vertex.now.place (frames_at types.old ctxs.now walk.old.frames.items) nodes → IsNoted walk.old nodes
         → StandsFor types.new ctxs.now given walk.new
-        (opened (opened_at types.old ctxs.now vertex) (left_of vertex) (frames_at types.old ctxs.now walk.old.frames.items) nodes)) }
+        (opened (opened_at types.old ctxs.now vertex.now) (left_of vertex.now) (frames_at types.old ctxs.now walk.old.frames.items) nodes)) }
     ensures given { IfOk result (λ given. IfSome given (IsGivenOf types.new)) }
     ensures shorter { IfOk result (λ given. IfSome given (λ g. length walk.new.frames.items ≡ length walk.old.frames.items)) }
     ensures frames { OnOk result (AreFramesOf types.new ctxs.now walk.new.frames.items) }
     ensures kept { KeepsTypes types.old types.new }
 {
     if vertex.next < position_count(&vertex.view.ctor) {
-        walk.frames.push(Frame::Open(vertex))?;
+        walk.frames.push(Frame::Open(*vertex))?;
         return Ok(None);
     }
-    let closed = close(alloc, types, ctxs, &vertex)?;
+    let closed = close(alloc, types, ctxs, vertex)?;
     walk.has_mark |= is_mark(closed.mark);
     Ok(Some(closed.given))
 }
 
 // Gives something to a frame that was the innermost, and tells what that gives to the next one.
-fn pass(
+fn pass<'t>(
     alloc: Global,
     types: &mut TypeTable,
     ctxs: &CtxTable,
-    walk: &mut Walk,
-    frame: Frame,
+    walk: &mut Walk<'t>,
+    frame: &mut Frame<'t>,
     given: Given,
 ) -> Result<Option<Given>, NoMemory>
     requires frames { AreFramesOf types.old ctxs.now walk.old.frames.items }
-    requires frame { IsFrameOf types.old ctxs.now frame }
+    requires frame { IsFrameOf types.old ctxs.now frame.old }
     requires given { IsGivenOf types.old given }
     ensures state { IfOk result (λ g. (nodes : List MarkedNode)
-        → AreUnsettled (length nodes) (frame_at types.old ctxs.now frame ∷ frames_at types.old ctxs.now walk.old.frames.items) nodes → IsNoted walk.old nodes
+        → AreUnsettled (length nodes) (frame_at types.old ctxs.now frame.old ∷ frames_at types.old ctxs.now walk.old.frames.items) nodes → IsNoted walk.old nodes
         → StandsFor types.new ctxs.now g walk.new (deliver (given_at types.old given)
-        (frame_at types.old ctxs.now frame ∷ frames_at types.old ctxs.now walk.old.frames.items) nodes)) }
+        (frame_at types.old ctxs.now frame.old ∷ frames_at types.old ctxs.now walk.old.frames.items) nodes)) }
     ensures given { IfOk result (λ given. IfSome given (IsGivenOf types.new)) }
     ensures shorter { IfOk result (λ given. IfSome given (λ g. length walk.new.frames.items ≡ length walk.old.frames.items)) }
     ensures frames { OnOk result (AreFramesOf types.new ctxs.now walk.new.frames.items) }
     ensures kept { KeepsTypes types.old types.new }
 {
     match frame {
-        Frame::Open(vertex) => go_on(alloc, types, ctxs, walk, fill(&vertex, given)),
+        Frame::Open(vertex) => {
+            fill(vertex, given);
+            go_on(alloc, types, ctxs, walk, vertex)
+        }
         Frame::Several(demand, left) => {
-            if left > 1 {
-                walk.frames.push(Frame::Several(demand, left - 1))?;
+            if *left > 1 {
+                walk.frames.push(Frame::Several(*demand, *left - 1))?;
                 return Ok(None);
             }
             Ok(Some(nothing(types)))
@@ -106,22 +109,22 @@ fn hand_on(
 {
     let mut pending = given;
     while let Some(given) = pending {
-        let Some(frame) = walk.frames.pop() else {
+        let Some(mut frame) = walk.frames.pop() else {
             return Ok(());
         };
-        pending = pass(alloc, types, ctxs, walk, frame, given)?;
+        pending = pass(alloc, types, ctxs, walk, &mut frame, given)?;
     }
     Ok(())
 }
 
 // Judges a node, of which this is demanded, as far as it can be, and tells what it gives.
-fn begin(
+fn begin<'t>(
     alloc: Global,
     types: &mut TypeTable,
     ctxs: &CtxTable,
-    walk: &mut Walk,
+    walk: &mut Walk<'t>,
     place: usize,
-    node: &Node,
+    node: &'t Node,
     demand: Demand,
 ) -> Result<Option<Given>, NoMemory>
     requires frames { AreFramesOf types.old ctxs.now walk.old.frames.items }
@@ -135,7 +138,7 @@ fn begin(
     match node.what {
         What::Vertex(vertex) => {
             let begun = fresh(types, place, node, vertex.ctor, demand);
-            go_on(alloc, types, ctxs, walk, begun)
+            go_on(alloc, types, ctxs, walk, &begun)
         }
         What::Conflict(_, count) => {
             let each = Demand {
@@ -150,13 +153,13 @@ fn begin(
 }
 
 // Takes the next node, which stands at this place.
-pub(crate) fn take(
+pub(crate) fn take<'t>(
     alloc: Global,
     types: &mut TypeTable,
     ctxs: &mut CtxTable,
-    walk: &mut Walk,
+    walk: &mut Walk<'t>,
     place: usize,
-    node: &Node,
+    node: &'t Node,
 ) -> Result<(), NoMemory>
     requires frames { AreFramesOf types.old ctxs.old walk.old.frames.items }
     ensures state { OnOk result ((s : State) → StandsFor types.old ctxs.old None walk.old s → length s.out ≡ place

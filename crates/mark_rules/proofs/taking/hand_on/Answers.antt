@@ -1,8 +1,9 @@
 use Rattle.std.proofs.Common.{◌≡◌, Some, ◌∙◌}
-use Rattle.mark_rules.specs.Reading.{meant_nodes}
+use Rattle.mark_rules.specs.Reading.{meant_nodes, bare_nodes}
 use Rattle.judging.specs.Frames.{given_at}
 use Rattle.judging.proofs.Kept.{types-then}
 use Rattle.judging.proofs.Frames.{popped, rest_are, off_is}
+use Rattle.mark_rules.proofs.Places.{rest_stand, off_stands}
 use Rattle.mark_rules.proofs.Walks.{given_along}
 use Rattle.mark_rules.proofs.taking.hand_on.Goals as goal
 
@@ -10,10 +11,14 @@ pub pass-requires-clause-walk : goal.pass-requires-clause-walk
 pass-requires-clause-walk c = record {
   frames = rest_are c.loop-pending.types c.args.ctxs.now c.loop-pending.walk.frames.items c.pop.new.self.items c.in-Some-pop.frame c.in-Some-pop.ensures.items c.loop-pending.invariant.walk.frames;
   out = c.loop-pending.invariant.walk.out;
+  stand = rest_stand (bare_nodes c.loop-pending.walk.out) c.loop-pending.walk.frames.items c.pop.new.self.items c.in-Some-pop.frame c.in-Some-pop.ensures.items c.loop-pending.invariant.walk.stand;
 }
 
 pub pass-requires-clause-frame : goal.pass-requires-clause-frame
 pass-requires-clause-frame c = off_is c.loop-pending.types c.args.ctxs.now c.loop-pending.walk.frames.items c.pop.new.self.items c.in-Some-pop.frame c.in-Some-pop.ensures.items c.loop-pending.invariant.walk.frames
+
+pub pass-requires-clause-stands : goal.pass-requires-clause-stands
+pass-requires-clause-stands c = off_stands (bare_nodes c.loop-pending.walk.out) c.loop-pending.walk.frames.items c.pop.new.self.items c.in-Some-pop.frame c.in-Some-pop.ensures.items c.loop-pending.invariant.walk.stand
 
 pub loop-pending-preserved : goal.loop-pending-preserved
 loop-pending-preserved c =

@@ -7,7 +7,7 @@ use Rattle.plain_typing.proofs.walking.go_on.Goals as goal
 
 pub returns-then-vertex-position_count-clause-state : goal.returns-then-vertex-position_count-clause-state
 returns-then-vertex-position_count-clause-state c = λ nodes is are noted.
-    stands_open c.args.types.now c.args.ctxs.now c.args.vertex c.args.walk.now _ nodes (omega arith) c.in_ok-push.ensures.items refl is are noted
+    stands_open c.args.types.now c.args.ctxs.now c.args.vertex.now c.args.walk.now _ nodes (omega arith) c.in_ok-push.ensures.items refl is are noted
 
 pub returns-then-vertex-position_count-clause-frames : goal.returns-then-vertex-position_count-clause-frames
 returns-then-vertex-position_count-clause-frames c =
@@ -15,7 +15,7 @@ returns-then-vertex-position_count-clause-frames c =
 
 pub returns-clause-state : goal.returns-clause-state
 returns-clause-state c = λ nodes is are noted.
-    stands_closed c.args.types.now c.close.new.types c.args.ctxs.now c.args.vertex c.in_ok-closed.closed c.args.walk.now _ nodes c.in_ok-closed.ensures.kept c.requires.frames (omega arith)
+    stands_closed c.args.types.now c.close.new.types c.args.ctxs.now c.args.vertex.now c.in_ok-closed.closed c.args.walk.now _ nodes c.in_ok-closed.ensures.kept c.requires.frames (omega arith)
     c.in_ok-closed.ensures.node c.in_ok-closed.ensures.given refl (ap (λ b. c.args.walk.now.has_mark || b) c.is_mark.ensures) is are noted
 
 pub returns-clause-frames : goal.returns-clause-frames

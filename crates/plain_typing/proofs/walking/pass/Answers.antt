@@ -7,23 +7,23 @@ use Rattle.plain_typing.proofs.walking.pass.Goals as goal
 
 pub go_on-requires-clause-vertex : goal.go_on-requires-clause-vertex
 go_on-requires-clause-vertex c =
-    let is : c.args.frame ≡ Open c.in-Open.vertex = cc in
-    given_is c.args.types.now c.args.ctxs.now c.args.frame c.in-Open.vertex c.fill.result c.args.given is c.fill.ensures c.requires.frame c.requires.given
+    let is : c.args.frame.now ≡ Open c.in-Open.vertex = cc in
+    given_is c.args.types.now c.args.ctxs.now c.args.frame.now c.in-Open.vertex c.fill.new.vertex c.args.given is c.fill.ensures c.requires.frame c.requires.given
 
 pub returns-then-left-gt1-clause-state : goal.returns-then-left-gt1-clause-state
 returns-then-left-gt1-clause-state c = λ nodes are noted.
-    let is : c.args.frame ≡ Several c.in-Several.demand c.in-Several.left = cc in
-    stands_several c.args.types.now c.args.ctxs.now c.args.frame c.in-Several.demand c.in-Several.left (given_at c.args.types.now c.args.given) c.args.walk.now _ nodes is (omega arith) c.in_ok-push-in-Several.ensures.items refl
+    let is : c.args.frame.now ≡ Several c.in-Several.demand c.in-Several.left = cc in
+    stands_several c.args.types.now c.args.ctxs.now c.args.frame.now c.in-Several.demand c.in-Several.left (given_at c.args.types.now c.args.given) c.args.walk.now _ nodes is (omega arith) c.in_ok-push-in-Several.ensures.items refl
     are noted
 
 pub returns-then-left-gt1-clause-frames : goal.returns-then-left-gt1-clause-frames
 returns-then-left-gt1-clause-frames c =
-    let is : c.args.frame ≡ Several c.in-Several.demand c.in-Several.left = cc in
-    several_are c.args.types.now c.args.ctxs.now c.args.frame c.in-Several.demand c.in-Several.left (c.in-Several.left - 1) c.args.walk.now.frames.items c.push.new.self.items is c.requires.frame c.requires.frames
+    let is : c.args.frame.now ≡ Several c.in-Several.demand c.in-Several.left = cc in
+    several_are c.args.types.now c.args.ctxs.now c.args.frame.now c.in-Several.demand c.in-Several.left (c.in-Several.left - 1) c.args.walk.now.frames.items c.push.new.self.items is c.requires.frame c.requires.frames
     c.in_ok-push-in-Several.ensures.items
 
 pub returns-in-Open-clause-state : goal.returns-in-Open-clause-state
 returns-in-Open-clause-state c =
-    let is : c.args.frame ≡ Open c.in-Open.vertex = cc in
-    stands_filled c.args.types.now c.go_on.new.types c.args.ctxs.now c.args.frame c.in-Open.vertex c.fill.result c.args.given c.args.walk.now c.go_on.new.walk c.go_on.result is c.fill.ensures c.requires.frame c.requires.given
+    let is : c.args.frame.now ≡ Open c.in-Open.vertex = cc in
+    stands_filled c.args.types.now c.go_on.new.types c.args.ctxs.now c.args.frame.now c.in-Open.vertex c.fill.new.vertex c.args.given c.args.walk.now c.go_on.new.walk c.go_on.result is c.fill.ensures c.requires.frame c.requires.given
     c.go_on.ensures.state
