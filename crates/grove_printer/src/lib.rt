@@ -8,9 +8,9 @@ mod marks;
 mod no_memory;
 mod print;
 
-pub use marked_lines::print_marked_lines;
+pub use marked_lines::{print_marked_lines, print_marked_lines_of};
 pub use no_memory::NoMemory;
-pub use print::print_grove;
+pub use print::{print_grove, print_heading, print_tree};
 
 #[cfg(test)]
 mod tests;

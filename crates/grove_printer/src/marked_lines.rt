@@ -24,6 +24,21 @@ pub fn print_marked_lines(
     whole_or_nothing(written, start, out)
 }
 
+/// Appends the lines of a marked tree whose nodes have a mark.
+pub fn print_marked_lines_of(
+    tree: &MarkedTree,
+    types: &TypeTable,
+    out: &mut Vec<u8>,
+) -> Result<(), NoMemory>
+    requires { AreMarkedNodesOf types.now tree.now }
+    ensures appended { OnOk result (out.new.items ≡ out.old.items ++ tree_marked_lines (meant_nodes types.now tree.now)) }
+    ensures unchanged { OnErr result (out.new.items ≡ out.old.items) }
+{
+    let start = out.len();
+    let written = append_of_tree(tree.as_slice(), types, out);
+    whole_or_nothing(written, start, out)
+}
+
 // After an error each of these functions may have appended a part.
 
 fn append_marked_lines(

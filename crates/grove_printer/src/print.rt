@@ -24,6 +24,27 @@ pub fn print_grove(
     whole_or_nothing(written, start, out)
 }
 
+/// Appends the heading of a list of trees: the word, with the space behind it, and how many trees there are.
+pub fn print_heading(word: &[u8], trees: usize, out: &mut Vec<u8>) -> Result<(), NoMemory>
+    ensures appended { OnOk result (out.new.items ≡ out.old.items ++ heading word.now trees) }
+    ensures unchanged { OnErr result (out.new.items ≡ out.old.items) }
+{
+    let start = out.len();
+    let written = append_heading(word, trees, out);
+    whole_or_nothing(written, start, out)
+}
+
+/// Appends a line for each node of a marked tree.
+pub fn print_tree(tree: &MarkedTree, types: &TypeTable, out: &mut Vec<u8>) -> Result<(), NoMemory>
+    requires { AreMarkedNodesOf types.now tree.now }
+    ensures appended { OnOk result (out.new.items ≡ out.old.items ++ tree_text (meant_nodes types.now tree.now)) }
+    ensures unchanged { OnErr result (out.new.items ≡ out.old.items) }
+{
+    let start = out.len();
+    let written = append_tree(tree.as_slice(), types, out);
+    whole_or_nothing(written, start, out)
+}
+
 // After an error each of these functions may have appended a part.
 
 fn append_grove(marked: &MarkedGrove, types: &TypeTable, out: &mut Vec<u8>) -> Result<(), NoMemory>
@@ -47,10 +68,18 @@ fn append_section(
         ++ (heading word.now (length trees.now) ++ trees_text (map (meant_nodes types.now) trees.now))) }
     ensures in_part { OnErr result (Extends out.old.items out.new.items) }
 {
-    out.extend_from_slice(word)?;
-    write_number(trees.len() as u64, out)?;
-    out.push(b'\n')?;
+    append_heading(word, trees.len(), out)?;
     append_trees(trees.as_slice(), types, out)
+}
+
+fn append_heading(word: &[u8], trees: usize, out: &mut Vec<u8>) -> Result<(), NoMemory>
+    ensures appended { OnOk result (out.new.items ≡ out.old.items ++ heading word.now trees) }
+    ensures in_part { OnErr result (Extends out.old.items out.new.items) }
+{
+    out.extend_from_slice(word)?;
+    write_number(trees as u64, out)?;
+    out.push(b'\n')?;
+    Ok(())
 }
 
 fn append_trees(trees: &[MarkedTree], types: &TypeTable, out: &mut Vec<u8>) -> Result<(), NoMemory>

@@ -1,6 +1,6 @@
 ghost use Rattle.std.specs.Prelude.{List, IfOk};
 ghost use Rattle.type_core.specs.Typ.{Typ};
-ghost use Rattle.mark_rules.specs.Numbers.{IsMarkedNodeOf, IsMarkedGroveOf};
+ghost use Rattle.mark_rules.specs.Numbers.{IsMarkedNodeOf, AreMarkedNodesOf, IsMarkedGroveOf};
 
 use super::*;
 use grove_edits::{Edge, Vertex};
@@ -20,9 +20,9 @@ fn vertex(author: u32, counter: u64, ctor: Ctor) -> Vertex {
     }
 }
 
-// The marked grove of one tree: the root, and another node.
-fn below_the_root(alloc: Global, node: MarkedNode) -> Result<MarkedGrove, Fail>
-    ensures { (types : List Typ) → IsMarkedNodeOf types node → IfOk result (IsMarkedGroveOf types) }
+// The tree of the root and another node.
+fn root_and(alloc: Global, node: MarkedNode) -> Result<MarkedTree, Fail>
+    ensures { (types : List Typ) → IsMarkedNodeOf types node → IfOk result (AreMarkedNodesOf types) }
 {
     let head = MarkedNode {
         node: Node {
@@ -38,8 +38,15 @@ fn below_the_root(alloc: Global, node: MarkedNode) -> Result<MarkedGrove, Fail>
     let mut tree = MarkedTree::new(alloc);
     tree.push(head)?;
     tree.push(node)?;
+    Ok(tree)
+}
+
+// The marked grove of that tree alone.
+fn below_the_root(alloc: Global, node: MarkedNode) -> Result<MarkedGrove, Fail>
+    ensures { (types : List Typ) → IsMarkedNodeOf types node → IfOk result (IsMarkedGroveOf types) }
+{
     let mut none = MarkedTreeList::new(alloc);
-    none.push(tree)?;
+    none.push(root_and(alloc, node)?)?;
     Ok(MarkedGrove {
         none,
         multi: MarkedTreeList::new(alloc),
@@ -67,6 +74,32 @@ fn a_marked_grove_is_printed(rt: HostRuntime) -> Result<(), Fail> {
     assert_eq!(rt;
         text.as_slice(),
         b"none 1\n0 - - 0.0 root top - -\n1 main - - hole ana:bool num inconsistent\nmulti 0\ncycle 0\n".as_slice()
+    );
+    Ok(())
+}
+
+#[test]
+fn a_tree_is_printed_by_itself(rt: HostRuntime) -> Result<(), Fail> {
+    let types = TypeTable::new(rt.alloc())?;
+    let free = MarkedNode {
+        node: Node {
+            depth: 1,
+            position: Some(Position::Main),
+            edge: None,
+            what: What::Hole(Sort::Exp),
+        },
+        mode: Some(Mode::Syn),
+        typ: Some(types.unknown()),
+        mark: Mark::Free,
+    };
+    let tree = root_and(rt.alloc(), free)?;
+    let mut text = Vec::new(rt.alloc());
+    print_heading(b"none ", 1, &mut text)?;
+    print_tree(&tree, &types, &mut text)?;
+    print_marked_lines_of(&tree, &types, &mut text)?;
+    assert_eq!(rt;
+        text.as_slice(),
+        b"none 1\n0 - - 0.0 root top - -\n1 main - - hole syn ? free\n1 main - - hole syn ? free\n".as_slice()
     );
     Ok(())
 }
