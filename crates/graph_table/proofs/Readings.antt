@@ -1,0 +1,155 @@
+-- What a table that is read tells of the live edges.
+use Rattle.std.proofs.Common.{◌≡◌, ℕ, zero, suc, ◌+◌, ◌<◌, Bool, true, false, cond, List, [], ◌∷◌, length, get_or, slice_get, map, Option, Some, None, refl, sym, ap, subst, ◌∙◌, arith}
+use Rattle.std.specs.Prelude.{◌&&◌, IfSome}
+use Rattle.std.specs.List.{AllByRecursion, position}
+use Rattle.std.proofs.lemmas.Option.{slice_get_within}
+use Rattle.grove_sorts.specs.declared.position.Position.{Position}
+use Rattle.grove_edits.specs.declared.vertex.Vertex.{Vertex}
+use Rattle.grove_edits.specs.declared.edge.Edge.{Edge}
+use Rattle.grove_edits.specs.declared.edit.Edit.{Edit}
+use Rattle.grove_edits.specs.Edit.{edit_edge, edit_kind}
+use Rattle.walks.specs.Few.{first_two}
+use Rattle.walks.specs.Live.{is_same_vertex, is_same_position, parents_of, children_of}
+use Rattle.graph_table.specs.declared.child.Child.{Child}
+use Rattle.graph_table.specs.Table.{Table, inserted, live, is_insertion, edge_at, edge_or_none, vertex_at, vertex_or_root, few_at, IsNumber, IsNumbered, IsIndex}
+use Rattle.graph_table.specs.Numbering.{AreNumbersOf, targets_of}
+use Rattle.graph_table.specs.Around.{Neighbours, first_indices, child, indices_at, leads_from, children_from, parents_from, neighbours}
+use Rattle.graph_table.proofs.Numbers.{eq, number_found, end_numbered}
+use Rattle.graph_table.proofs.Gathered.{read_number}
+
+some_at : {X : Type 0} (xs : List X) (i : ℕ) → i < length xs → (x : X) × (slice_get xs i ≡ Some x)
+some_at [] i within = absurd (omega (arith, within))
+some_at (x ∷ xs) zero within = (x, refl)
+some_at (x ∷ xs) (suc i) within = some_at xs i (omega (arith, within))
+
+-- ---- vertices by number
+
+pub numbers_found : (table : Table) (v : Vertex) (found : Option ℕ) → found ≡ position (eq v) table.vertices → IfSome found (λ n. IsNumbered table (record { vertex = v; number = n }))
+numbers_found table v None is = tt
+numbers_found table v (Some n) is =
+    let at = number_found table.vertices v n (sym is) in
+    (slice_get_within table.vertices n v at, ap vertex_or_root at)
+
+pub target_read : (table : Table) (targets : List ℕ) → AreNumbersOf table.vertices targets (targets_of table.edits) → (i n : ℕ) → IsIndex table i → n ≡ get_or targets i n
+    → IsNumber table n × (vertex_at table n ≡ (edge_at table i).target)
+target_read table targets are i n within read =
+    let found = some_at table.edits i within in
+    let at = end_numbered (λ edit. (edit_edge edit).target) table.vertices targets table.edits are i n found.0 found.1 read in
+    (slice_get_within table.vertices n (edit_edge found.0).target at, ap vertex_or_root at ∙ sym (ap (λ o. (edge_or_none o).target) found.1))
+
+around_read : (table : Table) (around : List Neighbours) → around ≡ map (neighbours table.edits) table.vertices → (n : ℕ) → IsNumber table n → (here : Neighbours) → here ≡ get_or around n here
+    → here ≡ neighbours table.edits (vertex_at table n)
+around_read table around are n within here read =
+    let found = some_at table.vertices n within in
+    read ∙ ap (λ ns. get_or ns n here) are ∙ read_number (neighbours table.edits) table.vertices n found.0 here found.1
+    ∙ sym (ap (λ o. neighbours table.edits (vertex_or_root o)) found.1)
+
+-- ---- edges by index
+
+-- the edits are those of the table from an index on
+abbrev Begins : Table → ℕ → List Edit → Type 0
+Begins table n edits = (i : ℕ) → slice_get table.edits (n + i) ≡ slice_get edits i
+
+begins_next : (table : Table) (n : ℕ) (edit : Edit) (edits : List Edit) → Begins table n (edit ∷ edits) → Begins table (suc n) edits
+begins_next table n edit edits begins i =
+    let e : suc n + i ≡ n + suc i = omega arith in
+    ap (slice_get table.edits) e ∙ begins (suc i)
+
+begins_here : (table : Table) (n : ℕ) (edit : Edit) (edits : List Edit) → Begins table n (edit ∷ edits) → edge_at table n ≡ edit_edge edit
+begins_here table n edit edits begins =
+    let e : n ≡ n + 0 = omega arith in
+    ap edge_or_none (ap (slice_get table.edits) e ∙ begins 0)
+
+begins_all : (table : Table) → Begins table 0 table.edits
+begins_all table i =
+    let e : 0 + i ≡ i = omega arith in
+    ap (slice_get table.edits) e
+
+next_to : (table : Table) (v : Vertex) (n : ℕ) (edge : Edge) (rest : List ℕ) (more : List Edge) → edge_at table n ≡ edge → map (edge_at table) rest ≡ parents_of v more
+    → (i t : Bool) → is_same_vertex edge.target v ≡ t → map (edge_at table) (cond (i && t) (n ∷ rest) rest) ≡ parents_of v (cond i (edge ∷ more) more)
+next_to table v n edge rest more here same true true test = (λ j. here j ∷ same j) ∙ sym (ap (λ b. cond b (edge ∷ parents_of v more) (parents_of v more)) test)
+next_to table v n edge rest more here same true false test = same ∙ sym (ap (λ b. cond b (edge ∷ parents_of v more) (parents_of v more)) test)
+next_to table v n edge rest more here same false t test = same
+
+edges_to : (table : Table) (v : Vertex) (n : ℕ) (edits : List Edit) → Begins table n edits → map (edge_at table) (parents_from n v edits) ≡ parents_of v (inserted edits)
+edges_to table v n [] begins = refl
+edges_to table v n (x ∷ edits) begins =
+    next_to table v n (edit_edge x) (parents_from (suc n) v edits) (inserted edits) (begins_here table n x edits begins)
+    (edges_to table v (suc n) edits (begins_next table n x edits begins))
+    (is_insertion (edit_kind x)) (is_same_vertex (edit_edge x).target v) refl
+
+few_first : (table : Table) (is : List ℕ) → few_at table (first_indices is) ≡ first_two (map (edge_at table) is)
+few_first table [] = refl
+few_first table (i ∷ []) = refl
+few_first table (i ∷ j ∷ is) = refl
+
+pub few_read : (table : Table) (v : Vertex) → few_at table (neighbours table.edits v).parents ≡ first_two (parents_of v (live table))
+few_read table v = few_first table (parents_from 0 v table.edits) ∙ ap first_two (edges_to table v 0 table.edits (begins_all table))
+
+next_from : (table : Table) (v : Vertex) (p : Position) (n : ℕ) (edge : Edge) (rest : List Child) (more : List Edge) → edge_at table n ≡ edge
+    → map (edge_at table) (indices_at p rest) ≡ children_of v p more
+    → (i s q : Bool) → is_same_vertex edge.source v ≡ s → is_same_position edge.position p ≡ q
+    → map (edge_at table) (indices_at p (cond (i && s) (child n edge ∷ rest) rest)) ≡ children_of v p (cond i (edge ∷ more) more)
+next_from table v p n edge rest more here same true true true source place =
+    ap (λ b. map (edge_at table) (cond b (n ∷ indices_at p rest) (indices_at p rest))) place
+    ∙ (λ j. here j ∷ same j)
+    ∙ sym (λ j. cond (source j && place j) (edge ∷ children_of v p more) (children_of v p more))
+next_from table v p n edge rest more here same true true false source place =
+    ap (λ b. map (edge_at table) (cond b (n ∷ indices_at p rest) (indices_at p rest))) place
+    ∙ same
+    ∙ sym (λ j. cond (source j && place j) (edge ∷ children_of v p more) (children_of v p more))
+next_from table v p n edge rest more here same true false q source place =
+    same ∙ sym (ap (λ b. cond (b && is_same_position edge.position p) (edge ∷ children_of v p more) (children_of v p more)) source)
+next_from table v p n edge rest more here same false s q source place = same
+
+edges_from : (table : Table) (v : Vertex) (p : Position) (n : ℕ) (edits : List Edit) → Begins table n edits
+    → map (edge_at table) (indices_at p (children_from n v edits)) ≡ children_of v p (inserted edits)
+edges_from table v p n [] begins = refl
+edges_from table v p n (x ∷ edits) begins =
+    next_from table v p n (edit_edge x) (children_from (suc n) v edits) (inserted edits) (begins_here table n x edits begins)
+    (edges_from table v p (suc n) edits (begins_next table n x edits begins))
+    (is_insertion (edit_kind x)) (is_same_vertex (edit_edge x).source v) (is_same_position (edit_edge x).position p) refl refl
+
+children_read : (table : Table) (v : Vertex) (p : Position) → map (edge_at table) (indices_at p (neighbours table.edits v).children) ≡ children_of v p (live table)
+children_read table v p = edges_from table v p 0 table.edits (begins_all table)
+
+next_within : (m : ℕ) (p : Position) (n : ℕ) (edge : Edge) (rest : List Child) → n < m → AllByRecursion (λ i. i < m) (indices_at p rest)
+    → (b q : Bool) → is_same_position edge.position p ≡ q → AllByRecursion (λ i. i < m) (indices_at p (cond b (child n edge ∷ rest) rest))
+next_within m p n edge rest lt all true true place =
+    subst (λ t. AllByRecursion (λ i. i < m) (cond t (n ∷ indices_at p rest) (indices_at p rest))) (sym place) (lt, all)
+next_within m p n edge rest lt all true false place = subst (λ t. AllByRecursion (λ i. i < m) (cond t (n ∷ indices_at p rest) (indices_at p rest))) (sym place) all
+next_within m p n edge rest lt all false q place = all
+
+all_within : (m : ℕ) (v : Vertex) (p : Position) (n : ℕ) (edits : List Edit) → n + length edits ≡ m → AllByRecursion (λ i. i < m) (indices_at p (children_from n v edits))
+all_within m v p n [] count = tt
+all_within m v p n (x ∷ edits) count =
+    next_within m p n (edit_edge x) (children_from (suc n) v edits) (omega (arith, count)) (all_within m v p (suc n) edits (omega (arith, count)))
+    (leads_from v x) (is_same_position (edit_edge x).position p) refl
+
+children_within : (table : Table) (v : Vertex) (p : Position) → AllByRecursion (IsIndex table) (indices_at p (neighbours table.edits v).children)
+children_within table v p = all_within (length table.edits) v p 0 table.edits (omega arith)
+
+-- ---- what is kept of the vertex with a number
+
+module _ (table : Table) (around : List Neighbours) (kept : around ≡ map (neighbours table.edits) table.vertices) (n : ℕ) (within : IsNumber table n)
+    (here : Neighbours) (read : here ≡ get_or around n here) where
+  pub is_around : here ≡ neighbours table.edits (vertex_at table n)
+  is_around = around_read table around kept n within here read
+
+  pub parents_told : few_at table here.parents ≡ first_two (parents_of (vertex_at table n) (live table))
+  parents_told = ap (λ (k : Neighbours). few_at table k.parents) is_around ∙ few_read table (vertex_at table n)
+
+  pub children_told : (p : Position) → map (edge_at table) (indices_at p here.children) ≡ children_of (vertex_at table n) p (live table)
+  children_told p = ap (λ (k : Neighbours). map (edge_at table) (indices_at p k.children)) is_around ∙ children_read table (vertex_at table n) p
+
+  pub children_indexed : (p : Position) → AllByRecursion (IsIndex table) (indices_at p here.children)
+  children_indexed p = subst (λ (k : Neighbours). AllByRecursion (IsIndex table) (indices_at p k.children)) (sym is_around) (children_within table (vertex_at table n) p)
+
+-- the parts of a table that its view shows
+pub kept_in_view : (edits : List Edit) (vertices : List Vertex) (table : Table) (around : List Neighbours) → record { edits = edits; vertices = vertices } ≡ table
+    → around ≡ map (neighbours edits) vertices → around ≡ map (neighbours table.edits) table.vertices
+kept_in_view edits vertices table around view kept = kept ∙ ap (λ (t : Table). map (neighbours t.edits) t.vertices) view
+
+pub targets_in_view : (edits : List Edit) (vertices : List Vertex) (table : Table) (targets : List ℕ) → record { edits = edits; vertices = vertices } ≡ table
+    → AreNumbersOf vertices targets (targets_of edits) → AreNumbersOf table.vertices targets (targets_of table.edits)
+targets_in_view edits vertices table targets view are = subst (λ (t : Table). AreNumbersOf t.vertices targets (targets_of t.edits)) view are

@@ -1,0 +1,85 @@
+-- The live edges around each vertex, by their indices.
+use Rattle.std.specs.Prelude.{◌≡◌, ℕ, suc, Bool, ◌&&◌, List, [], ◌∷◌, ◌++◌, map, set, if◌then◌else◌}
+use Rattle.std.specs.List.{slice_index_or}
+use Rattle.grove_sorts.specs.declared.position.Position.{Position}
+use Rattle.grove_edits.specs.declared.vertex.Vertex.{Vertex}
+use Rattle.grove_edits.specs.declared.edge.Edge.{Edge}
+use Rattle.grove_edits.specs.declared.edit.Edit.{Edit}
+use Rattle.grove_edits.specs.Edit.{edit_edge, edit_kind}
+use Rattle.grove_edits.specs.Graph.{Ascends}
+use Rattle.walks.specs.Live.{is_same_vertex, is_same_position}
+use Rattle.graph_table.specs.declared.child.Child.{Child}
+use Rattle.graph_table.specs.declared.parents.Parents.{Parents}
+use Rattle.graph_table.specs.declared.parents.Parents.TheVariants.{Zero, One, More}
+use Rattle.graph_table.specs.Table.{is_insertion}
+use Rattle.graph_table.specs.Numbering.{HaveNumbers, AreNumbersOf, targets_of}
+
+-- the live edges from a vertex, in edge order, and the least two to it
+pub record Neighbours : Type 0 where
+  pub children : List Child
+  pub parents : Parents
+
+abbrev pub no_neighbours : Neighbours
+no_neighbours = record { children = []; parents = Zero }
+
+abbrev pub with_parent : Parents → ℕ → Parents
+with_parent Zero index = One index
+with_parent (One first) index = More first index
+with_parent (More first second) index = More first second
+
+abbrev pub first_indices : List ℕ → Parents
+first_indices [] = Zero
+first_indices (i ∷ []) = One i
+first_indices (i ∷ j ∷ _) = More i j
+
+abbrev pub child : ℕ → Edge → Child
+child index edge = record { position = edge.position; index = index }
+
+-- the children that have a position, by their indices
+abbrev pub indices_at : Position → List Child → List ℕ
+indices_at position [] = []
+indices_at position (c ∷ cs) = if is_same_position c.position position then (c.index ∷ indices_at position cs) else indices_at position cs
+
+-- the edit inserts an edge from the vertex
+abbrev pub leads_from : Vertex → Edit → Bool
+leads_from v edit = is_insertion (edit_kind edit) && is_same_vertex (edit_edge edit).source v
+
+-- the edit inserts an edge to the vertex
+abbrev pub leads_to : Vertex → Edit → Bool
+leads_to v edit = is_insertion (edit_kind edit) && is_same_vertex (edit_edge edit).target v
+
+-- the insertions of edges from the vertex, of edits whose indices begin with a number
+abbrev pub children_from : ℕ → Vertex → List Edit → List Child
+children_from index v [] = []
+children_from index v (edit ∷ edits) = if leads_from v edit then (child index (edit_edge edit) ∷ children_from (suc index) v edits) else children_from (suc index) v edits
+
+-- the indices of the insertions of edges to the vertex, of edits whose indices begin with a number
+abbrev pub parents_from : ℕ → Vertex → List Edit → List ℕ
+parents_from index v [] = []
+parents_from index v (edit ∷ edits) = if leads_to v edit then (index ∷ parents_from (suc index) v edits) else parents_from (suc index) v edits
+
+abbrev pub neighbours : List Edit → Vertex → Neighbours
+neighbours edits v = record { children = children_from 0 v edits; parents = first_indices (parents_from 0 v edits) }
+
+abbrev pub at : List Neighbours → ℕ → Neighbours
+at around number = slice_index_or around number no_neighbours
+
+-- the vertex with a number has one more child
+abbrev pub with_child_at : ℕ → Child → List Neighbours → List Neighbours
+with_child_at number c around = set around number (record { children = (at around number).children ++ c ∷ []; parents = (at around number).parents })
+
+-- the vertex with a number has one more parent
+abbrev pub with_parent_at : ℕ → ℕ → List Neighbours → List Neighbours
+with_parent_at number index around = set around number (record { children = (at around number).children; parents = with_parent (at around number).parents index })
+
+-- what is around the vertices after an edit with an index, whose ends have these numbers
+abbrev pub noted : ℕ → Edit → ℕ → ℕ → List Neighbours → List Neighbours
+noted index edit source target around =
+    if is_insertion (edit_kind edit) then with_parent_at target index (with_child_at source (child index (edit_edge edit)) around) else around
+
+-- the parts of a table are those of some edits
+pub record IsTable (edits : List Edit) (vertices : List Vertex) (targets : List ℕ) (around : List Neighbours) : Type 0 where
+  pub in_order : Ascends edits
+  pub numbers : HaveNumbers edits vertices
+  pub target_numbers : AreNumbersOf vertices targets (targets_of edits)
+  pub kept : around ≡ map (neighbours edits) vertices

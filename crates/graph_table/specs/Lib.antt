@@ -1,0 +1,4 @@
+pub mod Table
+pub mod Numbering
+pub mod Around
+pub mod ParentIndices

@@ -1,0 +1,172 @@
+ghost use Rattle.std.specs.Prelude.{◌≡◌, ◌<◌, true, length, map, IfOk, OnOk, IfSome, IsSome};
+ghost use Rattle.std.specs.List.{AllByRecursion};
+ghost use Rattle.grove_edits.specs.Graph.{graph, Ascends};
+ghost use Rattle.walks.specs.Few.{first_two};
+ghost use Rattle.walks.specs.Live.{parents_of, children_of, stands_in, IsInEdgeOrder};
+ghost use Rattle.walks.specs.Whole.{AreVertices, AreLive};
+ghost use Rattle.graph_table.specs.ParentIndices.{AreIndices};
+ghost use Rattle.graph_table.specs.Table.{live, vertex_at, edge_at, few_at, IsNumber, IsIndex, IsNumbered};
+
+use crate::around::Around;
+use crate::gathering::around_each;
+use crate::no_memory::NoMemory;
+use crate::numbered::Numbered;
+use crate::numbering::Numbering;
+use crate::ordering::in_vertex_order;
+use crate::parent_count::count_with_parents;
+use crate::parents::Parents;
+use grove_edits::{Edge, EditList, Vertex};
+use grove_sorts::Position;
+use indexmap::IndexSet;
+use std::alloc::Global;
+use std::marker::Model;
+use std::sync::ledger::Ledger;
+use walks::{Few, ParentOf, Steps};
+
+/// A graph by numbers. Contracts see its edits and its vertices, in the order of their numbers.
+#[derive(Drop)]
+pub struct GraphTable {
+    edits: EditList,
+    numbers: IndexSet<Vertex>,
+    targets: Vec<usize>,
+    around: Vec<Around>,
+}
+
+impl Model for GraphTable {
+    ghost use Rattle.graph_table.specs.Table.{Table};
+
+    ghost Value = { Table };
+
+    ghost use Rattle.graph_table.specs.Around.{IsTable};
+
+    ghost view = { λ table. record { edits = table.edits; vertices = table.numbers.keys } };
+
+    ghost invariant = { λ table. IsTable table.edits table.numbers.keys table.targets.items table.around.items };
+}
+
+impl GraphTable {
+    /// The table of a canonical list.
+    pub fn of(alloc: Global, edits: EditList) -> Result<GraphTable, NoMemory>
+        requires { Ascends edits }
+        ensures edits { IfOk result (λ table. table.edits ≡ edits) }
+        ensures live { IfOk result (λ table. AreLive (graph edits) (live table)) }
+    {
+        let numbering = Numbering::of(alloc, edits.as_slice())?;
+        let around = around_each(alloc, edits.as_slice(), &numbering)?;
+        let Numbering {
+            numbers,
+            sources: _,
+            targets,
+        } = numbering;
+        Ok(GraphTable {
+            edits,
+            numbers,
+            targets,
+            around,
+        })
+    }
+
+    /// How many vertices the graph has; their numbers are those below.
+    pub fn number_count(&self) -> usize
+        ensures { result ≡ length self.now.vertices }
+    {
+        self.numbers.len()
+    }
+
+    /// All vertices of the graph, in vertex order.
+    pub fn in_order(&self, alloc: Global) -> Result<Vec<Numbered>, NoMemory>
+        ensures vertices { IfOk result (λ list. AreVertices (graph self.now.edits) (map (λ n. n.vertex) list.items)) }
+        ensures numbers { IfOk result (λ list. AllByRecursion (IsNumbered self.now) list.items) }
+    {
+        in_vertex_order(alloc, self.numbers.as_slice())
+    }
+
+    /// The number of a vertex, or None where it is no vertex of the graph.
+    pub fn number(&self, vertex: &Vertex) -> Option<usize>
+        ensures number { IfSome result (λ n. IsNumbered self.now (record { vertex = vertex.now; number = n })) }
+        ensures found { stands_in vertex.now self.now.vertices ≡ true → IsSome result }
+    {
+        self.numbers.get_index_of(vertex)
+    }
+
+    /// The edge of the edit at an index.
+    pub fn edge(&self, index: usize) -> Edge
+        requires { IsIndex self.now index }
+        ensures { result ≡ edge_at self.now index }
+    {
+        self.edits.as_slice()[index].edge()
+    }
+
+    /// The number of the vertex to which the edge at an index leads.
+    pub fn target(&self, index: usize) -> usize
+        requires { IsIndex self.now index }
+        ensures number { IsNumber self.now result }
+        ensures target { vertex_at self.now result ≡ (edge_at self.now index).target }
+    {
+        self.targets[index]
+    }
+
+    /// The live edges to the vertex with a number.
+    pub fn parents(&self, number: usize) -> Parents
+        requires { IsNumber self.now number }
+        ensures { few_at self.now result ≡ first_two (parents_of (vertex_at self.now number) (live self.now)) }
+    {
+        self.around[number].parents()
+    }
+
+    /// Puts the indices of the live edges from a position into a list, in place of what it had, in edge order.
+    pub fn children(
+        &self,
+        number: usize,
+        position: Position,
+        out: &mut Vec<usize>,
+    ) -> Result<(), NoMemory>
+        requires { IsNumber self.now number }
+        ensures edges { OnOk result (map (edge_at self.now) out.new.items ≡ children_of (vertex_at self.now number) position (live self.now)) }
+        ensures indices { OnOk result (AllByRecursion (IsIndex self.now) out.new.items) }
+    {
+        self.around[number].children_at(position, out)
+    }
+
+    fn parents_to(&self, vertex: &Vertex) -> Parents
+        ensures edges { few_at self.now result ≡ first_two (parents_of vertex.now (live self.now)) }
+        ensures indices { AreIndices self.now result }
+        ensures in_order { IsInEdgeOrder (live self.now) }
+    {
+        let around = &self.around;
+        match self.number(vertex) {
+            Some(number) => around[number].parents(),
+            // Each target of an edge is a vertex of the graph.
+            None => Parents::Zero,
+        }
+    }
+}
+
+impl ParentOf for GraphTable {
+    ghost use Rattle.graph_table.specs.Table.{live as live_edges};
+
+    ghost live = { λ table. live_edges table };
+
+    // Inlined, so that a caller copies no more of the edges than it reads.
+    #[inline(always)]
+    fn few<L: Ledger>(&self, vertex: &Vertex, steps: &mut Steps<L>) -> Few {
+        let parents = self.parents_to(vertex);
+        steps.tick();
+        match parents {
+            Parents::Zero => Few::Zero,
+            Parents::One(first) => {
+                steps.tick();
+                Few::One(self.edge(first))
+            }
+            Parents::More(first, second) => {
+                steps.tick();
+                steps.tick();
+                Few::More(self.edge(first), self.edge(second))
+            }
+        }
+    }
+
+    fn vertex_count(&self) -> u64 {
+        count_with_parents(&self.around) as u64
+    }
+}

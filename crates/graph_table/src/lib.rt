@@ -1,0 +1,22 @@
+//! A whole graph by numbers: its vertices are numbered, and each tells its live edges by their indices in the canonical list. A table is
+//! made once and not edited. What shows and checks whole graphs stands on it.
+#![tactic(auto)]
+
+mod around;
+mod child;
+mod gathering;
+mod graph_table;
+mod no_memory;
+mod numbered;
+mod numbering;
+mod ordering;
+mod parent_count;
+mod parents;
+
+pub use graph_table::GraphTable;
+pub use no_memory::NoMemory;
+pub use numbered::Numbered;
+pub use parents::Parents;
+
+#[cfg(test)]
+mod tests;

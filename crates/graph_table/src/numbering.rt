@@ -1,0 +1,76 @@
+ghost use Rattle.std.specs.Prelude.{◌≡◌, ◌++◌, ◌∷◌, [], List, Some, slice_get, IfOk, OnOk};
+ghost use Rattle.std.specs.List.{IsDistinct};
+ghost use Rattle.grove_edits.specs.declared.edit.Edit.{Edit};
+ghost use Rattle.walks.specs.Live.{is_same_vertex};
+ghost use Rattle.graph_table.specs.Numbering.{with_vertex, AreNumbered};
+
+use crate::no_memory::NoMemory;
+use grove_edits::{Edit, Vertex};
+use grove_names::Name;
+use grove_sorts::Ctor;
+use indexmap::IndexSet;
+use std::alloc::Global;
+
+/// The vertices of some edits by number, and the numbers of the ends of each edit, in order.
+#[derive(Drop)]
+pub(crate) struct Numbering {
+    pub(crate) numbers: IndexSet<Vertex>,
+    pub(crate) sources: Vec<usize>,
+    pub(crate) targets: Vec<usize>,
+}
+
+const ROOT: Vertex = Vertex {
+    name: Name {
+        author: 0,
+        counter: 0,
+    },
+    ctor: Ctor::Root,
+};
+
+/// The number of a vertex, which gets the next one where it has none.
+fn number_of(numbers: &mut IndexSet<Vertex>, vertex: Vertex) -> Result<usize, NoMemory>
+    ensures number { IfOk result (λ number. slice_get numbers.new.keys number ≡ Some vertex) }
+    ensures vertices { OnOk result (numbers.new.keys ≡ with_vertex vertex numbers.old.keys) }
+    ensures once { IsDistinct is_same_vertex numbers.new.keys }
+{
+    let (number, _is_new) = numbers.insert_full(vertex)?;
+    Ok(number)
+}
+
+impl Numbering {
+    /// The numbering of no edits, with room for so many.
+    fn of_none(alloc: Global, count: usize) -> Result<Numbering, NoMemory>
+        ensures { IfOk result (λ n. AreNumbered [] n.numbers.keys n.sources.items n.targets.items) }
+    {
+        let mut numbers = IndexSet::with_capacity(alloc, count.saturating_add(1))?;
+        number_of(&mut numbers, ROOT)?;
+        Ok(Numbering {
+            numbers,
+            sources: Vec::with_capacity(alloc, count)?,
+            targets: Vec::with_capacity(alloc, count)?,
+        })
+    }
+
+    /// Numbers the ends of one more edit.
+    fn add(&mut self, edit: &Edit) -> Result<(), NoMemory>
+        ensures { OnOk result ((edits : List Edit) → AreNumbered edits self.old.numbers.keys self.old.sources.items self.old.targets.items
+            → AreNumbered (edits ++ edit.now ∷ []) self.new.numbers.keys self.new.sources.items self.new.targets.items) }
+    {
+        let edge = edit.as_edge();
+        let source = number_of(&mut self.numbers, edge.source)?;
+        let target = number_of(&mut self.numbers, edge.target)?;
+        self.sources.push(source)?;
+        self.targets.push(target)?;
+        Ok(())
+    }
+
+    pub(crate) fn of(alloc: Global, edits: &[Edit]) -> Result<Numbering, NoMemory>
+        ensures { IfOk result (λ n. AreNumbered edits.now n.numbers.keys n.sources.items n.targets.items) }
+    {
+        let mut numbering = Numbering::of_none(alloc, edits.len())?;
+        for edit in edits {
+            numbering.add(edit)?;
+        }
+        Ok(numbering)
+    }
+}
