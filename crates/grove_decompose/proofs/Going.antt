@@ -12,8 +12,7 @@ use Rattle.grove_terms.specs.Nodes.{head_node, tree_nodes}
 use Rattle.grove_terms.specs.Grove.{IsTreeOf, AreTreesOf}
 use Rattle.grove_terms.proofs.Forests.{forest_of, root_stands}
 use Rattle.grove_terms.proofs.OneGrove.{all_of_class}
-use Rattle.grove_decompose.specs.declared.task.Task.{Task}
-use Rattle.grove_decompose.specs.Tasks.{todo, place_tasks, step_nodes, step_tasks, IsSound}
+use Rattle.grove_decompose.specs.Tasks.{Task, todo, place_tasks, step_nodes, step_tasks, IsSound}
 use Rattle.grove_decompose.proofs.Places.{todo-append, under-tasks}
 use Rattle.grove_decompose.proofs.Taking.{taken, AreSound, sound_append, sound_before, sound_behind, all_still_sound, all_places_sound, rest_is_sound, weight, weight-append, lighter}
 

@@ -4,3 +4,7 @@ pub mod Under
 pub mod Pushing
 pub mod ByClass
 pub mod Going
+pub mod Mapped
+pub mod Listing
+pub mod Noted
+pub mod ByNumber

@@ -25,9 +25,8 @@ use Rattle.grove_terms.specs.Forest.{Forest, none, multi_ref, cycle_ref, tree, c
 use Rattle.grove_terms.specs.Nodes.{node_at, child_node, place_nodes, places_nodes, count_at, child_nodes, nodes_under}
 use Rattle.grove_terms.proofs.InLive.{IsFromPlace, children_lead}
 use Rattle.grove_terms.proofs.Forests.{forest_of, Stands, below_stands, one_forest}
-use Rattle.grove_decompose.specs.declared.task.Task.{Task}
 use Rattle.grove_decompose.specs.declared.task.Task.TheVariants.{Place}
-use Rattle.grove_decompose.specs.Tasks.{what_by, under_by, child_lists, task_nodes, todo, place_tasks, knows}
+use Rattle.grove_decompose.specs.Tasks.{Task, what_by, under_by, child_lists, task_nodes, todo, place_tasks, knows}
 
 -- ---- positions
 

@@ -18,9 +18,8 @@ use Rattle.grove_terms.specs.declared.node.What.TheVariants as whats
 use Rattle.grove_terms.specs.Nodes.{node_at, child_node, place_nodes}
 use Rattle.grove_terms.proofs.InLive.{IsFromPlace, children_lead, target_has_parent, above_target}
 use Rattle.grove_terms.proofs.Forests.{Stands, below_stands}
-use Rattle.grove_decompose.specs.declared.task.Task.{Task}
 use Rattle.grove_decompose.specs.declared.task.Task.TheVariants.{Place, Child}
-use Rattle.grove_decompose.specs.Tasks.{what_by, under_by, child_list, child_lists, task_nodes, todo, place_tasks, child_tasks, place_head, place_rest, child_rest, step_nodes, step_tasks, knows, IsUnder, IsSoundChild, IsSound}
+use Rattle.grove_decompose.specs.Tasks.{Task, what_by, under_by, child_list, child_lists, task_nodes, todo, place_tasks, child_tasks, place_head, place_rest, child_rest, step_nodes, step_tasks, knows, IsUnder, IsSoundChild, IsSound}
 use Rattle.grove_decompose.proofs.Places.{same_position_exact, few_positions, all_known, all_at, BelowStands, todo-append, under-tasks}
 
 -- ---- nodes

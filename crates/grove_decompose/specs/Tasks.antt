@@ -7,7 +7,7 @@ use Rattle.grove_edits.specs.declared.vertex.Vertex.{Vertex}
 use Rattle.grove_edits.specs.declared.edge.Edge.{Edge}
 use Rattle.walks.specs.declared.class.Class.{Class}
 use Rattle.walks.specs.declared.class.Class.TheVariants.{NoParent, Multi, Cycle, Inner}
-use Rattle.walks.specs.Live.{holds_edge, children_of, is_same_position}
+use Rattle.walks.specs.Live.{holds_edge, parents_of, children_of, is_same_position}
 use Rattle.walks.specs.Class.{class}
 use Rattle.walks.proofs.Up.{up}
 use Rattle.grove_terms.specs.declared.node.Node.{Node}
@@ -15,8 +15,23 @@ use Rattle.grove_terms.specs.declared.node.What.{What}
 use Rattle.grove_terms.specs.declared.node.What.TheVariants as whats
 use Rattle.grove_terms.specs.Nodes.{node_at, child_node, place_nodes, nodes_under}
 use Rattle.grove_terms.proofs.Forests.{forest_of, Stands}
-use Rattle.grove_decompose.specs.declared.task.Task.{Task}
+use Rattle.grove_decompose.specs.declared.task.Task.{Task as TaskOf}
 use Rattle.grove_decompose.specs.declared.task.Task.TheVariants.{Place, Child}
+
+-- a task of vertices and edges themselves
+abbrev pub Task : Type 0
+Task = TaskOf Vertex Edge
+
+-- ---- the parents of a vertex
+
+abbrev pub are_several : List Edge → Bool
+are_several [] = false
+are_several (e ∷ []) = false
+are_several (e ∷ f ∷ _) = true
+
+-- two or more live edges lead to the vertex
+abbrev pub is_shared : Vertex → List Edge → Bool
+is_shared v live = are_several (parents_of v live)
 
 -- ---- what tasks are for
 
@@ -53,21 +68,21 @@ todo live (task ∷ tasks) = todo live tasks ++ task_nodes live task
 
 -- ---- how a task is taken
 
-abbrev pub place_tasks : Vertex → ℕ → List (Position × Sort) → List Task
-place_tasks v depth [] = []
-place_tasks v depth (p ∷ ps) = place_tasks v depth ps ++ Place v p.0 p.1 depth ∷ []
+abbrev pub place_tasks : {S L : Type 0} → S → ℕ → List (Position × Sort) → List (TaskOf S L)
+place_tasks spot depth [] = []
+place_tasks spot depth (p ∷ ps) = place_tasks spot depth ps ++ Place spot p.0 p.1 depth ∷ []
 
-abbrev pub child_tasks : ℕ → List Edge → List Task
+abbrev pub child_tasks : {S L : Type 0} → ℕ → List L → List (TaskOf S L)
 child_tasks depth [] = []
-child_tasks depth (e ∷ es) = child_tasks depth es ++ Child e depth ∷ []
+child_tasks depth (link ∷ links) = child_tasks depth links ++ Child link depth ∷ []
 
 -- the node that a position with these children has of its own
-abbrev pub place_head : List Edge → ℕ → Position → Sort → List Node
+abbrev pub place_head : {L : Type 0} → List L → ℕ → Position → Sort → List Node
 place_head [] depth p s = node_at depth p (whats.Hole s) ∷ []
 place_head (e ∷ []) depth p s = []
 place_head (e ∷ f ∷ es) depth p s = node_at depth p (whats.Conflict s (suc (suc (length es)))) ∷ []
 
-abbrev pub place_rest : List Edge → ℕ → List Task
+abbrev pub place_rest : {S L : Type 0} → List L → ℕ → List (TaskOf S L)
 place_rest [] depth = []
 place_rest (e ∷ []) depth = Child e depth ∷ []
 place_rest (e ∷ f ∷ es) depth = child_tasks (depth + 1) (e ∷ f ∷ es)
@@ -85,6 +100,16 @@ step_nodes live (Child e depth) = child_node depth e.position e (what_by (class 
 abbrev pub step_tasks : List Edge → Task → List Task
 step_tasks live (Place v p s depth) = place_rest (children_of v p live) depth
 step_tasks live (Child e depth) = child_rest (class live e.target) e.target depth
+
+-- the task of the vertices and edges that are found by these
+abbrev pub task_at : {S L : Type 0} → (S → Vertex) → (L → Edge) → TaskOf S L → Task
+task_at vertex_at edge_at (Place spot p s depth) = Place (vertex_at spot) p s depth
+task_at vertex_at edge_at (Child link depth) = Child (edge_at link) depth
+
+-- what a task finds its vertex or its edge by is of the graph
+abbrev pub IsFound : {S L : Type 0} → (S → Type 0) → (L → Type 0) → TaskOf S L → Type 0
+IsFound IsSpot IsLink (Place spot p s depth) = IsSpot spot
+IsFound IsSpot IsLink (Child link depth) = IsLink link
 
 -- ---- what holds of a task
 

@@ -1,11 +1,13 @@
-ghost use Rattle.std.specs.Prelude.{◌≡◌, ◌≢◌, ◌++◌, ◌∷◌, [], ◌≤◌, true, length, OnOk};
+ghost use Rattle.std.specs.Prelude.{◌≡◌, ◌≢◌, ◌++◌, ◌∷◌, ◌≤◌, [], true, length, map, OnOk, IfOk, IfSome};
+ghost use Rattle.std.specs.List.{AllByRecursion};
 ghost use Rattle.walks.specs.declared.class.Class.TheVariants.{Inner};
 ghost use Rattle.grove_edits.specs.Vertex.{vertex_cmp};
 ghost use Rattle.walks.specs.Live.{holds_edge, is_same_vertex};
 ghost use Rattle.walks.specs.Class.{class};
 ghost use Rattle.grove_terms.specs.Nodes.{child_node};
-ghost use Rattle.grove_decompose.specs.Tasks.{what_by, child_rest, IsUnder};
+ghost use Rattle.grove_decompose.specs.Tasks.{what_by, child_rest, task_at, IsFound, IsUnder};
 
+use crate::live_graph::LiveGraph;
 use crate::no_memory::NoMemory;
 use crate::place::push_places;
 use crate::task::Task;
@@ -13,7 +15,7 @@ use grove_edits::{Edge, Vertex};
 use grove_terms::{Node, Tree, What};
 use std::cmp::Ordering;
 use std::sync::ledger::Ledger;
-use walks::{Few, ParentOf, Steps};
+use walks::Steps;
 
 fn order(a: &Vertex, b: &Vertex) -> Ordering
     ensures { result ≡ vertex_cmp a.now b.now }
@@ -28,18 +30,21 @@ fn is_same(a: &Vertex, b: &Vertex) -> bool
 }
 
 // What a child is: under a root only the root itself heads a tree with one parent.
-fn what_of<P: ParentOf, L: Ledger>(
+fn what_of<G: LiveGraph, L: Ledger>(
     edge: &Edge,
+    target: &G::Spot,
     root: &Vertex,
-    parents: &P,
+    graph: &G,
     steps: &mut Steps<L>,
 ) -> What
-    requires outer { class (P.live parents.now) root.now ≢ Inner }
-    requires held { holds_edge edge.now (P.live parents.now) ≡ true }
-    requires under { IsUnder (P.live parents.now) root.now edge.now.source }
-    ensures { result ≡ what_by (class (P.live parents.now) edge.now.target) edge.now.target }
+    requires spot { G.IsSpot graph.now target.now }
+    requires target { G.vertex_at graph.now target.now ≡ edge.now.target }
+    requires outer { class (G.live graph.now) root.now ≢ Inner }
+    requires held { holds_edge edge.now (G.live graph.now) ≡ true }
+    requires under { IsUnder (G.live graph.now) root.now edge.now.source }
+    ensures { result ≡ what_by (class (G.live graph.now) edge.now.target) edge.now.target }
 {
-    if let Few::More(_, _) = parents.few(&edge.target, steps) {
+    if graph.is_shared(target, steps) {
         return What::MultiRef(edge.target);
     }
     if is_same(&edge.target, root) {
@@ -49,35 +54,45 @@ fn what_of<P: ParentOf, L: Ledger>(
     }
 }
 
-/// Lists a child, and adds a task for each of its positions where it is no reference.
-pub(crate) fn list_child<P: ParentOf, L: Ledger>(
-    edge: &Edge,
+/// Lists a child, and adds a task for each of its positions where it is no reference. It tells the vertex in that case.
+pub(crate) fn list_child<G: LiveGraph, L: Ledger>(
+    link: &G::Link,
     depth: u64,
     root: &Vertex,
-    parents: &P,
+    graph: &G,
     tree: &mut Tree,
-    tasks: &mut Vec<Task>,
+    tasks: &mut Vec<Task<G::Spot, G::Link>>,
     steps: &mut Steps<L>,
-) -> Result<(), NoMemory>
-    requires outer { class (P.live parents.now) root.now ≢ Inner }
-    requires held { holds_edge edge.now (P.live parents.now) ≡ true }
-    requires under { IsUnder (P.live parents.now) root.now edge.now.source }
+) -> Result<Option<G::Spot>, NoMemory>
+    requires link { G.IsLink graph.now link.now }
+    requires outer { class (G.live graph.now) root.now ≢ Inner }
+    requires held { holds_edge (G.edge_at graph.now link.now) (G.live graph.now) ≡ true }
+    requires under { IsUnder (G.live graph.now) root.now (G.edge_at graph.now link.now).source }
     requires depth { depth ≤ length tree.old }
-    ensures node { OnOk result (tree.new ≡ tree.old
-        ++ child_node depth edge.now.position edge.now (what_by (class (P.live parents.now) edge.now.target) edge.now.target) ∷ []) }
-    ensures tasks { OnOk result (tasks.new.items ≡ tasks.old.items ++ child_rest (class (P.live parents.now) edge.now.target) edge.now.target depth) }
+    requires found { AllByRecursion (IsFound (G.IsSpot graph.now) (G.IsLink graph.now)) tasks.old.items }
+    ensures node { let edge = G.edge_at graph.now link.now in OnOk result (tree.new ≡ tree.old
+        ++ child_node depth edge.position edge (what_by (class (G.live graph.now) edge.target) edge.target) ∷ []) }
+    ensures tasks { let edge = G.edge_at graph.now link.now in let at = map (task_at (G.vertex_at graph.now) (G.edge_at graph.now)) in
+        OnOk result (at tasks.new.items ≡ at tasks.old.items ++ child_rest (class (G.live graph.now) edge.target) edge.target depth) }
+    ensures found { OnOk result (AllByRecursion (IsFound (G.IsSpot graph.now) (G.IsLink graph.now)) tasks.new.items) }
+    ensures inner { IfOk result (λ met. IfSome met (λ spot. class (G.live graph.now) (G.vertex_at graph.now spot) ≡ Inner)) }
 {
-    let what = what_of(edge, root, parents, steps);
+    let edge = graph.edge(link);
+    let target = graph.target(link);
+    let what = what_of(&edge, &target, root, graph, steps);
     // No child is deeper than there are nodes, so one more fits.
     let _nodes = tree.len();
     tree.push(Node {
         depth,
         position: Some(edge.position),
-        edge: Some(*edge),
+        edge: Some(edge),
         what,
     })?;
     match what {
-        What::Vertex(vertex) => push_places(&vertex, depth + 1, tasks),
-        _ => Ok(()),
+        What::Vertex(vertex) => {
+            push_places(&target, &vertex.ctor, depth + 1, tasks)?;
+            Ok(Some(target))
+        }
+        _ => Ok(None),
     }
 }

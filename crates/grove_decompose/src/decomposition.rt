@@ -6,6 +6,7 @@ ghost use Rattle.grove_terms.specs.Grove.{IsGrove};
 
 use crate::descent::trees_of;
 use crate::heads::find_heads;
+use crate::live_indexes::LiveIndexes;
 use crate::no_memory::NoMemory;
 use child_index::ChildIndex;
 use graph_store::GraphStore;
@@ -50,9 +51,10 @@ fn decompose_counting<L: Ledger>(
     let vertices = store.vertices(alloc)?;
     let heads = find_heads(alloc, &vertices, parents, &mut steps)?;
     let cycles = cycle_roots(alloc, &vertices, parents, &mut steps)?;
+    let indexes = LiveIndexes { children, parents };
     Ok(Grove {
-        none: trees_of(alloc, &heads.none, children, parents, &mut steps)?,
-        multi: trees_of(alloc, &heads.multi, children, parents, &mut steps)?,
-        cycle: trees_of(alloc, &cycles, children, parents, &mut steps)?,
+        none: trees_of(alloc, &heads.none, &indexes, &mut steps)?,
+        multi: trees_of(alloc, &heads.multi, &indexes, &mut steps)?,
+        cycle: trees_of(alloc, &cycles, &indexes, &mut steps)?,
     })
 }

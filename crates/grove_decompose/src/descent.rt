@@ -1,65 +1,74 @@
-ghost use Rattle.std.specs.Prelude.{◌≡◌, ◌≢◌, ◌++◌, ◌≤◌, length, OnOk, IfOk};
+ghost use Rattle.std.specs.Prelude.{◌≡◌, ◌≢◌, ◌++◌, ◌≤◌, length, map, OnOk, IfOk, IfSome};
 ghost use Rattle.std.specs.List.{AllByRecursion};
 ghost use Rattle.walks.specs.declared.class.Class.TheVariants.{Inner};
 ghost use Rattle.walks.specs.Class.{class};
 ghost use Rattle.edge_index.specs.Lists.{live};
 ghost use Rattle.grove_terms.specs.Grove.{IsTreeOf, AreTreesOf};
-ghost use Rattle.grove_decompose.specs.Tasks.{IsSound, step_nodes, step_tasks};
+ghost use Rattle.grove_decompose.specs.Tasks.{IsFound, IsSound, step_nodes, step_tasks, task_at};
 
 use crate::child::list_child;
+use crate::live_graph::LiveGraph;
+use crate::live_indexes::{LiveIndexes, NoNotes};
 use crate::no_memory::NoMemory;
 use crate::place::{list_place, push_places};
 use crate::task::Task;
-use child_index::ChildIndex;
 use grove_edits::Vertex;
 use grove_terms::{Node, Tree, TreeList, What};
 use std::alloc::Global;
 use std::sync::ledger::Ledger;
-use walks::{ParentOf, Steps};
+use walks::Steps;
 
-// Lists the first nodes of a part of a tree, and adds tasks for the rest of it.
-fn take<P: ParentOf, L: Ledger>(
-    task: &Task,
+// Lists the first nodes of a part of a tree, and adds tasks for the rest of it. It tells the vertex that it lists under another one,
+// if it does. The list is for the children of a position.
+fn take<G: LiveGraph, L: Ledger>(
+    task: &Task<G::Spot, G::Link>,
     root: &Vertex,
-    children: &ChildIndex,
-    parents: &P,
+    graph: &G,
+    links: &mut Vec<G::Link>,
     tree: &mut Tree,
-    tasks: &mut Vec<Task>,
+    tasks: &mut Vec<Task<G::Spot, G::Link>>,
     steps: &mut Steps<L>,
-) -> Result<(), NoMemory>
-    requires same { live children.now ≡ P.live parents.now }
-    requires outer { class (P.live parents.now) root.now ≢ Inner }
-    requires sound { IsSound (P.live parents.now) root.now (length tree.old) task.now }
-    ensures nodes { OnOk result (tree.new ≡ tree.old ++ step_nodes (P.live parents.now) task.now) }
-    ensures tasks { OnOk result (tasks.new.items ≡ tasks.old.items ++ step_tasks (P.live parents.now) task.now) }
+) -> Result<Option<G::Spot>, NoMemory>
+    requires outer { class (G.live graph.now) root.now ≢ Inner }
+    requires sound { IsSound (G.live graph.now) root.now (length tree.old) (task_at (G.vertex_at graph.now) (G.edge_at graph.now) task.now) }
+    requires task_found { IsFound (G.IsSpot graph.now) (G.IsLink graph.now) task.now }
+    requires found { AllByRecursion (IsFound (G.IsSpot graph.now) (G.IsLink graph.now)) tasks.old.items }
+    ensures nodes { OnOk result (tree.new ≡ tree.old ++ step_nodes (G.live graph.now) (task_at (G.vertex_at graph.now) (G.edge_at graph.now) task.now)) }
+    ensures tasks { let at = task_at (G.vertex_at graph.now) (G.edge_at graph.now) in
+        OnOk result (map at tasks.new.items ≡ map at tasks.old.items ++ step_tasks (G.live graph.now) (at task.now)) }
+    ensures found { OnOk result (AllByRecursion (IsFound (G.IsSpot graph.now) (G.IsLink graph.now)) tasks.new.items) }
+    ensures inner { IfOk result (λ met. IfSome met (λ spot. class (G.live graph.now) (G.vertex_at graph.now spot) ≡ Inner)) }
 {
     match task {
         Task::Place {
-            vertex,
+            spot,
             position,
             sort,
             depth,
         } => {
-            let edges = children.children(vertex, *position, steps);
-            list_place(edges, *position, *sort, *depth, tree, tasks)
+            graph.children(spot, *position, links, steps)?;
+            list_place(links, *position, *sort, *depth, tree, tasks)?;
+            Ok(None)
         }
-        Task::Child { edge, depth } => {
-            list_child(edge, *depth, root, parents, tree, tasks, steps)
-        }
+        Task::Child { link, depth } => list_child(link, *depth, root, graph, tree, tasks, steps),
     }
 }
 
-// The tree of a vertex that heads one.
-fn tree_of<P: ParentOf, L: Ledger>(
+/// The tree of a vertex that heads one. What stands in it under another one is noted, also where memory runs out in the midst of it.
+pub(crate) fn tree_of<G: LiveGraph, L: Ledger>(
     alloc: Global,
+    spot: &G::Spot,
     root: &Vertex,
-    children: &ChildIndex,
-    parents: &P,
+    graph: &G,
+    notes: &mut G::Notes,
     steps: &mut Steps<L>,
 ) -> Result<Tree, NoMemory>
-    requires same { live children.now ≡ P.live parents.now }
-    requires outer { class (P.live parents.now) root.now ≢ Inner }
-    ensures tree { IfOk result (λ tree. IsTreeOf (P.live parents.now) root.now tree) }
+    requires spot { G.IsSpot graph.now spot.now }
+    requires root { G.vertex_at graph.now spot.now ≡ root.now }
+    requires outer { class (G.live graph.now) root.now ≢ Inner }
+    requires noted { G.AreInner graph.now notes.old }
+    ensures tree { IfOk result (λ tree. IsTreeOf (G.live graph.now) root.now tree) }
+    ensures noted { G.AreInner graph.now notes.new }
 {
     let mut tree = Tree::new(alloc);
     tree.push(Node {
@@ -68,29 +77,32 @@ fn tree_of<P: ParentOf, L: Ledger>(
         edge: None,
         what: What::Vertex(*root),
     })?;
+    let mut links = Vec::new(alloc);
     let mut tasks = Vec::new(alloc);
-    push_places(root, 1, &mut tasks)?;
+    push_places(spot, &root.ctor, 1, &mut tasks)?;
     while let Some(task) = tasks.pop() {
-        take(&task, root, children, parents, &mut tree, &mut tasks, steps)?;
+        let met = take(&task, root, graph, &mut links, &mut tree, &mut tasks, steps)?;
+        if let Some(inner) = met {
+            graph.note(&inner, notes);
+        }
     }
     Ok(tree)
 }
 
 /// The trees of some vertices that head one each.
-pub(crate) fn trees_of<P: ParentOf, L: Ledger>(
+pub(crate) fn trees_of<L: Ledger>(
     alloc: Global,
     roots: &[Vertex],
-    children: &ChildIndex,
-    parents: &P,
+    indexes: &LiveIndexes,
     steps: &mut Steps<L>,
 ) -> Result<TreeList, NoMemory>
-    requires same { live children.now ≡ P.live parents.now }
-    requires outer { AllByRecursion (λ root. class (P.live parents.now) root ≢ Inner) roots.now }
-    ensures trees { IfOk result (λ trees. AreTreesOf (P.live parents.now) roots.now trees) }
+    requires outer { AllByRecursion (λ root. class (live indexes.now.parents.now) root ≢ Inner) roots.now }
+    ensures trees { IfOk result (λ trees. AreTreesOf (live indexes.now.parents.now) roots.now trees) }
 {
     let mut trees = TreeList::new(alloc);
+    let mut notes = NoNotes;
     for root in roots {
-        trees.push(tree_of(alloc, root, children, parents, steps)?)?;
+        trees.push(tree_of(alloc, root, root, indexes, &mut notes, steps)?)?;
     }
     Ok(trees)
 }

@@ -43,3 +43,9 @@ impl From<grove_terms::NoMemory> for NoMemory {
         NoMemory
     }
 }
+
+impl From<graph_table::NoMemory> for NoMemory {
+    fn from(_error: graph_table::NoMemory) -> NoMemory {
+        NoMemory
+    }
+}

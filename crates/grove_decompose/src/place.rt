@@ -4,7 +4,6 @@ ghost use Rattle.grove_decompose.specs.Tasks.{place_tasks, child_tasks, place_he
 
 use crate::no_memory::NoMemory;
 use crate::task::Task;
-use grove_edits::{Edge, Vertex};
 use grove_sorts::{Ctor, Position, Sort, position_at, position_count, position_sort};
 use grove_terms::{Node, Tree, What};
 
@@ -18,19 +17,20 @@ fn place_at(ctor: &Ctor, index: usize) -> Option<(Position, Sort)>
 }
 
 /// Adds a task for each position of a vertex, so that the first position is taken first.
-pub(crate) fn push_places(
-    vertex: &Vertex,
+pub(crate) fn push_places<S: Copy, L: Copy>(
+    spot: &S,
+    ctor: &Ctor,
     depth: u64,
-    tasks: &mut Vec<Task>,
+    tasks: &mut Vec<Task<S, L>>,
 ) -> Result<(), NoMemory>
-    ensures { OnOk result (tasks.new.items ≡ tasks.old.items ++ place_tasks vertex.now depth (positions vertex.now.ctor)) }
+    ensures { OnOk result (tasks.new.items ≡ tasks.old.items ++ place_tasks spot.now depth (positions ctor.now)) }
 {
-    let mut index = position_count(&vertex.ctor);
+    let mut index = position_count(ctor);
     while index > 0 {
         index -= 1;
-        if let Some((position, sort)) = place_at(&vertex.ctor, index) {
+        if let Some((position, sort)) = place_at(ctor, index) {
             tasks.push(Task::Place {
-                vertex: *vertex,
+                spot: *spot,
                 position,
                 sort,
                 depth,
@@ -41,37 +41,39 @@ pub(crate) fn push_places(
 }
 
 // Adds a task for each child, so that the first child is taken first.
-fn push_children(edges: &[Edge], depth: u64, tasks: &mut Vec<Task>) -> Result<(), NoMemory>
-    ensures { OnOk result (tasks.new.items ≡ tasks.old.items ++ child_tasks depth edges.now) }
+fn push_children<S: Copy, L: Copy>(
+    links: &[L],
+    depth: u64,
+    tasks: &mut Vec<Task<S, L>>,
+) -> Result<(), NoMemory>
+    ensures { OnOk result (tasks.new.items ≡ tasks.old.items ++ child_tasks depth links.now) }
 {
-    let mut index = edges.len();
+    let mut index = links.len();
     while index > 0 {
         index -= 1;
-        tasks.push(Task::Child {
-            edge: edges[index],
-            depth,
-        })?;
+        let link = links[index];
+        tasks.push(Task::Child { link, depth })?;
     }
     Ok(())
 }
 
 /// Lists a hole or a conflict where there is one, and adds a task for each child.
-pub(crate) fn list_place(
-    edges: &[Edge],
+pub(crate) fn list_place<S: Copy, L: Copy>(
+    links: &[L],
     position: Position,
     sort: Sort,
     depth: u64,
     tree: &mut Tree,
-    tasks: &mut Vec<Task>,
+    tasks: &mut Vec<Task<S, L>>,
 ) -> Result<(), NoMemory>
     requires { depth ≤ length tree.old }
-    ensures nodes { OnOk result (tree.new ≡ tree.old ++ place_head edges.now depth position sort) }
-    ensures tasks { OnOk result (tasks.new.items ≡ tasks.old.items ++ place_rest edges.now depth) }
+    ensures nodes { OnOk result (tree.new ≡ tree.old ++ place_head links.now depth position sort) }
+    ensures tasks { OnOk result (tasks.new.items ≡ tasks.old.items ++ place_rest links.now depth) }
 {
-    let what = match edges {
+    let what = match links {
         [] => What::Hole(sort),
         [only] => {
-            tasks.push(Task::Child { edge: *only, depth })?;
+            tasks.push(Task::Child { link: *only, depth })?;
             return Ok(());
         }
         several => What::Conflict(sort, several.len() as u64),
@@ -84,5 +86,5 @@ pub(crate) fn list_place(
         edge: None,
         what,
     })?;
-    push_children(edges, depth + 1, tasks)
+    push_children(links, depth + 1, tasks)
 }

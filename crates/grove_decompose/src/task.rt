@@ -1,19 +1,18 @@
-use grove_edits::{Edge, Vertex};
 use grove_sorts::{Position, Sort};
 
-/// A part of a tree that is still to be listed.
+/// A part of a tree that is still to be listed, of a graph whose vertices are found by `S` and its edges by `L`.
 #[derive(Clone, Copy, Debug)]
-pub(crate) enum Task {
+pub(crate) enum Task<S, L> {
     /// What stands at a position of a vertex.
     Place {
-        vertex: Vertex,
+        spot: S,
         position: Position,
         sort: Sort,
         depth: u64,
     },
     /// A child, and what stands under it.
     Child {
-        edge: Edge,
+        link: L,
         depth: u64,
     },
 }

@@ -1,21 +1,38 @@
-use Rattle.std.proofs.Common.{◌++◌, ◌∷◌, [], List, sym, ap, ◌∙◌, append-nil}
-use Rattle.std.proofs.lemmas.Result.{on_ok_weaker}
+use Rattle.std.proofs.Common.{◌≡◌, ◌++◌, ◌+◌, List, map, sym, ap, ◌∙◌, append-nil}
+use Rattle.grove_sorts.specs.Ctor.{positions}
+use Rattle.grove_edits.specs.declared.edge.Edge.{Edge}
 use Rattle.walks.specs.Class.{class}
-use Rattle.grove_terms.specs.declared.node.What.{What}
-use Rattle.grove_terms.specs.Nodes.{child_node}
-use Rattle.grove_decompose.specs.declared.task.Task.{Task}
+use Rattle.grove_terms.specs.declared.node.What.TheVariants as whats
+use Rattle.grove_decompose.specs.Tasks.{Task, what_by, task_at}
 use Rattle.grove_decompose.proofs.Pushing.{rest_of_vertex, rest_of_reference}
+use Rattle.grove_decompose.proofs.Under.{inner_of_vertex}
+use Rattle.grove_decompose.proofs.Mapped.{places_pushed, found_with_places}
 use Rattle.grove_decompose.proofs.child.list_child.Goals as goal
 
-pub returns-in-Vertex-clause-tasks : goal.returns-in-Vertex-clause-tasks
-returns-in-Vertex-clause-tasks g c =
-    let rest = rest_of_vertex (class (g.P.ParentOf.live c.args.parents.now) c.args.edge.now.target) c.args.edge.now.target c.in-Vertex.vertex c.args.depth (sym c.what_of-what.ensures ∙ c.in-Vertex.is) in
-    on_ok_weaker c.push_places.result (λ is. is ∙ ap (λ (ts : List Task). c.args.tasks.now.items ++ ts) rest) c.push_places.ensures
+pub returns-in_ok-push_places-in-Vertex-clause-tasks : goal.returns-in_ok-push_places-in-Vertex-clause-tasks
+returns-in_ok-push_places-in-Vertex-clause-tasks g c =
+    let child = g.G.LiveGraph.edge_at c.args.graph.now c.args.link.now in
+    let is : what_by (class (g.G.LiveGraph.live c.args.graph.now) child.target) child.target ≡ whats.Vertex c.in-Vertex.vertex =
+    ap (λ (e : Edge). what_by (class (g.G.LiveGraph.live c.args.graph.now) e.target) e.target) (sym c.edge-edge.ensures) ∙ sym c.what_of-what.ensures ∙ c.in-Vertex.is in
+    places_pushed (g.G.LiveGraph.vertex_at c.args.graph.now) (g.G.LiveGraph.edge_at c.args.graph.now) c.args.tasks.now.items c.push_places.new.tasks.items c.target-target.result (c.args.depth + 1) (positions c.in-Vertex.vertex.ctor)
+    _ c.in_ok-push_places-in-Vertex.ensures (rest_of_vertex (class (g.G.LiveGraph.live c.args.graph.now) child.target) child.target c.in-Vertex.vertex _ c.args.depth is c.target-target.ensures.target)
 
-pub returns-in_default : goal.returns-in_default
-returns-in_default g c =
-    let rest = rest_of_reference (class (g.P.ParentOf.live c.args.parents.now) c.args.edge.now.target) c.args.edge.now.target c.args.depth (λ v is. c.in_default.not-Vertex v (c.what_of-what.ensures ∙ is)) in
-    record {
-      node = c.in_ok-push.ensures.appended ∙ ap (λ (what : What). c.args.tree.now ++ child_node c.args.depth c.args.edge.now.position c.args.edge.now what ∷ []) c.what_of-what.ensures;
-      tasks = sym (append-nil c.args.tasks.now.items) ∙ ap (λ (ts : List Task). c.args.tasks.now.items ++ ts) rest;
-    }
+pub returns-in_ok-push_places-in-Vertex-clause-inner : goal.returns-in_ok-push_places-in-Vertex-clause-inner
+returns-in_ok-push_places-in-Vertex-clause-inner g c =
+    let child = g.G.LiveGraph.edge_at c.args.graph.now c.args.link.now in
+    let is : what_by (class (g.G.LiveGraph.live c.args.graph.now) child.target) child.target ≡ whats.Vertex c.in-Vertex.vertex =
+    ap (λ (e : Edge). what_by (class (g.G.LiveGraph.live c.args.graph.now) e.target) e.target) (sym c.edge-edge.ensures) ∙ sym c.what_of-what.ensures ∙ c.in-Vertex.is in
+    inner_of_vertex (g.G.LiveGraph.live c.args.graph.now) child c.in-Vertex.vertex _ c.requires.held is c.target-target.ensures.target
+
+pub returns-in_ok-push_places-in-Vertex-clause-found : goal.returns-in_ok-push_places-in-Vertex-clause-found
+returns-in_ok-push_places-in-Vertex-clause-found g c =
+    found_with_places (g.G.LiveGraph.IsSpot c.args.graph.now) (g.G.LiveGraph.IsLink c.args.graph.now) c.args.tasks.now.items c.push_places.new.tasks.items c.target-target.result (c.args.depth + 1) (positions c.in-Vertex.vertex.ctor)
+    c.in_ok-push_places-in-Vertex.ensures c.target-target.ensures.spot c.requires.found
+
+pub returns-in_default-clause-tasks : goal.returns-in_default-clause-tasks
+returns-in_default-clause-tasks g c =
+    let child = g.G.LiveGraph.edge_at c.args.graph.now c.args.link.now in
+    let at = map (task_at (g.G.LiveGraph.vertex_at c.args.graph.now) (g.G.LiveGraph.edge_at c.args.graph.now)) c.args.tasks.now.items in
+    let is : c.what_of-what.result ≡ what_by (class (g.G.LiveGraph.live c.args.graph.now) child.target) child.target =
+    c.what_of-what.ensures ∙ ap (λ (e : Edge). what_by (class (g.G.LiveGraph.live c.args.graph.now) e.target) e.target) c.edge-edge.ensures in
+    sym (append-nil at) ∙ ap (λ (ts : List Task). at ++ ts) (rest_of_reference (class (g.G.LiveGraph.live c.args.graph.now) child.target) child.target c.args.depth (λ v are. c.in_default.not-Vertex v (is ∙ are)))

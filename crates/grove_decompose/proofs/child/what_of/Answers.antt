@@ -1,16 +1,27 @@
-use Rattle.std.proofs.Common.{◌≡◌, false, sym, ap, ◌∙◌}
+use Rattle.std.proofs.Common.{◌≡◌, true, false, sym, ap, ◌∙◌}
 use Rattle.walks.specs.Live.{is_same_vertex}
 use Rattle.walks.proofs.Vertices.{same_vertex_exact, same_vertex_itself}
-use Rattle.grove_decompose.proofs.Under.{what_of_root, what_of_inner}
+use Rattle.grove_decompose.specs.Tasks.{is_shared}
+use Rattle.grove_decompose.proofs.Under.{what_of_shared, what_of_root, what_of_inner}
 use Rattle.grove_decompose.proofs.child.what_of.Goals as goal
+
+pub returns-then-is_shared : goal.returns-then-is_shared
+returns-then-is_shared g c =
+    let live = g.G.LiveGraph.live c.args.graph.now in
+    let shared : is_shared c.args.edge.now.target live ≡ true = sym (c.is_shared.ensures ∙ ap (λ v. is_shared v live) c.requires.target) ∙ c.if-is_shared.true in
+    what_of_shared live c.args.edge.now.target shared
 
 pub returns-then-is_same : goal.returns-then-is_same
 returns-then-is_same g c =
+    let live = g.G.LiveGraph.live c.args.graph.now in
+    let alone : is_shared c.args.edge.now.target live ≡ false = sym (c.is_shared.ensures ∙ ap (λ v. is_shared v live) c.requires.target) ∙ c.if-is_shared.false in
     let same = same_vertex_exact c.args.edge.now.target c.args.root.now (sym c.is_same.ensures ∙ c.if-is_same.true) in
-    what_of_root (g.P.ParentOf.live c.args.parents.now) c.args.edge.now c.args.root.now c.few.result c.requires.outer c.requires.held c.few.ensures.least c.in_default.not-More same
+    what_of_root live c.args.edge.now c.args.root.now c.requires.outer c.requires.held alone same
 
 pub returns-else-is_same : goal.returns-else-is_same
 returns-else-is_same g c =
+    let live = g.G.LiveGraph.live c.args.graph.now in
+    let alone : is_shared c.args.edge.now.target live ≡ false = sym (c.is_shared.ensures ∙ ap (λ v. is_shared v live) c.requires.target) ∙ c.if-is_shared.false in
     let other : is_same_vertex c.args.edge.now.target c.args.root.now ≡ false = sym c.is_same.ensures ∙ c.if-is_same.false in
-    what_of_inner (g.P.ParentOf.live c.args.parents.now) c.args.edge.now c.args.root.now c.few.result c.requires.outer c.requires.under c.requires.held c.few.ensures.least c.in_default.not-More
+    what_of_inner live c.args.edge.now c.args.root.now c.requires.outer c.requires.under c.requires.held alone
     (λ same. let itself = ap (is_same_vertex c.args.edge.now.target) (sym same) ∙ same_vertex_itself c.args.edge.now.target in cc)

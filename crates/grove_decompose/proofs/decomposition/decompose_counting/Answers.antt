@@ -7,26 +7,23 @@ use Rattle.grove_terms.proofs.OneGrove.{one_live}
 use Rattle.grove_decompose.proofs.Going.{outer_of_class, trees_along}
 use Rattle.grove_decompose.proofs.decomposition.decompose_counting.Goals as goal
 
-pub trees_of-requires-clause-same : goal.trees_of-requires-clause-same
-trees_of-requires-clause-same g c = one_live (state_in c.args.store.now) (live c.args.children.now) (live c.args.parents.now) c.requires.children c.requires.parents
+pub trees_of-requires : goal.trees_of-requires
+trees_of-requires g c = record {
+  outer = outer_of_class NoParent (live c.args.parents.now) c.in_ok-vertices.vertices.items c.deref-3.result.now (λ e. cc)
+      (c.deref-3.ensures.value ∙ c.in_ok-heads.ensures.none ∙ ap (of_class NoParent (live c.args.parents.now)) c.deref.ensures.value);
+}
 
-pub trees_of-requires-clause-outer : goal.trees_of-requires-clause-outer
-trees_of-requires-clause-outer g c = outer_of_class NoParent (live c.args.parents.now) c.in_ok-vertices.vertices.items c.deref-3.result.now (λ e. cc)
-    (c.deref-3.ensures.value ∙ c.in_ok-heads.ensures.none ∙ ap (of_class NoParent (live c.args.parents.now)) c.deref.ensures.value)
+pub trees_of-requires-2 : goal.trees_of-requires-2
+trees_of-requires-2 g c = record {
+  outer = outer_of_class Multi (live c.args.parents.now) c.in_ok-vertices.vertices.items c.deref-4.result.now (λ e. cc)
+      (c.deref-4.ensures.value ∙ c.in_ok-heads.ensures.multi ∙ ap (of_class Multi (live c.args.parents.now)) c.deref.ensures.value);
+}
 
-pub trees_of-requires-2-clause-same : goal.trees_of-requires-2-clause-same
-trees_of-requires-2-clause-same g c = one_live (state_in c.args.store.now) (live c.args.children.now) (live c.args.parents.now) c.requires.children c.requires.parents
-
-pub trees_of-requires-2-clause-outer : goal.trees_of-requires-2-clause-outer
-trees_of-requires-2-clause-outer g c = outer_of_class Multi (live c.args.parents.now) c.in_ok-vertices.vertices.items c.deref-4.result.now (λ e. cc)
-    (c.deref-4.ensures.value ∙ c.in_ok-heads.ensures.multi ∙ ap (of_class Multi (live c.args.parents.now)) c.deref.ensures.value)
-
-pub trees_of-requires-3-clause-same : goal.trees_of-requires-3-clause-same
-trees_of-requires-3-clause-same g c = one_live (state_in c.args.store.now) (live c.args.children.now) (live c.args.parents.now) c.requires.children c.requires.parents
-
-pub trees_of-requires-3-clause-outer : goal.trees_of-requires-3-clause-outer
-trees_of-requires-3-clause-outer g c = outer_of_class Cycle (live c.args.parents.now) c.in_ok-vertices.vertices.items c.deref-5.result.now (λ e. cc)
-    (c.deref-5.ensures.value ∙ c.in_ok-cycles.ensures.roots ∙ ap (of_class Cycle (live c.args.parents.now)) c.deref-2.ensures.value)
+pub trees_of-requires-3 : goal.trees_of-requires-3
+trees_of-requires-3 g c = record {
+  outer = outer_of_class Cycle (live c.args.parents.now) c.in_ok-vertices.vertices.items c.deref-5.result.now (λ e. cc)
+      (c.deref-5.ensures.value ∙ c.in_ok-cycles.ensures.roots ∙ ap (of_class Cycle (live c.args.parents.now)) c.deref-2.ensures.value);
+}
 
 pub returns : goal.returns
 returns g c =
@@ -43,3 +40,6 @@ returns g c =
         cycle = trees_along edges _ _ _ (c.deref-5.ensures.value ∙ c.in_ok-cycles.ensures.roots ∙ ap (of_class Cycle edges) c.deref-2.ensures.value) c.in_ok-trees_of-3.ensures.trees;
       };
     }
+
+pub invariant_of-indexes : goal.invariant_of-indexes
+invariant_of-indexes g c = record { same = one_live (state_in c.args.store.now) (live c.args.children.now) (live c.args.parents.now) c.requires.children c.requires.parents }

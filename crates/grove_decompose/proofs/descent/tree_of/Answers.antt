@@ -1,22 +1,58 @@
 use Rattle.std.proofs.Common.{rules}
-use Rattle.grove_decompose.proofs.Going.{begun, task_is_sound, gone_on, less_left, listed_whole}
+use Rattle.grove_decompose.proofs.Listing.{started, last_taken, went_on, less_to_list, none_left}
 use Rattle.grove_decompose.proofs.descent.tree_of.Goals as goal
 
 pub loop-task-init : goal.loop-task-init
-loop-task-init g c = begun (g.P.ParentOf.live c.args.parents.now) c.args.root.now _ _ c.requires.outer (search rules) (search rules)
+loop-task-init g c = record {
+  listing = started (g.G.LiveGraph.vertex_at c.args.graph.now) (g.G.LiveGraph.edge_at c.args.graph.now) (g.G.LiveGraph.IsSpot c.args.graph.now) (g.G.LiveGraph.IsLink c.args.graph.now)
+      (g.G.LiveGraph.live c.args.graph.now) c.args.root.now c.args.spot.now _ _ c.requires.spot c.requires.root c.requires.outer (search rules) (search rules);
+  noted = c.requires.noted;
+}
 
 pub take-requires-clause-sound : goal.take-requires-clause-sound
 take-requires-clause-sound g c =
-    task_is_sound (g.P.ParentOf.live c.args.parents.now) c.args.root.now c.loop-task.tree c.loop-task.tasks.items c.pop.new.self.items c.in-Some.task c.loop-task.invariant c.in-Some.ensures.items
+    (last_taken (g.G.LiveGraph.vertex_at c.args.graph.now) (g.G.LiveGraph.edge_at c.args.graph.now) (g.G.LiveGraph.IsSpot c.args.graph.now) (g.G.LiveGraph.IsLink c.args.graph.now)
+    (g.G.LiveGraph.live c.args.graph.now) c.args.root.now c.loop-task.tree c.loop-task.tasks.items c.pop.new.self.items c.in-Some.task c.loop-task.invariant.listing c.in-Some.ensures.items).sound
+
+pub take-requires-clause-task_found : goal.take-requires-clause-task_found
+take-requires-clause-task_found g c =
+    (last_taken (g.G.LiveGraph.vertex_at c.args.graph.now) (g.G.LiveGraph.edge_at c.args.graph.now) (g.G.LiveGraph.IsSpot c.args.graph.now) (g.G.LiveGraph.IsLink c.args.graph.now)
+    (g.G.LiveGraph.live c.args.graph.now) c.args.root.now c.loop-task.tree c.loop-task.tasks.items c.pop.new.self.items c.in-Some.task c.loop-task.invariant.listing c.in-Some.ensures.items).found
+
+pub take-requires-clause-found : goal.take-requires-clause-found
+take-requires-clause-found g c =
+    (last_taken (g.G.LiveGraph.vertex_at c.args.graph.now) (g.G.LiveGraph.edge_at c.args.graph.now) (g.G.LiveGraph.IsSpot c.args.graph.now) (g.G.LiveGraph.IsLink c.args.graph.now)
+    (g.G.LiveGraph.live c.args.graph.now) c.args.root.now c.loop-task.tree c.loop-task.tasks.items c.pop.new.self.items c.in-Some.task c.loop-task.invariant.listing c.in-Some.ensures.items).rest_found
 
 pub loop-task-smaller : goal.loop-task-smaller
 loop-task-smaller g c =
-    less_left (g.P.ParentOf.live c.args.parents.now) c.args.root.now c.loop-task.tree c.loop-task.tasks.items c.pop.new.self.items c.take.new.tasks.items c.in-Some.task c.loop-task.invariant c.in-Some.ensures.items c.in_ok-take.ensures.tasks
+    less_to_list (g.G.LiveGraph.vertex_at c.args.graph.now) (g.G.LiveGraph.edge_at c.args.graph.now) (g.G.LiveGraph.IsSpot c.args.graph.now) (g.G.LiveGraph.IsLink c.args.graph.now)
+    (g.G.LiveGraph.live c.args.graph.now) c.args.root.now c.loop-task.tree c.loop-task.tasks.items c.pop.new.self.items c.take.new.tasks.items c.in-Some.task c.loop-task.invariant.listing c.in-Some.ensures.items c.in_ok-met.ensures.tasks
 
 pub loop-task-preserved : goal.loop-task-preserved
-loop-task-preserved g c =
-    gone_on (g.P.ParentOf.live c.args.parents.now) c.args.root.now c.loop-task.tree c.take.new.tree c.loop-task.tasks.items c.pop.new.self.items c.take.new.tasks.items c.in-Some.task c.loop-task.invariant
-    c.in-Some.ensures.items c.in_ok-take.ensures.nodes c.in_ok-take.ensures.tasks
+loop-task-preserved g c = record {
+  listing = went_on (g.G.LiveGraph.vertex_at c.args.graph.now) (g.G.LiveGraph.edge_at c.args.graph.now) (g.G.LiveGraph.IsSpot c.args.graph.now) (g.G.LiveGraph.IsLink c.args.graph.now)
+      (g.G.LiveGraph.live c.args.graph.now) c.args.root.now c.loop-task.tree c.take.new.tree c.loop-task.tasks.items c.pop.new.self.items c.take.new.tasks.items c.in-Some.task c.loop-task.invariant.listing c.in-Some.ensures.items
+      c.in_ok-met.ensures.nodes c.in_ok-met.ensures.tasks c.in_ok-met.ensures.found;
+  noted = c.loop-task.invariant.noted;
+}
+
+pub loop-task-smaller-in-Some-met : goal.loop-task-smaller-in-Some-met
+loop-task-smaller-in-Some-met g c =
+    less_to_list (g.G.LiveGraph.vertex_at c.args.graph.now) (g.G.LiveGraph.edge_at c.args.graph.now) (g.G.LiveGraph.IsSpot c.args.graph.now) (g.G.LiveGraph.IsLink c.args.graph.now)
+    (g.G.LiveGraph.live c.args.graph.now) c.args.root.now c.loop-task.tree c.loop-task.tasks.items c.pop.new.self.items c.take.new.tasks.items c.in-Some.task c.loop-task.invariant.listing c.in-Some.ensures.items c.in_ok-met.ensures.tasks
+
+pub loop-task-preserved-in-Some-met : goal.loop-task-preserved-in-Some-met
+loop-task-preserved-in-Some-met g c = record {
+  listing = went_on (g.G.LiveGraph.vertex_at c.args.graph.now) (g.G.LiveGraph.edge_at c.args.graph.now) (g.G.LiveGraph.IsSpot c.args.graph.now) (g.G.LiveGraph.IsLink c.args.graph.now)
+      (g.G.LiveGraph.live c.args.graph.now) c.args.root.now c.loop-task.tree c.take.new.tree c.loop-task.tasks.items c.pop.new.self.items c.take.new.tasks.items c.in-Some.task c.loop-task.invariant.listing c.in-Some.ensures.items
+      c.in_ok-met.ensures.nodes c.in_ok-met.ensures.tasks c.in_ok-met.ensures.found;
+  noted = c.note.ensures;
+}
 
 pub returns : goal.returns
-returns g c = record { tree = listed_whole (g.P.ParentOf.live c.args.parents.now) c.args.root.now c.loop-task.tree c.loop-task.tasks.items c.requires.outer c.loop-task.invariant (search rules) }
+returns g c = record {
+  tree = none_left (g.G.LiveGraph.vertex_at c.args.graph.now) (g.G.LiveGraph.edge_at c.args.graph.now) (g.G.LiveGraph.IsSpot c.args.graph.now) (g.G.LiveGraph.IsLink c.args.graph.now)
+      (g.G.LiveGraph.live c.args.graph.now) c.args.root.now c.loop-task.tree c.loop-task.tasks.items c.requires.outer c.loop-task.invariant.listing (search rules);
+  noted = c.loop-task.invariant.noted;
+}

@@ -1,9 +1,14 @@
+use Rattle.std.proofs.Common.{map}
+use Rattle.grove_decompose.specs.Tasks.{task_at}
 use Rattle.grove_decompose.proofs.Taking.{weight}
-use Rattle.grove_decompose.proofs.Going.{IsListing}
+use Rattle.grove_decompose.proofs.Listing.{IsListingBy}
 use Rattle.grove_decompose.proofs.descent.tree_of.Given as goal
 
 abbrev pub invariant-loop-task : goal.invariant-loop-task
-invariant-loop-task g l = IsListing (g.P.ParentOf.live l.parents) l.fn.root l.tree l.tasks.items
+invariant-loop-task g l = record {
+  listing : IsListingBy (g.G.LiveGraph.vertex_at l.graph) (g.G.LiveGraph.edge_at l.graph) (g.G.LiveGraph.IsSpot l.graph) (g.G.LiveGraph.IsLink l.graph) (g.G.LiveGraph.live l.graph) l.fn.root l.tree l.tasks.items;
+  noted : g.G.LiveGraph.AreInner l.graph l.notes;
+}
 
 abbrev pub decreases-loop-task : goal.decreases-loop-task
-decreases-loop-task g l = weight (g.P.ParentOf.live l.parents) l.tasks.items
+decreases-loop-task g l = weight (g.G.LiveGraph.live l.graph) (map (task_at (g.G.LiveGraph.vertex_at l.graph) (g.G.LiveGraph.edge_at l.graph)) l.tasks.items)

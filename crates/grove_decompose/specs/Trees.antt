@@ -1,0 +1,14 @@
+-- Vertices by number, and which of them were met.
+use Rattle.std.specs.Prelude.{◌≡◌, ℕ, Bool, true, List, Some, map, slice_get}
+use Rattle.grove_edits.specs.declared.vertex.Vertex.{Vertex}
+use Rattle.walks.specs.declared.class.Class.TheVariants.{Inner}
+use Rattle.walks.specs.Class.{class}
+use Rattle.graph_table.specs.declared.numbered.Numbered.{Numbered}
+use Rattle.graph_table.specs.Table.{Table, live, vertex_at}
+
+abbrev pub vertices_of : List Numbered → List Vertex
+vertices_of ns = map (λ n. n.vertex) ns
+
+-- each number that was met is that of a vertex which stands in the tree of another one
+abbrev pub OnlyInner : Table → List Bool → Type 0
+OnlyInner table met = (n : ℕ) → slice_get met n ≡ Some true → class (live table) (vertex_at table n) ≡ Inner

@@ -1,0 +1,125 @@
+ghost use Rattle.std.specs.Prelude.{◌≡◌, ◌≢◌, ◌<◌, IfOk};
+ghost use Rattle.std.specs.List.{AllByRecursion};
+ghost use Rattle.walks.specs.declared.class.Class.TheVariants.{NoParent, Multi, Cycle, Inner};
+ghost use Rattle.walks.specs.Class.{class, of_class};
+ghost use Rattle.graph_table.specs.Table.{live, IsNumbered};
+ghost use Rattle.grove_terms.specs.Grove.{IsTreeOf};
+ghost use Rattle.grove_decompose.specs.Trees.{OnlyInner, vertices_of};
+
+use crate::candidates::{candidates_of, with_numbers};
+use crate::descent::tree_of;
+use crate::no_memory::NoMemory;
+use crate::seen::Seen;
+use graph_table::{GraphTable, Numbered, Parents};
+use grove_terms::Tree;
+use std::alloc::Global;
+use std::marker::Brand;
+use std::sync::ledger::{Blank, Ledger};
+use unicycle_roots::cycle_roots;
+use walks::Steps;
+
+/// Vertices that head trees and stand on no cycle, each list in vertex order.
+#[derive(Drop)]
+pub struct NumberedHeads {
+    /// Those without a live parent edge.
+    pub none: Vec<Numbered>,
+    /// Those with two or more.
+    pub multi: Vec<Numbered>,
+}
+
+/// Those of some vertices that have no live parent edge, and those that have two or more.
+pub fn heads_of(
+    alloc: Global,
+    table: &GraphTable,
+    vertices: &[Numbered],
+) -> Result<NumberedHeads, NoMemory>
+    requires { AllByRecursion (IsNumbered table.now) vertices.now }
+    ensures none { IfOk result (λ heads. vertices_of heads.none.items ≡ of_class NoParent (live table.now) (vertices_of vertices.now)) }
+    ensures multi { IfOk result (λ heads. vertices_of heads.multi.items ≡ of_class Multi (live table.now) (vertices_of vertices.now)) }
+    ensures none_numbers { IfOk result (λ heads. AllByRecursion (IsNumbered table.now) heads.none.items) }
+    ensures multi_numbers { IfOk result (λ heads. AllByRecursion (IsNumbered table.now) heads.multi.items) }
+{
+    let mut none = Vec::new(alloc);
+    let mut multi = Vec::new(alloc);
+    for vertex in vertices {
+        match table.parents(vertex.number) {
+            Parents::Zero => none.push(*vertex)?,
+            Parents::One(_) => {}
+            Parents::More(_, _) => multi.push(*vertex)?,
+        }
+    }
+    Ok(NumberedHeads { none, multi })
+}
+
+/// The tree of a vertex that heads one. The vertices that stand in it under another one are then seen, also where memory runs out in
+/// the midst of it.
+pub fn tree_by_number(
+    alloc: Global,
+    table: &GraphTable,
+    root: &Numbered,
+    seen: &mut Seen,
+) -> Result<Tree, NoMemory>
+    requires number { IsNumbered table.now root.now }
+    requires outer { class (live table.now) root.now.vertex ≢ Inner }
+    requires seen { OnlyInner table.now seen.old }
+    ensures tree { IfOk result (λ tree. IsTreeOf (live table.now) root.now.vertex tree) }
+    ensures seen { OnlyInner table.now seen.new }
+{
+    tree_counting::<Brand>(alloc, table, root, seen, Blank::new(1))
+}
+
+fn tree_counting<L: Ledger>(
+    alloc: Global,
+    table: &GraphTable,
+    root: &Numbered,
+    seen: &mut Seen,
+    blank: Blank,
+) -> Result<Tree, NoMemory>
+    requires name { blank.name ≡ L.name }
+    requires parts { blank.parts ≡ L.parts }
+    requires some { 0 < blank.parts }
+    requires number { IsNumbered table.now root.now }
+    requires outer { class (live table.now) root.now.vertex ≢ Inner }
+    requires seen { OnlyInner table.now seen.old }
+    ensures tree { IfOk result (λ tree. IsTreeOf (live table.now) root.now.vertex tree) }
+    ensures seen { OnlyInner table.now seen.new }
+{
+    let mut steps = Steps::<L>::new(blank);
+    tree_of(alloc, &root.number, &root.vertex, table, seen, &mut steps)
+}
+
+/// Those of some vertices that are the least of a cycle. Vertices that were seen in the trees of others are not looked at.
+pub fn cycle_heads(
+    alloc: Global,
+    table: &GraphTable,
+    vertices: &[Numbered],
+    seen: &Seen,
+) -> Result<Vec<Numbered>, NoMemory>
+    requires numbers { AllByRecursion (IsNumbered table.now) vertices.now }
+    requires seen { OnlyInner table.now seen.now }
+    ensures cycle { IfOk result (λ heads. vertices_of heads.items ≡ of_class Cycle (live table.now) (vertices_of vertices.now)) }
+    ensures numbers { IfOk result (λ heads. AllByRecursion (IsNumbered table.now) heads.items) }
+{
+    cycles_counting::<Brand>(alloc, table, vertices, seen, Blank::new(1))
+}
+
+fn cycles_counting<L: Ledger>(
+    alloc: Global,
+    table: &GraphTable,
+    vertices: &[Numbered],
+    seen: &Seen,
+    blank: Blank,
+) -> Result<Vec<Numbered>, NoMemory>
+    requires name { blank.name ≡ L.name }
+    requires parts { blank.parts ≡ L.parts }
+    requires some { 0 < blank.parts }
+    requires numbers { AllByRecursion (IsNumbered table.now) vertices.now }
+    requires seen { OnlyInner table.now seen.now }
+    ensures cycle { IfOk result (λ heads. vertices_of heads.items ≡ of_class Cycle (live table.now) (vertices_of vertices.now)) }
+    ensures numbers { IfOk result (λ heads. AllByRecursion (IsNumbered table.now) heads.items) }
+{
+    let mut steps = Steps::<L>::new(blank);
+    let candidates = candidates_of(alloc, table, vertices, seen)?;
+    let roots = cycle_roots(alloc, &candidates, table, &mut steps)?;
+    with_numbers(alloc, table, &roots)
+}
