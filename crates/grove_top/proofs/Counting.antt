@@ -44,16 +44,12 @@ one_more (u ∷ us) (w ∷ ws) t v are is = (are.0, one_more us ws t v are.1 is)
 pub adds_none : (old : List Bool) → AddsVerdicts [] old old
 adds_none old = λ before are. subst (λ (ts : List (List Node)). AreVerdicts ts old) (sym (append-nil before)) are
 
-pub adds_one : (done next : List (List Node)) (t : List Node) (v : Bool) (old vs new : List Bool) → AddsVerdicts done old vs → next ≡ done ++ t ∷ [] → new ≡ vs ++ v ∷ [] → (IsTrue v ↔ IsTypedTree t)
-    → AddsVerdicts next old new
-adds_one done next t v old vs new adds is_next is_new is = λ before are.
-    let told : AreVerdicts ((before ++ done) ++ t ∷ []) new = subst (AreVerdicts ((before ++ done) ++ t ∷ [])) (sym is_new) (one_more (before ++ done) vs t v (adds before are) is) in
-    subst (λ (ts : List (List Node)). AreVerdicts (before ++ ts) new) (sym is_next) (subst (λ (ts : List (List Node)). AreVerdicts ts new) (append_assoc before done (t ∷ [])) told)
+pub adds_one : (t : List Node) (v : Bool) (old new : List Bool) → new ≡ old ++ v ∷ [] → (IsTrue v ↔ IsTypedTree t) → AddsVerdicts (t ∷ []) old new
+adds_one t v old new is_new is = λ before are. subst (AreVerdicts (before ++ t ∷ [])) (sym is_new) (one_more before old t v are is)
 
--- those of three lists, one after the other
-pub adds_three : (a b c : List (List Node)) (start x y z : List Bool) → start ≡ [] → AddsVerdicts a start x → AddsVerdicts b x y → AddsVerdicts c y z → AreVerdicts (a ++ (b ++ c)) z
-adds_three a b c start x y z none of_a of_b of_c =
-    subst (λ (ts : List (List Node)). AreVerdicts ts z) (append_assoc a b c) (of_c (a ++ b) (of_b a (of_a [] (subst (AreVerdicts []) (sym none) tt))))
+pub adds_more : (a b : List (List Node)) (old middle new : List Bool) → AddsVerdicts a old middle → AddsVerdicts b middle new → AddsVerdicts (a ++ b) old new
+adds_more a b old middle new of_a of_b = λ before are.
+    subst (λ (ts : List (List Node)). AreVerdicts ts new) (append_assoc before a b) (of_b (before ++ a) (of_a before are))
 
 -- ---- the text
 

@@ -4,3 +4,5 @@ pub mod WordsAre
 pub mod Answered
 pub mod Sorted
 pub mod Counting
+pub mod Appended
+pub mod Groves

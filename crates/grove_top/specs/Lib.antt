@@ -2,6 +2,9 @@ pub mod FaultOfLine
 pub mod Words
 pub mod Check
 pub mod Verdicts
+pub mod Program
+pub mod Appending
+pub mod Whole
 pub mod Due
 pub mod Graph
 pub mod Meets

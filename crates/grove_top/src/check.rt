@@ -1,71 +1,104 @@
-ghost use Rattle.std.specs.Prelude.{◌≡◌, ◌++◌, length, IfOk, OnOk};
-ghost use Rattle.graph_store.specs.Store.{state_in};
-ghost use Rattle.marking.specs.Sorted.{AreSortedTrees, IsSortedGrove};
-ghost use Rattle.grove_top.specs.Check.{all_trees, roots_line};
-ghost use Rattle.grove_top.specs.Graph.{IsCheckText, IsOfEdits};
-ghost use Rattle.grove_top.specs.Verdicts.{AreVerdicts, AddsVerdicts, typed_among};
+ghost use Rattle.std.specs.Prelude.{◌≡◌, ◌++◌, [], ◌∷◌, length, IfOk, OnOk};
+ghost use Rattle.std.specs.List.{AllByRecursion};
+ghost use Rattle.grove_edits.specs.Graph.{graph, Ascends};
+ghost use Rattle.walks.specs.Whole.{AreLive};
+ghost use Rattle.graph_table.specs.Table.{live};
+ghost use Rattle.grove_decompose.specs.Trees.{OnlyInner, vertices_of};
+ghost use Rattle.grove_top.specs.Appending.{ChecksTrees};
+ghost use Rattle.grove_top.specs.Check.{roots_line};
+ghost use Rattle.grove_top.specs.Whole.{Checks};
+ghost use Rattle.grove_top.specs.Graph.{IsCheckText};
+ghost use Rattle.grove_top.specs.Program.{IsHead, IsProgram};
+ghost use Rattle.grove_top.specs.Verdicts.{typed_among};
 
-use crate::marked::mark_graph;
 use crate::no_memory::NoMemory;
-use ctx_table::CtxTable;
-use graph_store::GraphStore;
-use grove_printer::print_marked_lines;
-use grove_terms::{Grove, TreeList};
+use crate::program::Program;
+use crate::walk::Walk;
+use graph_table::{GraphTable, Numbered};
+use grove_decompose::cycle_heads;
+use grove_edits::EditList;
+use grove_printer::print_marked_lines_of;
 use plain_typing::is_typed;
 use std::alloc::Global;
 use text_parts::write_number;
-use type_core::TypeTable;
 
-/// The marked lines of the graph that a store holds, and how many of its trees are typed.
-pub(crate) fn check_text(alloc: Global, store: &GraphStore) -> Result<Vec<u8>, NoMemory>
-    requires { IsOfEdits (state_in store.now) }
-    ensures { IfOk result (λ text. IsCheckText (state_in store.now) text.items) }
+/// What checking has found so far: the marked lines, and for each tree in turn whether it is typed. The length of one list is known to
+/// fit in a number, the sum of the lengths of the grove's three lists is not.
+#[derive(Drop)]
+pub(crate) struct Findings {
+    pub(crate) text: Vec<u8>,
+    pub(crate) verdicts: Vec<bool>,
+}
+
+/// The marked lines of the graph of a canonical list, and how many of its trees are typed.
+pub(crate) fn check_text(alloc: Global, edits: EditList) -> Result<Vec<u8>, NoMemory>
+    requires { Ascends edits }
+    ensures { IfOk result (λ text. IsCheckText (graph edits) text.items) }
 {
-    let mut program = mark_graph(alloc, store)?;
-    let mut text = Vec::new(alloc);
-    print_marked_lines(&program.marked, &program.types, &mut text)?;
-    let verdicts = verdicts(
-        alloc,
-        &program.grove,
-        &mut program.types,
-        &mut program.contexts,
-    )?;
+    let program = Program::of(alloc, edits)?;
+    let mut findings = Findings {
+        text: Vec::new(alloc),
+        verdicts: Vec::new(alloc),
+    };
+    check_program(alloc, &program, &mut findings)?;
+    let Findings { mut text, verdicts } = findings;
     append_roots(&verdicts, &mut text)?;
     Ok(text)
 }
 
-// For each tree of a grove in turn, whether it is typed. The length of one list is known to fit in a number, the sum of the lengths of
-// the grove's three lists is not.
-fn verdicts(
-    alloc: Global,
-    grove: &Grove,
-    types: &mut TypeTable,
-    contexts: &mut CtxTable,
-) -> Result<Vec<bool>, NoMemory>
-    requires { IsSortedGrove grove.now }
-    ensures { IfOk result (λ verdicts. AreVerdicts (all_trees grove.now) verdicts.items) }
+// Checks all trees.
+fn check_program(alloc: Global, program: &Program, findings: &mut Findings) -> Result<(), NoMemory>
+    requires { IsProgram program.now }
+    ensures { OnOk result (Checks (graph program.now.table.edits)
+        findings.old.text.items findings.new.text.items findings.old.verdicts.items findings.new.verdicts.items) }
 {
-    let mut verdicts = Vec::new(alloc);
-    judge(alloc, &grove.none, types, contexts, &mut verdicts)?;
-    judge(alloc, &grove.multi, types, contexts, &mut verdicts)?;
-    judge(alloc, &grove.cycle, types, contexts, &mut verdicts)?;
-    Ok(verdicts)
+    let table = &program.table;
+    let mut walk = Walk::new(alloc, table)?;
+    check_trees(alloc, table, &program.heads.none, &mut walk, findings)?;
+    check_trees(alloc, table, &program.heads.multi, &mut walk, findings)?;
+    let cycles = cycle_heads(alloc, table, &program.vertices, &walk.seen)?;
+    check_trees(alloc, table, &cycles, &mut walk, findings)
 }
 
-// Appends for each tree whether it is typed.
-fn judge(
+// Checks the trees of some vertices that head one each.
+fn check_trees(
     alloc: Global,
-    trees: &TreeList,
-    types: &mut TypeTable,
-    contexts: &mut CtxTable,
-    verdicts: &mut Vec<bool>,
+    table: &GraphTable,
+    heads: &[Numbered],
+    walk: &mut Walk,
+    findings: &mut Findings,
 ) -> Result<(), NoMemory>
-    requires { AreSortedTrees trees.now }
-    ensures { OnOk result (AddsVerdicts trees.now verdicts.old.items verdicts.new.items) }
+    requires whole { AreLive (graph table.now.edits) (live table.now) }
+    requires heads { AllByRecursion (IsHead table.now) heads.now }
+    requires seen { OnlyInner table.now walk.old.seen }
+    ensures checked { OnOk result (ChecksTrees (live table.now) (vertices_of heads.now)
+        findings.old.text.items findings.new.text.items findings.old.verdicts.items findings.new.verdicts.items) }
+    ensures seen { OnOk result (OnlyInner table.now walk.new.seen) }
 {
-    for tree in trees.as_slice() {
-        verdicts.push(is_typed(alloc, tree, types, contexts)?)?;
+    for head in heads {
+        check_tree(alloc, table, head, walk, findings)?;
     }
+    Ok(())
+}
+
+fn check_tree(
+    alloc: Global,
+    table: &GraphTable,
+    head: &Numbered,
+    walk: &mut Walk,
+    findings: &mut Findings,
+) -> Result<(), NoMemory>
+    requires whole { AreLive (graph table.now.edits) (live table.now) }
+    requires head { IsHead table.now head.now }
+    requires seen { OnlyInner table.now walk.old.seen }
+    ensures checked { OnOk result (ChecksTrees (live table.now) (head.now.vertex ∷ [])
+        findings.old.text.items findings.new.text.items findings.old.verdicts.items findings.new.verdicts.items) }
+    ensures seen { OnOk result (OnlyInner table.now walk.new.seen) }
+{
+    let part = walk.part(alloc, table, head)?;
+    print_marked_lines_of(&part.marked, &walk.types, &mut findings.text)?;
+    let verdict = is_typed(alloc, &part.tree, &mut walk.types, &mut walk.contexts)?;
+    findings.verdicts.push(verdict)?;
     Ok(())
 }
 

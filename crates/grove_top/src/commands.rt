@@ -1,18 +1,18 @@
 ghost use Rattle.std.specs.Prelude.{◌≡◌, ◌≤◌, length, IfOk};
-ghost use Rattle.graph_store.specs.Store.{state_in};
+ghost use Rattle.grove_edits.specs.Graph.{Ascends};
+ghost use Rattle.edit_text.specs.Text.{text_of};
 ghost use Rattle.grove_top.specs.declared.limit.TheConstants.{MOST_BYTES};
 ghost use Rattle.grove_top.specs.Due.{IsCommandDue, malformed_text, fault_word};
-ghost use Rattle.grove_top.specs.Graph.{IsAnswerOf, IsCanonicalText, IsOfEdits, IsPrintText};
+ghost use Rattle.grove_top.specs.Graph.{IsAnswerOf};
 
 use crate::check::check_text;
 use crate::command::Command;
-use crate::graph::read_graph;
-use crate::marked::mark_graph;
 use crate::no_memory::NoMemory;
 use crate::outcome::{Fault, Status};
+use crate::reading::read_edits;
+use crate::show::print_text;
 use edit_text::{TextFault, write_edits};
-use graph_store::GraphStore;
-use grove_printer::print_grove;
+use grove_edits::EditList;
 use std::alloc::Global;
 use text_parts::write_number;
 
@@ -28,9 +28,9 @@ pub(crate) fn form_due(alloc: Global, command: Command, text: &[u8]) -> Result<D
     requires { length text.now ≤ MOST_BYTES }
     ensures { IfOk result (λ due. IsCommandDue command text.now due.status due.text.items) }
 {
-    match read_graph(alloc, text) {
-        Ok(store) => {
-            let text = answer(alloc, command, &store)?;
+    match read_edits(alloc, text) {
+        Ok(edits) => {
+            let text = answer(alloc, command, edits)?;
             Ok(Due {
                 status: Status::Done,
                 text,
@@ -42,33 +42,22 @@ pub(crate) fn form_due(alloc: Global, command: Command, text: &[u8]) -> Result<D
     }
 }
 
-fn answer(alloc: Global, command: Command, store: &GraphStore) -> Result<Vec<u8>, NoMemory>
-    requires { IsOfEdits (state_in store.now) }
-    ensures { IfOk result (λ text. IsAnswerOf command (state_in store.now) text.items) }
+fn answer(alloc: Global, command: Command, edits: EditList) -> Result<Vec<u8>, NoMemory>
+    requires { Ascends edits }
+    ensures { IfOk result (λ text. IsAnswerOf command edits text.items) }
 {
     match command {
-        Command::Merge => canonical_text(alloc, store),
-        Command::Show => print_text(alloc, store),
-        Command::Check => check_text(alloc, store),
+        Command::Merge => text_of(alloc, &edits),
+        Command::Show => print_text(alloc, edits),
+        Command::Check => check_text(alloc, edits),
     }
 }
 
-fn canonical_text(alloc: Global, store: &GraphStore) -> Result<Vec<u8>, NoMemory>
-    ensures { IfOk result (λ text. IsCanonicalText (state_in store.now) text.items) }
+fn text_of(alloc: Global, edits: &EditList) -> Result<Vec<u8>, NoMemory>
+    ensures { IfOk result (λ text. text.items ≡ text_of edits.now) }
 {
-    let canonical = store.in_order(alloc)?;
     let mut text = Vec::new(alloc);
-    write_edits(canonical.as_slice(), &mut text)?;
-    Ok(text)
-}
-
-fn print_text(alloc: Global, store: &GraphStore) -> Result<Vec<u8>, NoMemory>
-    requires { IsOfEdits (state_in store.now) }
-    ensures { IfOk result (λ text. IsPrintText (state_in store.now) text.items) }
-{
-    let program = mark_graph(alloc, store)?;
-    let mut text = Vec::new(alloc);
-    print_grove(&program.marked, &program.types, &mut text)?;
+    write_edits(edits.as_slice(), &mut text)?;
     Ok(text)
 }
 

@@ -5,13 +5,15 @@
 mod check;
 mod command;
 mod commands;
-mod graph;
 mod laws;
 mod limit;
-mod marked;
 mod no_memory;
 mod outcome;
+mod program;
+mod reading;
+mod show;
 mod top;
+mod walk;
 
 pub use command::Command;
 pub use laws::{one_text_is_due, same_edits_same_text};

@@ -38,20 +38,8 @@ impl From<edit_text::NoMemory> for NoMemory {
     }
 }
 
-impl From<graph_store::NoMemory> for NoMemory {
-    fn from(_error: graph_store::NoMemory) -> NoMemory {
-        NoMemory
-    }
-}
-
-impl From<child_index::NoMemory> for NoMemory {
-    fn from(_error: child_index::NoMemory) -> NoMemory {
-        NoMemory
-    }
-}
-
-impl From<parent_index::NoMemory> for NoMemory {
-    fn from(_error: parent_index::NoMemory) -> NoMemory {
+impl From<graph_table::NoMemory> for NoMemory {
+    fn from(_error: graph_table::NoMemory) -> NoMemory {
         NoMemory
     }
 }

@@ -1,22 +1,26 @@
+use Rattle.std.proofs.Common.{List, Bool, [], subst, sym}
+use Rattle.grove_edits.specs.declared.edit.Edit.{Edit}
+use Rattle.grove_edits.specs.Graph.{graph}
+use Rattle.grove_terms.specs.Grove.{IsGrove}
 use Rattle.grove_printer.specs.Print.{marked_lines}
-use Rattle.mark_rules.specs.Reading.{meant_grove}
 use Rattle.grove_top.specs.Check.{all_trees}
-use Rattle.grove_top.specs.Verdicts.{typed_among}
+use Rattle.grove_top.specs.Verdicts.{AreVerdicts, typed_among}
 use Rattle.grove_top.proofs.Counting.{are_typed, checked_so}
 use Rattle.grove_top.proofs.check.check_text.Goals as goal
 
 pub returns : goal.returns
 returns c =
-    let program = c.in_ok-program.program in
-    let marked = meant_grove program.types program.marked in
-    let verdicts = c.in_ok-verdicts.verdicts.items in
+    let checked = c.in_ok-check_program.ensures in
+    let findings = c.check_program.new.findings in
+    let verdicts : List Bool = findings.verdicts.items in
+    let are : AreVerdicts (all_trees checked.grove) verdicts = checked.verdicts [] (subst (AreVerdicts []) (sym c.new-2.ensures.items) tt) in
     record {
-      grove = program.grove;
-      marked = marked;
+      grove = checked.grove;
+      marked = checked.marked;
       typed = typed_among verdicts;
-      is_grove = c.in_ok-program.ensures.grove;
-      is_marked = c.in_ok-program.ensures.marked;
-      are_typed = are_typed (all_trees program.grove) verdicts c.in_ok-verdicts.ensures;
-      written = checked_so (all_trees program.grove) verdicts c.deref.result.now (marked_lines marked) c.new-text.result.items c.print_marked_lines.new.out.items c.append_roots.new.out.items c.in_ok-verdicts.ensures
-          c.deref.ensures.value c.new-text.ensures.items c.in_ok-print_marked_lines.ensures.appended c.in_ok-append_roots.ensures;
+      is_grove = subst (λ (edits : List Edit). IsGrove (graph edits) checked.grove) c.in_ok-program.ensures.edits checked.is_grove;
+      is_marked = checked.is_marked;
+      are_typed = are_typed (all_trees checked.grove) verdicts are;
+      written = checked_so (all_trees checked.grove) verdicts c.deref.result.now (marked_lines checked.marked) c.new.result.items findings.text.items c.append_roots.new.out.items are c.deref.ensures.value
+          c.new.ensures.items checked.written c.in_ok-append_roots.ensures;
     }

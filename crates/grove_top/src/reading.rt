@@ -1,19 +1,17 @@
 ghost use Rattle.std.specs.Prelude.{◌≤◌, length, IfOk, IfErr};
 ghost use Rattle.edit_text.specs.Text.{HasTextFault};
-ghost use Rattle.graph_store.specs.Store.{state_in};
 ghost use Rattle.grove_top.specs.declared.limit.TheConstants.{MOST_BYTES};
-ghost use Rattle.grove_top.specs.Graph.{IsGraphOf};
+ghost use Rattle.grove_top.specs.Graph.{IsListOf};
 
 use edit_stream::{EditStream, FeedFault, FinishFault};
 use edit_text::TextFault;
-use graph_store::GraphStore;
 use grove_edits::EditList;
 use std::alloc::Global;
 
-/// The graph of the edits that a text spells, or the first line that spells none.
-pub(crate) fn read_graph(alloc: Global, text: &[u8]) -> Result<GraphStore, TextFault>
+/// The canonical list of the graph of the edits that a text spells, or the first line that spells none.
+pub(crate) fn read_edits(alloc: Global, text: &[u8]) -> Result<EditList, TextFault>
     requires { length text.now ≤ MOST_BYTES }
-    ensures graph { IfOk result (λ store. IsGraphOf text.now (state_in store)) }
+    ensures list { IfOk result (IsListOf text.now) }
     ensures fault { IfErr result (HasTextFault text.now) }
 {
     let mut stream = EditStream::new(alloc);
@@ -32,9 +30,8 @@ pub(crate) fn read_graph(alloc: Global, text: &[u8]) -> Result<GraphStore, TextF
         }
         Err(FinishFault::Rest { line }) => return Err(TextFault::Rest { line }),
     }
-    let mut store = GraphStore::new(alloc);
-    match store.raise_each(edits) {
-        Ok(()) => Ok(store),
+    match edits.into_canonical(alloc) {
+        Ok(canonical) => Ok(canonical),
         Err(_) => Err(TextFault::NoMemory),
     }
 }
