@@ -109,7 +109,8 @@ impl GraphTable {
     /// The live edges to the vertex with a number.
     pub fn parents(&self, number: usize) -> Parents
         requires { IsNumber self.now number }
-        ensures { few_at self.now result ≡ first_two (parents_of (vertex_at self.now number) (live self.now)) }
+        ensures edges { few_at self.now result ≡ first_two (parents_of (vertex_at self.now number) (live self.now)) }
+        ensures indices { AreIndices self.now result }
     {
         self.around[number].parents()
     }

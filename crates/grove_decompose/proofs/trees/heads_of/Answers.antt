@@ -19,21 +19,21 @@ loop-vertex-preserved c =
     let numbered = first_numbered c.args.table.now v before rest left c.loop-vertex.invariant.left in
     elim c.match-parents.branch [
       | in-Zero+in_ok-push-in-Zero w ↦
-          let tests = zero_tells c.args.table.now v c.parents.result numbered.0 c.parents.ensures w.in-Zero.is in
+          let tests = zero_tells c.args.table.now v c.parents.result numbered.0 c.parents.ensures.edges w.in-Zero.is in
           record {
             none = one_put_down NoParent c.args.table.now v all before rest c.loop-vertex.none.items _ left numbered.0 tests.none (items_of w.none-is ∙ w.in_ok-push-in-Zero.ensures.items) c.loop-vertex.invariant.none;
             multi = other_passed Multi c.args.table.now v all before rest c.loop-vertex.multi.items _ left tests.multi (items_of w.multi-is) c.loop-vertex.invariant.multi;
             left = numbered.1;
           }
       | in-One w ↦
-          let tests = one_tells c.args.table.now v c.parents.result w.in-One.field-0 numbered.0 c.parents.ensures w.in-One.is in
+          let tests = one_tells c.args.table.now v c.parents.result w.in-One.field-0 numbered.0 c.parents.ensures.edges w.in-One.is in
           record {
             none = other_passed NoParent c.args.table.now v all before rest c.loop-vertex.none.items _ left tests.none (items_of w.none-is) c.loop-vertex.invariant.none;
             multi = other_passed Multi c.args.table.now v all before rest c.loop-vertex.multi.items _ left tests.multi (items_of w.multi-is) c.loop-vertex.invariant.multi;
             left = numbered.1;
           }
       | in-More+in_ok-push-in-More w ↦
-          let tests = more_tells c.args.table.now v c.parents.result w.in-More.field-0 w.in-More.field-1 numbered.0 c.parents.ensures w.in-More.is in
+          let tests = more_tells c.args.table.now v c.parents.result w.in-More.field-0 w.in-More.field-1 numbered.0 c.parents.ensures.edges w.in-More.is in
           record {
             none = other_passed NoParent c.args.table.now v all before rest c.loop-vertex.none.items _ left tests.none (items_of w.none-is) c.loop-vertex.invariant.none;
             multi = one_put_down Multi c.args.table.now v all before rest c.loop-vertex.multi.items _ left numbered.0 tests.multi (items_of w.multi-is ∙ w.in_ok-push-in-More.ensures.items) c.loop-vertex.invariant.multi;

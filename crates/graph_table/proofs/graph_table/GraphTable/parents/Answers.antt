@@ -1,10 +1,19 @@
-use Rattle.std.proofs.Common.{◌∙◌, ap}
-use Rattle.graph_table.specs.Table.{few_at}
+use Rattle.std.proofs.Common.{◌∙◌, ap, subst}
+use Rattle.graph_table.specs.Table.{Table, few_at}
+use Rattle.graph_table.specs.Around.{IsTable}
 use Rattle.graph_table.proofs.Readings.{parents_told, kept_in_view}
+use Rattle.graph_table.proofs.Told.{indices_kept}
 use Rattle.graph_table.proofs.graph_table.GraphTable.parents.Goals as goal
 
-pub returns : goal.returns
-returns c =
+pub returns-clause-edges : goal.returns-clause-edges
+returns-clause-edges c =
     let inside = c.self.inside in
     let kept = kept_in_view inside.edits inside.numbers.keys c.args.self.now inside.around.items c.self.view_is c.self.invariant.kept in
     ap (few_at c.args.self.now) c.parents.ensures ∙ parents_told c.args.self.now inside.around.items kept c.args.number c.requires c.index.result.now c.index.ensures
+
+pub returns-clause-indices : goal.returns-clause-indices
+returns-clause-indices c =
+    let inside = c.self.inside in
+    let is : IsTable c.args.self.now.edits c.args.self.now.vertices inside.targets.items inside.around.items =
+    subst (λ (t : Table). IsTable t.edits t.vertices inside.targets.items inside.around.items) c.self.view_is c.self.invariant in
+    indices_kept c.args.self.now inside.targets.items inside.around.items is c.args.number c.index.result.now c.parents.result c.requires c.index.ensures c.parents.ensures
