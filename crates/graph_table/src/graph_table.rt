@@ -1,9 +1,10 @@
 ghost use Rattle.std.specs.Prelude.{◌≡◌, ◌<◌, true, length, map, IfOk, OnOk, IfSome, IsSome};
-ghost use Rattle.std.specs.List.{AllByRecursion};
+ghost use Rattle.std.specs.List.{AllByRecursion, IsDistinct};
+ghost use Rattle.grove_edits.specs.declared.vertex.Vertex.{Vertex};
 ghost use Rattle.grove_edits.specs.Graph.{graph, Ascends};
 ghost use Rattle.walks.specs.Few.{first_two};
-ghost use Rattle.walks.specs.Live.{parents_of, children_of, stands_in, IsInEdgeOrder};
-ghost use Rattle.walks.specs.Whole.{AreVertices, AreLive};
+ghost use Rattle.walks.specs.Live.{parents_of, children_of, stands_in, is_same_vertex, IsInEdgeOrder};
+ghost use Rattle.walks.specs.Whole.{AreVertices, AreLive, IsVertexOf};
 ghost use Rattle.graph_table.specs.ParentIndices.{AreIndices};
 ghost use Rattle.graph_table.specs.Table.{live, vertex_at, edge_at, few_at, IsNumber, IsIndex, IsNumbered};
 
@@ -66,9 +67,12 @@ impl GraphTable {
         })
     }
 
-    /// How many vertices the graph has; their numbers are those below.
+    /// How many vertices the graph has; their numbers are those below, and no vertex has two.
     pub fn number_count(&self) -> usize
-        ensures { result ≡ length self.now.vertices }
+        ensures count { result ≡ length self.now.vertices }
+        ensures once { IsDistinct is_same_vertex self.now.vertices }
+        ensures each { (v : Vertex) → IsVertexOf (graph self.now.edits) v → stands_in v self.now.vertices ≡ true }
+        ensures no_other { (v : Vertex) → stands_in v self.now.vertices ≡ true → IsVertexOf (graph self.now.edits) v }
     {
         self.numbers.len()
     }
