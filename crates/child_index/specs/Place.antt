@@ -3,11 +3,10 @@ use Rattle.std.specs.Prelude.{ℕ, Bool, ◌&&◌}
 use Rattle.std.specs.declared.cmp.Ordering.{Ordering}
 use Rattle.std.specs.Ordering.{ordering_then}
 use Rattle.grove_sorts.specs.declared.position.Position.{Position}
-use Rattle.grove_sorts.specs.Position.{position_cmp}
+use Rattle.grove_sorts.specs.Position.{position_cmp, is_same_position}
 use Rattle.grove_edits.specs.declared.vertex.Vertex.{Vertex}
 use Rattle.grove_edits.specs.declared.edge.Edge.{Edge}
-use Rattle.grove_edits.specs.Vertex.{vertex_cmp}
-use Rattle.walks.specs.Live.{is_same_vertex, is_same_position}
+use Rattle.grove_edits.specs.Vertex.{vertex_cmp, is_same_vertex}
 use Rattle.edge_index.specs.Lists.{Lists, room_at}
 use Rattle.child_index.specs.declared.place.Place.{Place}
 

@@ -18,7 +18,8 @@ use Rattle.walks.specs.Live.{IsInEdgeOrder, holds_edge}
 use Rattle.edge_index.specs.Ordered.{with_edge, without_edge}
 use Rattle.edge_index.specs.Lists.{Kept, Lists, edges_of, room_of, room_at, edges_at, live, with_key, IsByKey}
 use Rattle.edge_index.proofs.Ties.{IsPut}
-use Rattle.edge_index.proofs.Ordered.{equal_from_test, same_edge_exact, holds-with_edge, holds-with_edges, holds-filter, in_order-with_edge, in_order-with_edges, in_order-filter, same_lists}
+use Rattle.edge_index.proofs.Ordered.{same_edge_exact, holds-with_edge, holds-with_edges, holds-filter, in_order-with_edge, in_order-with_edges, in_order-filter, same_lists}
+use Rattle.grove_sorts.proofs.Orders.{equal_from_test}
 
 -- nothing is by key
 pub none_by_key : {K : Type 0} (cmp : K → K → Ordering) (key : Edge → K) → IsByKey cmp key []

@@ -1,5 +1,5 @@
 use super::*;
-use edit_text::{LineFault, read_edits};
+use edit_text::LineFault;
 use grove_edits::EditList;
 use std::test::Fail;
 
@@ -13,9 +13,10 @@ fn a_byte_at_a_time(rt: HostRuntime) -> Result<(), Fail> {
         assert!(rt; stream.feed(&[*byte], &mut edits).is_ok());
     }
     assert_eq!(rt; edits.len(), 4);
-    let whole = read_edits(rt.alloc(), text).ok().ok_or("a good text")?;
-    assert!(rt; edits.as_slice() == whole.as_slice());
     assert!(rt; stream.finish().is_ok());
+    let mut whole = EditList::new(rt.alloc());
+    assert!(rt; EditStream::new(rt.alloc()).feed(text, &mut whole).is_ok());
+    assert!(rt; edits.as_slice() == whole.as_slice());
     Ok(())
 }
 

@@ -6,7 +6,6 @@ mod laws;
 mod line;
 mod line_fault;
 mod no_memory;
-mod text;
 mod text_fault;
 mod write;
 
@@ -14,7 +13,6 @@ pub use laws::{lines_are_exact, texts_are_exact};
 pub use line::read_line;
 pub use line_fault::LineFault;
 pub use no_memory::NoMemory;
-pub use text::read_edits;
 pub use text_fault::TextFault;
 pub use write::{write_edits, write_line};
 

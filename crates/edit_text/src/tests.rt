@@ -1,4 +1,5 @@
 use super::*;
+use grove_edits::EditList;
 use std::test::Fail;
 
 #[test]
@@ -40,23 +41,19 @@ fn each_fault_is_the_first(rt: HostRuntime) {
 }
 
 #[test]
-fn a_text_is_read_and_written(rt: HostRuntime) -> Result<(), Fail> {
-    let text = b"-1.2 0.0 root main 1.1 num:7\n+2.2 0.0 root main 2.1 var:x_1\n".as_slice();
-    let edits = read_edits(rt.alloc(), text).ok().ok_or("a good text")?;
-    assert_eq!(rt; edits.len(), 2);
+fn lines_are_read_and_written(rt: HostRuntime) -> Result<(), Fail> {
+    let mut edits = EditList::new(rt.alloc());
+    for line in [
+        b"-1.2 0.0 root main 1.1 num:7".as_slice(),
+        b"+2.2 0.0 root main 2.1 var:x_1".as_slice(),
+    ] {
+        edits.push(read_line(line).ok().ok_or("a good line")?)?;
+    }
     let mut out = Vec::new(rt.alloc());
     write_edits(edits.as_slice(), &mut out)?;
-    assert_eq!(rt; out.as_slice(), text);
-    Ok(())
-}
-
-#[test]
-fn a_rest_is_told(rt: HostRuntime) {
-    let text = b"+1.2 0.0 root main 1.1 num:7\n+".as_slice();
-    assert!(rt;
-        matches!(
-            read_edits(rt.alloc(), text),
-            Err(TextFault::Rest { line: 2 })
-        )
+    assert_eq!(rt;
+        out.as_slice(),
+        b"-1.2 0.0 root main 1.1 num:7\n+2.2 0.0 root main 2.1 var:x_1\n".as_slice()
     );
+    Ok(())
 }

@@ -10,11 +10,11 @@ use Rattle.grove_edits.specs.declared.vertex.Vertex.{Vertex}
 use Rattle.grove_edits.specs.declared.edge.Edge.{Edge}
 use Rattle.grove_edits.specs.contracts.vertex.VertexOrd.TheImpl as vertex_impl
 use Rattle.grove_edits.specs.contracts.edge.EdgeOrd.TheImpl as edge_impl
-use Rattle.grove_edits.specs.Vertex.{vertex_cmp}
+use Rattle.grove_edits.specs.Vertex.{vertex_cmp, is_same_vertex}
 use Rattle.grove_edits.specs.Graph.{is_same_edge}
-use Rattle.grove_edits.proofs.Orders.{vertex_cmp_exact, cmp_is_vertex_cmp, one_edge, equal_from_test}
-use Rattle.walks.proofs.Vertices.{same_vertex_laws}
-use Rattle.walks.specs.Live.{is_same_vertex}
+use Rattle.grove_edits.proofs.Orders.{vertex_cmp_exact, cmp_is_vertex_cmp, one_edge}
+use Rattle.grove_sorts.proofs.Orders.{equal_from_test}
+use Rattle.grove_edits.proofs.Vertices.{same_vertex_laws}
 use Rattle.graph_store.specs.Counts.{once, ends_at, weight, uses, count_at, count_of, KeepsCounts, IsCounted}
 use Rattle.graph_store.specs.Room.{GetsRoom, GetsEntry}
 use Rattle.graph_store.specs.Named.{is_present}

@@ -13,7 +13,7 @@ use Rattle.grove_names.specs.declared.name.Name.{Name}
 use Rattle.grove_names.specs.Name.{name_cmp}
 use Rattle.grove_names.proofs.Orders.{name_cmp_total, name_cmp_exact}
 use Rattle.graph_store.specs.Least.{IsLeast}
-use Rattle.grove_edits.proofs.Orders.{equal_from_test}
+use Rattle.grove_sorts.proofs.Orders.{equal_from_test}
 
 abbrev pub picked : {K : Type 0} → Ordering → Bool → K → Option K → Option K
 picked Less here key rest = rest

@@ -22,10 +22,9 @@ use Rattle.grove_sorts.specs.Position.{position_cmp, position_number}
 use Rattle.grove_edits.specs.declared.vertex.Vertex.{Vertex}
 use Rattle.grove_edits.specs.declared.edge.Edge.{Edge}
 use Rattle.grove_edits.specs.contracts.edge.EdgeOrd.TheImpl as edge_impl
-use Rattle.grove_edits.specs.Vertex.{vertex_cmp}
+use Rattle.grove_edits.specs.Vertex.{vertex_cmp, root}
 use Rattle.grove_edits.specs.Edge.{edge_cmp}
 use Rattle.grove_edits.proofs.Orders.{edge_cmp_total, edge_cmp_exact, cmp_is_edge_cmp}
-use Rattle.walks.specs.Whole.{root}
 use Rattle.graph_store.specs.Least.{IsLeast}
 use Rattle.graph_store.specs.Named.{is_present, IsNamedFrom}
 use Rattle.graph_store.specs.Store.{Entries, entry_at}

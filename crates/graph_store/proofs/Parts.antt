@@ -15,14 +15,14 @@ use Rattle.grove_edits.specs.declared.vertex.Vertex.{Vertex}
 use Rattle.grove_edits.specs.declared.edge.Edge.{Edge}
 use Rattle.grove_edits.specs.contracts.vertex.VertexOrd.TheImpl as vertex_impl
 use Rattle.grove_edits.specs.contracts.edge.EdgeOrd.TheImpl as edge_impl
-use Rattle.grove_edits.specs.Vertex.{vertex_cmp}
+use Rattle.grove_edits.specs.Vertex.{vertex_cmp, is_same_vertex, stands_in, root}
 use Rattle.grove_edits.specs.Edge.{edge_cmp}
 use Rattle.grove_edits.proofs.Orders.{vertex_cmp_total, vertex_cmp_exact, edge_cmp_total, edge_cmp_exact}
-use Rattle.walks.specs.Live.{IsInEdgeOrder, holds_edge, is_same_vertex, stands_in}
-use Rattle.walks.specs.Whole.{root, IsVertexOf, IsInVertexOrder, AreVertices, AreLive}
+use Rattle.walks.specs.Live.{IsInEdgeOrder, holds_edge}
+use Rattle.walks.specs.Whole.{IsVertexOf, IsInVertexOrder, AreVertices, AreLive}
 use Rattle.graph_store.specs.Counts.{count_at, count_of, IsCounted}
 use Rattle.graph_store.specs.Store.{Entries, entry_at, state_in}
-use Rattle.grove_edits.proofs.Orders.{equal_from_test}
+use Rattle.grove_sorts.proofs.Orders.{equal_from_test}
 use Rattle.graph_store.proofs.Joins.{in_edge_order}
 use Rattle.graph_store.proofs.Names.{root_le, less_from_test}
 use Rattle.graph_store.proofs.Leasts.{holds, found_later, sorted_part, found_part}

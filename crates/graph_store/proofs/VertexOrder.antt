@@ -13,12 +13,11 @@ use Rattle.grove_names.specs.declared.name.Name.{Name}
 use Rattle.grove_names.specs.Name.{name_cmp}
 use Rattle.grove_names.proofs.Orders.{name_cmp_total}
 use Rattle.grove_sorts.specs.declared.ctor.Ctor.TheVariants.{Root}
-use Rattle.grove_edits.proofs.Orders.{one_edge}
+use Rattle.grove_edits.proofs.Orders.{one_edge, vertex_cmp_total, vertex_cmp_exact, cmp_is_vertex_cmp, edge_cmp_total, edge_cmp_exact}
 use Rattle.grove_sorts.specs.Ctor.{ctor_cmp}
 use Rattle.grove_edits.specs.declared.vertex.Vertex.{Vertex}
 use Rattle.grove_edits.specs.contracts.vertex.VertexOrd.TheImpl as vertex_impl
-use Rattle.grove_edits.specs.Vertex.{vertex_cmp}
-use Rattle.grove_edits.proofs.Orders.{vertex_cmp_total, vertex_cmp_exact, cmp_is_vertex_cmp}
+use Rattle.grove_edits.specs.Vertex.{vertex_cmp, is_same_vertex, root}
 use Rattle.graph_store.specs.Least.{IsLeast}
 use Rattle.std.proofs.lemmas.Cmp.{tied_itself}
 use Rattle.edge_lattice.specs.declared.state.State.{State}
@@ -26,17 +25,15 @@ use Rattle.grove_edits.specs.declared.edge.Edge.{Edge}
 use Rattle.grove_edits.specs.contracts.edge.EdgeOrd.TheImpl as edge_impl
 use Rattle.grove_edits.specs.Edge.{edge_cmp}
 use Rattle.grove_edits.specs.Graph.{is_same_edge}
-use Rattle.grove_edits.proofs.Orders.{edge_cmp_total, edge_cmp_exact}
 use Rattle.graph_store.specs.Named.{is_present}
 use Rattle.graph_store.specs.Store.{Entries, entry_at, state_in}
 use Rattle.graph_store.specs.Counts.{count_at, count_of, uses, weight, ends_at, once, IsCounted}
-use Rattle.walks.specs.Live.{is_same_vertex}
-use Rattle.walks.specs.Whole.{root, IsVertexOf}
+use Rattle.walks.specs.Whole.{IsVertexOf}
 use Rattle.graph_store.specs.Vertices.{IsCountedFrom, IsCountedNamed, IsVertexNamed, AreLeastTwo}
 use Rattle.graph_store.specs.declared.vertices.Named.TheVariants.{Zero, One, More}
 use Rattle.graph_store.proofs.Joins.{in_edge_order}
 use Rattle.graph_store.proofs.Names.{root_le, root_ctor_le, le_then, absent_not_present, present_from_state, less_from_test}
-use Rattle.walks.proofs.Vertices.{same_vertex_laws}
+use Rattle.grove_edits.proofs.Vertices.{same_vertex_laws}
 use Rattle.graph_store.proofs.Counts.{one_vertex}
 use Rattle.graph_store.proofs.Leasts.{pick, holds, found_later, found_behind, Fits, AreByName, pick_is_least, least_same, sorted_part, found_part}
 

@@ -4,7 +4,7 @@ use Rattle.std.specs.Map.{lookup}
 use Rattle.edge_lattice.specs.declared.state.State.{State}
 use Rattle.grove_edits.specs.declared.vertex.Vertex.{Vertex}
 use Rattle.grove_edits.specs.declared.edge.Edge.{Edge}
-use Rattle.walks.specs.Live.{is_same_vertex}
+use Rattle.grove_edits.specs.Vertex.{is_same_vertex}
 use Rattle.graph_store.specs.Named.{is_present}
 use Rattle.graph_store.specs.Store.{Entries, HasRoom}
 

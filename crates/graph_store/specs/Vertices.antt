@@ -6,10 +6,10 @@ use Rattle.std.specs.declared.ops.Bound.{Bound}
 use Rattle.std.specs.BTreeMap.Range.{is_from_start}
 use Rattle.grove_names.specs.declared.name.Name.{Name}
 use Rattle.grove_edits.specs.declared.vertex.Vertex.{Vertex}
-use Rattle.grove_edits.specs.Vertex.{vertex_cmp}
+use Rattle.grove_edits.specs.Vertex.{vertex_cmp, root}
 use Rattle.graph_store.specs.declared.vertices.Named.{Named}
 use Rattle.graph_store.specs.declared.vertices.Named.TheVariants.{Zero, One, More}
-use Rattle.walks.specs.Whole.{root, IsVertexOf}
+use Rattle.walks.specs.Whole.{IsVertexOf}
 use Rattle.graph_store.specs.Counts.{count_of}
 use Rattle.graph_store.specs.Store.{Entries, state_in}
 

@@ -1,6 +1,6 @@
 ghost use Rattle.std.specs.Prelude.{◌≡◌, ◌+◌, ◌<◌, ◌≤◌, ◌^◌, IsSome, OnOk, OnErr};
 ghost use Rattle.grove_edits.specs.declared.vertex.Vertex.{Vertex};
-ghost use Rattle.walks.specs.Live.{is_same_vertex};
+ghost use Rattle.grove_edits.specs.Vertex.{is_same_vertex};
 ghost use Rattle.graph_store.specs.Counts.{count_at, count_of, ends_at, once, weight, KeepsCounts};
 
 use crate::named::is_present;

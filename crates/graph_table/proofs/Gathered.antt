@@ -10,8 +10,9 @@ use Rattle.grove_sorts.specs.declared.position.Position.{Position}
 use Rattle.grove_edits.specs.declared.vertex.Vertex.{Vertex}
 use Rattle.grove_edits.specs.declared.edit.Edit.{Edit}
 use Rattle.grove_edits.specs.Edit.{edit_edge, edit_kind}
-use Rattle.walks.specs.Live.{is_same_vertex, is_same_position}
-use Rattle.walks.proofs.Vertices.{same_vertex_laws, same_vertex_itself}
+use Rattle.grove_edits.specs.Vertex.{is_same_vertex}
+use Rattle.grove_sorts.specs.Position.{is_same_position}
+use Rattle.grove_edits.proofs.Vertices.{same_vertex_laws, same_vertex_itself}
 use Rattle.graph_table.specs.declared.child.Child.{Child}
 use Rattle.graph_table.specs.Table.{is_insertion}
 use Rattle.graph_table.specs.Around.{Neighbours, no_neighbours, with_parent, first_indices, child, indices_at, leads_from, leads_to, children_from, parents_from, neighbours, at, with_child_at, with_parent_at, noted}

@@ -16,9 +16,8 @@ use Rattle.grove_edits.specs.Edit.{edit_edge}
 use Rattle.grove_edits.specs.contracts.vertex.VertexOrd.TheImpl.Laws.{matches_eq-law}
 use Rattle.grove_edits.specs.contracts.vertex.VertexPartialEq.TheImpl as vertex_eq
 use Rattle.grove_edits.proofs.Orders.{cmp_is_vertex_cmp}
-use Rattle.walks.specs.Live.{is_same_vertex, stands_in}
-use Rattle.walks.specs.Whole.{root}
-use Rattle.walks.proofs.Vertices.{same_vertex_laws, same_vertex_exact, same_vertex_itself}
+use Rattle.grove_edits.specs.Vertex.{is_same_vertex, stands_in, root}
+use Rattle.grove_edits.proofs.Vertices.{same_vertex_laws, same_vertex_exact, same_vertex_itself}
 use Rattle.graph_table.specs.Table.{IsEndIn}
 use Rattle.graph_table.specs.Numbering.{with_vertex, sources_of, targets_of, AreNumbersOf, AreNumbered}
 

@@ -9,7 +9,9 @@ use Rattle.grove_edits.specs.declared.edge.Edge.{Edge}
 use Rattle.grove_edits.specs.declared.edit.Edit.{Edit}
 use Rattle.grove_edits.specs.Edit.{edit_edge, edit_kind}
 use Rattle.walks.specs.Few.{first_two}
-use Rattle.walks.specs.Live.{is_same_vertex, is_same_position, parents_of, children_of}
+use Rattle.walks.specs.Live.{parents_of, children_of}
+use Rattle.grove_edits.specs.Vertex.{is_same_vertex}
+use Rattle.grove_sorts.specs.Position.{is_same_position}
 use Rattle.graph_table.specs.declared.child.Child.{Child}
 use Rattle.graph_table.specs.Table.{Table, inserted, live, is_insertion, edge_at, edge_or_none, vertex_at, vertex_or_root, few_at, IsNumber, IsNumbered, IsIndex}
 use Rattle.graph_table.specs.Numbering.{AreNumbersOf, targets_of}

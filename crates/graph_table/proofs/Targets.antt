@@ -11,9 +11,10 @@ use Rattle.grove_edits.specs.Edit.{edit_edge}
 use Rattle.walks.specs.declared.few.Few.{Few}
 use Rattle.walks.specs.declared.few.Few.TheVariants.{Zero, One, More}
 use Rattle.walks.specs.Few.{first_two}
-use Rattle.walks.specs.Live.{is_same_vertex, stands_in, parents_of, targets_of}
+use Rattle.walks.specs.Live.{parents_of, targets_of}
+use Rattle.grove_edits.specs.Vertex.{is_same_vertex, stands_in}
 use Rattle.walks.proofs.Endings.{AllStandIn, AreApart, length-AllStandIn}
-use Rattle.walks.proofs.Vertices.{same_vertex_exact, same_vertex_laws}
+use Rattle.grove_edits.proofs.Vertices.{same_vertex_exact, same_vertex_laws}
 use Rattle.graph_table.specs.Table.{inserted, IsEndIn}
 use Rattle.graph_table.proofs.Lives.{inserted_all}
 

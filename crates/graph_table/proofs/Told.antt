@@ -8,7 +8,8 @@ use Rattle.grove_edits.specs.declared.vertex.Vertex.{Vertex}
 use Rattle.grove_edits.specs.Graph.{graph}
 use Rattle.walks.specs.declared.few.Few.TheVariants as few
 use Rattle.walks.specs.Few.{first_two}
-use Rattle.walks.specs.Live.{IsInEdgeOrder, stands_in, parents_of, targets_of}
+use Rattle.walks.specs.Live.{IsInEdgeOrder, parents_of, targets_of}
+use Rattle.grove_edits.specs.Vertex.{stands_in}
 use Rattle.walks.specs.Whole.{IsInVertexOrder, AreVertices}
 use Rattle.graph_table.specs.declared.numbered.Numbered.{Numbered}
 use Rattle.graph_table.specs.declared.parents.Parents.{Parents}

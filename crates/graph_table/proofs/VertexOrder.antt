@@ -11,12 +11,11 @@ use Rattle.std.proofs.lemmas.List.Sorted.{sorted_far, list_any-IsPermutation, Is
 use Rattle.std.proofs.lemmas.Option.{slice_get_read}
 use Rattle.std.proofs.lemmas.Map.Keys.{IsDistinct-head, IsDistinct-tail, IsDistinct-IsPermutation}
 use Rattle.grove_edits.specs.declared.vertex.Vertex.{Vertex}
-use Rattle.grove_edits.specs.Vertex.{vertex_cmp}
+use Rattle.grove_edits.specs.Vertex.{vertex_cmp, is_same_vertex, stands_in}
 use Rattle.grove_edits.specs.contracts.vertex.VertexOrd.TheImpl as vertex_impl
 use Rattle.grove_edits.proofs.Orders.{vertex_cmp_total, cmp_is_vertex_cmp}
-use Rattle.walks.specs.Live.{is_same_vertex, stands_in}
 use Rattle.walks.specs.Whole.{IsInVertexOrder}
-use Rattle.walks.proofs.Vertices.{same_vertex_laws}
+use Rattle.grove_edits.proofs.Vertices.{same_vertex_laws}
 use Rattle.graph_table.specs.declared.numbered.Numbered.{Numbered}
 use Rattle.graph_table.specs.contracts.numbered.NumberedOrd.TheImpl as impl
 

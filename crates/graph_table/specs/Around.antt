@@ -7,7 +7,8 @@ use Rattle.grove_edits.specs.declared.edge.Edge.{Edge}
 use Rattle.grove_edits.specs.declared.edit.Edit.{Edit}
 use Rattle.grove_edits.specs.Edit.{edit_edge, edit_kind}
 use Rattle.grove_edits.specs.Graph.{Ascends}
-use Rattle.walks.specs.Live.{is_same_vertex, is_same_position}
+use Rattle.grove_edits.specs.Vertex.{is_same_vertex}
+use Rattle.grove_sorts.specs.Position.{is_same_position}
 use Rattle.graph_table.specs.declared.child.Child.{Child}
 use Rattle.graph_table.specs.declared.parents.Parents.{Parents}
 use Rattle.graph_table.specs.declared.parents.Parents.TheVariants.{Zero, One, More}

@@ -10,7 +10,7 @@ use Rattle.grove_edits.specs.Edit.{edit_edge, edit_kind}
 use Rattle.grove_sorts.specs.declared.position.Position.TheVariants.{Main}
 use Rattle.walks.specs.declared.few.Few.{Few}
 use Rattle.walks.specs.declared.few.Few.TheVariants as few
-use Rattle.walks.specs.Whole.{root}
+use Rattle.grove_edits.specs.Vertex.{root}
 use Rattle.graph_table.specs.declared.numbered.Numbered.{Numbered}
 use Rattle.graph_table.specs.declared.parents.Parents.{Parents}
 use Rattle.graph_table.specs.declared.parents.Parents.TheVariants.{Zero, One, More}

@@ -1,7 +1,7 @@
 ghost use Rattle.std.specs.Prelude.{◌≡◌, ◌++◌, ◌∷◌, [], List, Some, slice_get, IfOk, OnOk};
 ghost use Rattle.std.specs.List.{IsDistinct};
 ghost use Rattle.grove_edits.specs.declared.edit.Edit.{Edit};
-ghost use Rattle.walks.specs.Live.{is_same_vertex};
+ghost use Rattle.grove_edits.specs.Vertex.{is_same_vertex};
 ghost use Rattle.graph_table.specs.Numbering.{with_vertex, AreNumbered};
 
 use crate::no_memory::NoMemory;

@@ -7,9 +7,10 @@ use Rattle.grove_edits.specs.declared.edge.Edge.{Edge}
 use Rattle.walks.specs.declared.class.Class.{Class}
 use Rattle.walks.specs.declared.class.Class.TheVariants.{NoParent, Multi, Cycle, Inner}
 use Rattle.walks.specs.Few.{first_two}
-use Rattle.walks.specs.Live.{parents_of, is_same_vertex, stands_in}
+use Rattle.walks.specs.Live.{parents_of}
+use Rattle.grove_edits.specs.Vertex.{is_same_vertex, stands_in}
 use Rattle.walks.specs.Class.{class, is_same_class, of_class}
-use Rattle.walks.proofs.Vertices.{same_vertex_itself}
+use Rattle.grove_edits.proofs.Vertices.{same_vertex_itself}
 use Rattle.graph_table.specs.declared.numbered.Numbered.{Numbered}
 use Rattle.graph_table.specs.declared.parents.Parents.{Parents}
 use Rattle.graph_table.specs.declared.parents.Parents.TheVariants.{Zero, One, More}

@@ -11,13 +11,13 @@ use Rattle.grove_sorts.specs.declared.ctor.Ctor.{Ctor}
 use Rattle.grove_sorts.specs.declared.ctor.Ctor.TheVariants.{Root, Var, Lam, Ap, Num, Plus, LitTrue, LitFalse, Choose, Pair, Fst, Snd, PVar, TNum, TBool, TArrow, TProd}
 use Rattle.std.proofs.lemmas.Cmp.{tied_itself}
 use Rattle.grove_sorts.specs.Ctor.{positions}
-use Rattle.grove_sorts.specs.Position.{position_cmp}
+use Rattle.grove_sorts.specs.Position.{position_cmp, is_same_position}
 use Rattle.grove_sorts.proofs.Orders.{position_cmp_exact, position_cmp_total}
 use Rattle.grove_edits.specs.declared.vertex.Vertex.{Vertex}
 use Rattle.grove_edits.specs.declared.edge.Edge.{Edge}
 use Rattle.walks.specs.declared.class.Class.{Class}
 use Rattle.walks.specs.declared.class.Class.TheVariants.{Inner}
-use Rattle.walks.specs.Live.{is_same_position, children_of}
+use Rattle.walks.specs.Live.{children_of}
 use Rattle.walks.specs.Class.{class}
 use Rattle.grove_terms.specs.declared.node.Node.{Node}
 use Rattle.grove_terms.specs.declared.node.What.TheVariants as whats

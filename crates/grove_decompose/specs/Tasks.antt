@@ -7,7 +7,8 @@ use Rattle.grove_edits.specs.declared.vertex.Vertex.{Vertex}
 use Rattle.grove_edits.specs.declared.edge.Edge.{Edge}
 use Rattle.walks.specs.declared.class.Class.{Class}
 use Rattle.walks.specs.declared.class.Class.TheVariants.{NoParent, Multi, Cycle, Inner}
-use Rattle.walks.specs.Live.{holds_edge, parents_of, children_of, is_same_position}
+use Rattle.walks.specs.Live.{holds_edge, parents_of, children_of}
+use Rattle.grove_sorts.specs.Position.{is_same_position}
 use Rattle.walks.specs.Class.{class}
 use Rattle.walks.proofs.Up.{up}
 use Rattle.grove_terms.specs.declared.node.Node.{Node}

@@ -1,7 +1,7 @@
 ghost use Rattle.std.specs.Prelude.{◌≡◌, ◌≢◌, true, false, IfOk};
 ghost use Rattle.std.specs.List.{AllByRecursion};
 ghost use Rattle.walks.specs.declared.class.Class.TheVariants.{Cycle};
-ghost use Rattle.walks.specs.Live.{stands_in};
+ghost use Rattle.grove_edits.specs.Vertex.{stands_in};
 ghost use Rattle.walks.specs.Class.{class, of_class};
 ghost use Rattle.graph_table.specs.Table.{live, IsNumbered};
 ghost use Rattle.grove_decompose.specs.Trees.{OnlyInner, vertices_of};

@@ -1,8 +1,8 @@
 ghost use Rattle.std.specs.Prelude.{◌≡◌, ◌≢◌, ◌++◌, ◌∷◌, ◌≤◌, [], true, length, map, OnOk, IfOk, IfSome};
 ghost use Rattle.std.specs.List.{AllByRecursion};
 ghost use Rattle.walks.specs.declared.class.Class.TheVariants.{Inner};
-ghost use Rattle.grove_edits.specs.Vertex.{vertex_cmp};
-ghost use Rattle.walks.specs.Live.{holds_edge, is_same_vertex};
+ghost use Rattle.grove_edits.specs.Vertex.{vertex_cmp, is_same_vertex};
+ghost use Rattle.walks.specs.Live.{holds_edge};
 ghost use Rattle.walks.specs.Class.{class};
 ghost use Rattle.grove_terms.specs.Nodes.{child_node};
 ghost use Rattle.grove_decompose.specs.Tasks.{what_by, child_rest, task_at, IsFound, IsUnder};

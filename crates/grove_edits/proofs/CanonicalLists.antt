@@ -20,7 +20,8 @@ use Rattle.grove_edits.specs.Edge.{edge_cmp}
 use Rattle.grove_edits.specs.Edit.{edit_edge, edit_kind, kind_number, edit_cmp}
 use Rattle.grove_edits.specs.Graph.{graph, state_of, is_same_edge, Ascends, IsCanonical, begins_with}
 use Rattle.grove_edits.specs.contracts.edit.EditOrd.TheImpl as edit_impl
-use Rattle.grove_edits.proofs.Orders.{equal_from_test, edge_cmp_total, cmp_is_edit_cmp}
+use Rattle.grove_sorts.proofs.Orders.{equal_from_test}
+use Rattle.grove_edits.proofs.Orders.{edge_cmp_total, cmp_is_edit_cmp}
 use Rattle.grove_edits.proofs.Graphs.{asked}
 
 -- an edit does not come after another

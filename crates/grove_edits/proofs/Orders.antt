@@ -13,7 +13,7 @@ use Rattle.grove_sorts.specs.contracts.position.PositionOrd.TheImpl as position_
 use Rattle.grove_names.proofs.Orders.{name_cmp_total, name_cmp_exact}
 use Rattle.grove_sorts.specs.Ctor.{ctor_cmp}
 use Rattle.grove_sorts.specs.Position.{position_cmp}
-use Rattle.grove_sorts.proofs.Orders.{ctor_cmp_total, ctor_cmp_exact, cmp_is_ctor_cmp, position_cmp_total, position_cmp_exact, cmp_is_position_cmp}
+use Rattle.grove_sorts.proofs.Orders.{ctor_cmp_total, ctor_cmp_exact, cmp_is_ctor_cmp, equal_from_test, position_cmp_total, position_cmp_exact, cmp_is_position_cmp}
 use Rattle.grove_edits.specs.declared.vertex.Vertex.{Vertex}
 use Rattle.grove_edits.specs.declared.edge.Edge.{Edge}
 use Rattle.grove_edits.specs.declared.edit.Edit.{Edit}
@@ -80,11 +80,6 @@ edge_cmp_exact a b h =
 
 pub same_edge_laws : IsEquivalence is_same_edge
 same_edge_laws = eq_by_cmp_equiv edge_cmp_total
-
-pub equal_from_test : (o : Ordering) → is_eq o ≡ true → o ≡ Equal
-equal_from_test Less e = absurd cc
-equal_from_test Equal e = refl
-equal_from_test Greater e = absurd cc
 
 -- edges that the test finds the same are one
 pub one_edge : (a b : Edge) → is_same_edge a b ≡ true → a ≡ b

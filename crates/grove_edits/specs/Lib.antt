@@ -2,3 +2,4 @@ pub mod Vertex
 pub mod Edge
 pub mod Edit
 pub mod Graph
+pub mod ActFault

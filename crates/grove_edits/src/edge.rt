@@ -15,6 +15,18 @@ pub struct Edge {
     pub target: Vertex,
 }
 
+impl Default for Edge {
+    /// The root as its own child, under no author's name. It is not well formed, so no edit has it: it fills room that is not used.
+    fn default() -> Edge {
+        Edge {
+            name: Vertex::ROOT.name,
+            source: Vertex::ROOT,
+            position: Position::Main,
+            target: Vertex::ROOT,
+        }
+    }
+}
+
 /// Why an edge is not well formed.
 #[derive(Clone, Copy, Debug, PartialEq, Eq)]
 pub enum EdgeFault {

@@ -1,11 +1,12 @@
-ghost use Rattle.std.specs.Prelude.{◌≡◌, ◌++◌, List};
+ghost use Rattle.std.specs.Prelude.{◌≡◌, ◌++◌, true, Some, List};
 ghost use Rattle.std.specs.declared.cmp.Ordering.TheVariants.{Equal};
 ghost use Rattle.std.specs.Cmp.{IsTotalOrder};
 ghost use Rattle.grove_edits.specs.declared.edge.Edge.{Edge};
 ghost use Rattle.grove_edits.specs.declared.edit.Edit.{Edit};
 ghost use Rattle.grove_edits.specs.declared.vertex.Vertex.{Vertex};
 ghost use Rattle.grove_edits.specs.Vertex.{vertex_cmp};
-ghost use Rattle.grove_edits.specs.Edge.{edge_cmp};
+ghost use Rattle.grove_sorts.specs.Ctor.{sort_of_ctor, sort_at};
+ghost use Rattle.grove_edits.specs.Edge.{edge_cmp, IsWellFormed, has_good_vertices};
 ghost use Rattle.grove_edits.specs.Edit.{edit_edge, edit_kind};
 ghost use Rattle.grove_edits.specs.Graph.{Graph, graph, graph_join, IsSame, IsBelow, IsCanonical, HasSameEdits};
 
@@ -21,6 +22,12 @@ pub fn edges_are_ordered()
     ensures edges_total { IsTotalOrder edge_cmp }
     ensures edges_exact { (a b : Edge) → edge_cmp a b ≡ Equal → a ≡ b }
     ensures edges_derived { (a b : Edge) → ⟦<Edge as Ord>⟧.cmp a b ≡ edge_cmp a b }
+{}
+
+/// Law: a well-formed edge has good vertices and stands at a position of its source whose children have the sort of its target.
+pub fn a_well_formed_edge_fits()
+    ensures vertices { (e : Edge) → IsWellFormed e → has_good_vertices e ≡ true }
+    ensures place { (e : Edge) → IsWellFormed e → sort_at e.source.ctor e.position ≡ Some (sort_of_ctor e.target.ctor) }
 {}
 
 /// Law: an edit is its kind and its edge.

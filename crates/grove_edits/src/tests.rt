@@ -3,18 +3,10 @@ use grove_names::Name;
 use grove_sorts::{Ctor, Position};
 use std::test::Fail;
 
-const ROOT: Vertex = Vertex {
-    name: Name {
-        author: 0,
-        counter: 0,
-    },
-    ctor: Ctor::Root,
-};
-
 fn edge(counter: u64, position: Position, ctor: Ctor) -> Edge {
     Edge {
         name: Name { author: 1, counter },
-        source: ROOT,
+        source: Vertex::ROOT,
         position,
         target: Vertex {
             name: Name {
@@ -63,5 +55,24 @@ fn a_deletion_wins(rt: HostRuntime) -> Result<(), Fail> {
     assert_eq!(rt; canonical.get(0), Some(deleted));
     assert_eq!(rt; canonical.get(1), Some(other));
     assert_eq!(rt; canonical.get(2), None);
+    Ok(())
+}
+
+#[test]
+fn a_default_edge_is_no_edge_of_an_edit(rt: HostRuntime) {
+    assert_eq!(rt; check_edge(&Edge::default()), Err(EdgeFault::BadVertex));
+}
+
+#[test]
+fn a_command_keeps_its_bytes(rt: HostRuntime) -> Result<(), Fail> {
+    let command = Command::Take {
+        piece: 1,
+        bytes: Bytes::of(Vec::from_array(rt.alloc(), [43, 49])?),
+        edits: EditList::new(rt.alloc()),
+    };
+    match &command {
+        Command::Act(_) => assert!(rt; false),
+        Command::Take { bytes, .. } => assert_eq!(rt; bytes.as_slice(), [43, 49].as_slice()),
+    }
     Ok(())
 }

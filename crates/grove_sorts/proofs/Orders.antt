@@ -1,5 +1,5 @@
 -- Identifiers, constructors and positions are the same where their orders find no difference.
-use Rattle.std.proofs.Common.{◌≡◌, ℕ, List, IsTrue, nat_eq, refl, ap, sym, ◌∙◌, arith}
+use Rattle.std.proofs.Common.{◌≡◌, ℕ, List, Bool, true, false, IsTrue, nat_eq, refl, ap, sym, ◌∙◌, arith}
 use Rattle.std.proofs.lemmas.Slice.Eq.{bytes_eq-Decides}
 use Rattle.std.proofs.lemmas.Map.Text.{is_eq-slice_cmp}
 use Rattle.std.proofs.lemmas.Cmp.{on_total, then_total, nat_cmp_total, nat_list_cmp_total}
@@ -8,10 +8,10 @@ use Rattle.std.proofs.lemmas.Bool.Decides.{nat_tests}
 use Rattle.std.specs.declared.cmp.Ordering.{Ordering}
 use Rattle.std.specs.declared.cmp.Ordering.TheVariants.{Less, Equal, Greater}
 use Rattle.std.specs.Ordering.{nat_cmp, ordering_then, is_eq}
-use Rattle.std.specs.Cmp.{IsTotalOrder}
+use Rattle.std.specs.Cmp.{IsTotalOrder, IsEquivalence, eq_by_cmp_equiv}
 use Rattle.std.specs.Cmp.Lexicographic.{slice_cmp}
 use Rattle.grove_sorts.specs.Ctor.{ctor_number, payload, ctor_cmp}
-use Rattle.grove_sorts.specs.Position.{position_number, position_cmp}
+use Rattle.grove_sorts.specs.Position.{position_number, position_cmp, is_same_position}
 use Rattle.grove_sorts.specs.declared.position.Position.{Position}
 use Rattle.grove_sorts.specs.declared.position.Position.TheVariants.{Main, Param, Annot, Body, Fun, Arg, Left, Right, Test, WhenTrue, WhenFalse, First, Second, Operand, Dom, Cod}
 use Rattle.grove_sorts.specs.declared.ctor.Ctor.{Ctor}
@@ -21,6 +21,11 @@ use Rattle.grove_sorts.specs.contracts.position.PositionOrd.TheImpl as position_
 use Rattle.grove_sorts.proofs.Identifiers.{ident_exact}
 use Rattle.grove_sorts.specs.Ident.{ident_bytes, ident_cmp}
 use Rattle.grove_sorts.specs.declared.ident.Ident.{Ident}
+
+pub equal_from_test : (o : Ordering) → is_eq o ≡ true → o ≡ Equal
+equal_from_test Less e = absurd cc
+equal_from_test Equal e = refl
+equal_from_test Greater e = absurd cc
 
 ordering_then_equal : (p q : Ordering) → ordering_then p q ≡ Equal → (p ≡ Equal) × (q ≡ Equal)
 ordering_then_equal Less q e = cc
@@ -120,6 +125,22 @@ position_cmp_exact a b e = position_same a b (nat_cmp_equal _ _ e)
 
 pub position_cmp_total : IsTotalOrder position_cmp
 position_cmp_total = on_total position_number nat_cmp_total
+
+-- ---- the test of positions
+
+pub same_position_laws : IsEquivalence is_same_position
+same_position_laws = eq_by_cmp_equiv position_cmp_total
+
+-- positions that the test finds the same are one
+pub one_position : (p q : Position) → is_same_position p q ≡ true → p ≡ q
+one_position p q same = position_cmp_exact p q (equal_from_test (position_cmp p q) same)
+
+-- positions of different numbers differ
+pub other_position : (p q : Position) → (position_number p ≡ position_number q → ⊥) → is_same_position p q ≡ false
+other_position p q differ = by_test (is_same_position p q) refl where
+  by_test : (b : Bool) → is_same_position p q ≡ b → is_same_position p q ≡ false
+  by_test true same = absurd (differ (ap position_number (one_position p q same)))
+  by_test false other = other
 
 -- the comparison of the code is the order of the table
 pub cmp_is_position_cmp : (a b : Position) → position_impl.ghosts.cmp a b ≡ position_cmp a b

@@ -1,8 +1,9 @@
 -- Look-ups in the row of a constructor: what they find is an entry of the row, and the first position of a sort stands before each other.
-use Rattle.std.proofs.Common.{◌≡◌, ◌≢◌, ℕ, ◌≤◌, List, [], ◌∷◌, Bool, true, false, cond, nat_eq, Option, Some, None, IfSome, IfNone, Contains, ◌⊎◌, ⊎_elim, inl, inr, refl, sym, ap, subst, ◌∙◌, arith, lit≤}
+use Rattle.std.proofs.Common.{◌≡◌, ◌≢◌, ℕ, suc, ◌≤◌, length, List, [], ◌∷◌, Bool, true, false, cond, eqb, nat_eq, Option, Some, None, IfSome, IfNone, Contains, ◌⊎◌, ⊎_elim, inl, inr, refl, sym, ap, subst, ◌∙◌, arith, lit≤}
 use Rattle.std.proofs.lemmas.Bool.{eqb-true, eq-eqb, both_ways}
 use Rattle.std.proofs.lemmas.List.Elements.{Contains-append_left, Contains-append_right, Contains-append_cases, Contains-push, Contains-push_cases}
-use Rattle.grove_sorts.specs.Ctor.{positions, sort_in, sort_at, first_in, first_position}
+use Rattle.std.specs.List.{AllByRecursion}
+use Rattle.grove_sorts.specs.Ctor.{positions, Rises, sort_in, sort_at, first_in, first_position}
 use Rattle.grove_sorts.specs.Position.{position_number}
 use Rattle.grove_sorts.specs.Sort.{sort_number}
 use Rattle.grove_sorts.proofs.Orders.{position_same}
@@ -10,14 +11,9 @@ use Rattle.grove_sorts.specs.declared.sort.Sort.{Sort}
 use Rattle.grove_sorts.specs.declared.sort.Sort.TheVariants.{Exp, Pat, Typ}
 use Rattle.grove_sorts.specs.declared.position.Position.{Position}
 use Rattle.grove_sorts.specs.declared.ctor.Ctor.{Ctor}
-use Rattle.grove_sorts.specs.declared.ctor.Ctor.TheVariants.{Root, Lam, Ap, Plus, Choose, Pair, Fst, Snd, TArrow, TProd}
+use Rattle.grove_sorts.specs.declared.ctor.Ctor.TheVariants.{Root, Var, Lam, Ap, Num, Plus, LitTrue, LitFalse, Choose, Pair, Fst, Snd, PVar, TNum, TBool, TArrow, TProd}
 
--- the positions of a row stand in their order
-abbrev Rises : ℕ → List (Position × Sort) → Type 0
-Rises low [] = Unit {0}
-Rises low (entry ∷ entries) = (low ≤ position_number entry.0) × Rises (position_number entry.0) entries
-
-positions_rise : (ctor : Ctor) → Rises 0 (positions ctor)
+pub positions_rise : (ctor : Ctor) → Rises 0 (positions ctor)
 positions_rise Root = (lit≤ tt, tt)
 positions_rise Lam = (lit≤ tt, (lit≤ tt, (lit≤ tt, tt)))
 positions_rise Ap = (lit≤ tt, (lit≤ tt, tt))
@@ -30,6 +26,26 @@ positions_rise TArrow = (lit≤ tt, (lit≤ tt, tt))
 positions_rise TProd = (lit≤ tt, (lit≤ tt, tt))
 positions_rise _ = tt
 
+-- no row has more than three
+pub row_short : (ctor : Ctor) → length (positions ctor) ≤ 3
+row_short Root = lit≤ tt
+row_short (Var x) = lit≤ tt
+row_short Lam = lit≤ tt
+row_short Ap = lit≤ tt
+row_short (Num n) = lit≤ tt
+row_short Plus = lit≤ tt
+row_short LitTrue = lit≤ tt
+row_short LitFalse = lit≤ tt
+row_short Choose = lit≤ tt
+row_short Pair = lit≤ tt
+row_short Fst = lit≤ tt
+row_short Snd = lit≤ tt
+row_short (PVar x) = lit≤ tt
+row_short TNum = lit≤ tt
+row_short TBool = lit≤ tt
+row_short TArrow = lit≤ tt
+row_short TProd = lit≤ tt
+
 -- a look-up answers at the first entry, or in the rest
 looked_up : {X : Type 0} (test : Bool) (x y : X) (rest : Option X) → cond test (Some x) rest ≡ Some y → ((test ≡ true) × (x ≡ y)) ⊎ ((test ≡ false) × (rest ≡ Some y))
 looked_up true x y rest e = inl (refl, cc)
@@ -40,7 +56,7 @@ sort_in_above low [] rises other sort e = absurd cc
 sort_in_above low (entry ∷ entries) rises other sort e =
     ⊎_elim
     (λ here. omega (arith, eqb-true _ _ here.0, rises.0))
-    (λ later. omega (arith, sort_in_above (position_number entry.0) entries rises.1 other sort later.1, rises.0))
+    (λ later. omega (arith, sort_in_above (suc (position_number entry.0)) entries rises.1 other sort later.1, rises.0))
     (looked_up _ entry.1 sort (sort_in entries other) e)
 
 passed_over : {X : Type 0} (test : Bool) (x : X) (rest : Option X) → cond test (Some x) rest ≡ None → (test ≡ false) × (rest ≡ None)
@@ -70,12 +86,12 @@ first_in_first low (entry ∷ entries) rises sort found f other e =
     let same = ap position_number here.1 in
     ⊎_elim
     (λ there. omega (arith, eqb-true _ _ there.0, same))
-    (λ later. omega (arith, sort_in_above (position_number entry.0) entries rises.1 other sort later.1, same))
+    (λ later. omega (arith, sort_in_above (suc (position_number entry.0)) entries rises.1 other sort later.1, same))
     at_other)
     (λ further.
     ⊎_elim
     (λ there. absurd (other_sort entry.1 sort further.0 there.1))
-    (λ later. first_in_first (position_number entry.0) entries rises.1 sort found further.1 other later.1)
+    (λ later. first_in_first (suc (position_number entry.0)) entries rises.1 sort found further.1 other later.1)
     at_other)
     (looked_up _ entry.0 found (first_in entries sort) f)
 
@@ -142,3 +158,34 @@ sort_at_found ctor position =
 pub sort_at_none : (ctor : Ctor) (position : Position) → IfNone (sort_at ctor position) ((sort : Sort) → ¬ Contains (positions ctor) (position, sort))
 sort_at_none ctor position =
     if_none ((sort : Sort) → ¬ Contains (positions ctor) (position, sort)) (sort_at ctor position) (sort_in_none (positions ctor) position)
+
+-- ---- each place of a row is found in it
+
+-- where all of some positions lie from a number on, those below it are not found
+not_below : (low : ℕ) (entries : List (Position × Sort)) → Rises low entries → (p : Position) (sort : Sort) → suc (position_number p) ≤ low → sort_in entries p ≡ Some sort → ⊥
+not_below low entries rises p sort below e = absurd (omega (arith, sort_in_above low entries rises p sort e))
+
+-- what a later entry is found with, it is found with behind an earlier one too
+found_behind : (entry : Position × Sort) (entries : List (Position × Sort)) (p : Position) (sort : Sort) → Rises (suc (position_number entry.0)) entries → sort_in entries p ≡ Some sort → sort_in (entry ∷ entries) p ≡ Some sort
+found_behind entry entries p sort rises e = by_test (eqb (position_number entry.0) (position_number p)) refl where
+  by_test : (b : Bool) → eqb (position_number entry.0) (position_number p) ≡ b → cond b (Some entry.1) (sort_in entries p) ≡ Some sort
+  by_test true here =
+      let same = eqb-true (position_number entry.0) (position_number p) here in
+      absurd (not_below (suc (position_number entry.0)) entries rises p sort (omega arith) e)
+  by_test false other = e
+
+all_behind : (entry : Position × Sort) (entries some : List (Position × Sort)) → Rises (suc (position_number entry.0)) entries → AllByRecursion (λ place. sort_in entries place.0 ≡ Some place.1) some
+    → AllByRecursion (λ place. sort_in (entry ∷ entries) place.0 ≡ Some place.1) some
+all_behind entry entries [] rises all = tt
+all_behind entry entries (place ∷ places) rises all =
+    (found_behind entry entries place.0 place.1 rises all.0, all_behind entry entries places rises all.1)
+
+all_found : (low : ℕ) (entries : List (Position × Sort)) → Rises low entries → AllByRecursion (λ place. sort_in entries place.0 ≡ Some place.1) entries
+all_found low [] rises = tt
+all_found low (entry ∷ entries) rises =
+    let itself : eqb (position_number entry.0) (position_number entry.0) ≡ true = eq-eqb _ _ refl in
+    (ap (λ b. cond b (Some entry.1) (sort_in entries entry.0)) itself, all_behind entry entries entries rises.1 (all_found (suc (position_number entry.0)) entries rises.1))
+
+-- each place of a row is found in it with its sort
+pub places_found : (ctor : Ctor) → AllByRecursion (λ place. sort_at ctor place.0 ≡ Some place.1) (positions ctor)
+places_found ctor = all_found 0 (positions ctor) (positions_rise ctor)

@@ -1,5 +1,5 @@
 -- The table of constructors: their texts, their sorts, their positions and their order.
-use Rattle.std.specs.Prelude.{ℕ, ◌<◌, ◌^◌, ◌==◌, if◌then◌else◌, List, [], ◌∷◌, ◌++◌, Option, Some, None, codes, decimal}
+use Rattle.std.specs.Prelude.{ℕ, suc, ◌<◌, ◌≤◌, ◌^◌, ◌==◌, if◌then◌else◌, List, [], ◌∷◌, ◌++◌, Option, Some, None, codes, decimal}
 use Rattle.std.specs.declared.cmp.Ordering.{Ordering}
 use Rattle.std.specs.Ordering.{nat_cmp, ordering_then}
 use Rattle.std.specs.Cmp.Lexicographic.{slice_cmp}
@@ -60,26 +60,47 @@ payload_text _ = []
 
 abbrev pub sort_of_ctor : Ctor → Sort
 sort_of_ctor Root = Top
+sort_of_ctor (Var x) = Exp
+sort_of_ctor Lam = Exp
+sort_of_ctor Ap = Exp
+sort_of_ctor (Num n) = Exp
+sort_of_ctor Plus = Exp
+sort_of_ctor LitTrue = Exp
+sort_of_ctor LitFalse = Exp
+sort_of_ctor Choose = Exp
+sort_of_ctor Pair = Exp
+sort_of_ctor Fst = Exp
+sort_of_ctor Snd = Exp
 sort_of_ctor (PVar x) = Pat
 sort_of_ctor TNum = Typ
 sort_of_ctor TBool = Typ
 sort_of_ctor TArrow = Typ
 sort_of_ctor TProd = Typ
-sort_of_ctor _ = Exp
 
 -- the positions of a constructor in table order, each with the sort of its children
 abbrev pub positions : Ctor → List (Position × Sort)
 positions Root = (Main, Exp) ∷ []
+positions (Var x) = []
 positions Lam = (Param, Pat) ∷ (Annot, Typ) ∷ (Body, Exp) ∷ []
 positions Ap = (Fun, Exp) ∷ (Arg, Exp) ∷ []
+positions (Num n) = []
 positions Plus = (Left, Exp) ∷ (Right, Exp) ∷ []
+positions LitTrue = []
+positions LitFalse = []
 positions Choose = (Test, Exp) ∷ (WhenTrue, Exp) ∷ (WhenFalse, Exp) ∷ []
 positions Pair = (First, Exp) ∷ (Second, Exp) ∷ []
 positions Fst = (Operand, Exp) ∷ []
 positions Snd = (Operand, Exp) ∷ []
+positions (PVar x) = []
+positions TNum = []
+positions TBool = []
 positions TArrow = (Dom, Typ) ∷ (Cod, Typ) ∷ []
 positions TProd = (Left, Typ) ∷ (Right, Typ) ∷ []
-positions _ = []
+
+-- the numbers of a row's positions rise, each at least a number, so no position stands twice
+abbrev pub Rises : ℕ → List (Position × Sort) → Type 0
+Rises low [] = Unit {0}
+Rises low (entry ∷ entries) = (low ≤ position_number entry.0) × Rises (suc (position_number entry.0)) entries
 
 abbrev pub sort_in : List (Position × Sort) → Position → Option Sort
 sort_in [] position = None

@@ -1,7 +1,7 @@
 -- The table of positions: their words and their order.
-use Rattle.std.specs.Prelude.{ℕ, List, codes}
+use Rattle.std.specs.Prelude.{ℕ, Bool, List, codes}
 use Rattle.std.specs.declared.cmp.Ordering.{Ordering}
-use Rattle.std.specs.Ordering.{nat_cmp}
+use Rattle.std.specs.Ordering.{nat_cmp, is_eq}
 use Rattle.grove_sorts.specs.declared.position.Position.{Position}
 use Rattle.grove_sorts.specs.declared.position.Position.TheVariants.{Main, Param, Annot, Body, Fun, Arg, Left, Right, Test, WhenTrue, WhenFalse, First, Second, Operand, Dom, Cod}
 
@@ -44,3 +44,6 @@ position_number Cod = 15
 
 abbrev pub position_cmp : Position → Position → Ordering
 position_cmp a b = nat_cmp (position_number a) (position_number b)
+
+abbrev pub is_same_position : Position → Position → Bool
+is_same_position p q = is_eq (position_cmp p q)

@@ -1,4 +1,5 @@
-ghost use Rattle.std.specs.Prelude.{◌≡◌, ℕ, ◌<◌};
+ghost use Rattle.std.specs.Prelude.{◌≡◌, ℕ, ◌<◌, ◌≤◌, length, Some};
+ghost use Rattle.std.specs.List.{AllByRecursion};
 ghost use Rattle.std.specs.Cmp.{IsTotalOrder};
 ghost use Rattle.std.specs.declared.cmp.Ordering.TheVariants.{Equal};
 ghost use Rattle.text_parts.specs.Separated.{Lacks};
@@ -7,7 +8,7 @@ ghost use Rattle.grove_sorts.specs.declared.ctor.Ctor.{Ctor};
 ghost use Rattle.grove_sorts.specs.declared.position.Position.{Position};
 ghost use Rattle.grove_sorts.specs.Identifier.{IsIdentifier};
 ghost use Rattle.grove_sorts.specs.Ident.{ident_bytes, ident_cmp};
-ghost use Rattle.grove_sorts.specs.Ctor.{InRange, ctor_text, ctor_cmp};
+ghost use Rattle.grove_sorts.specs.Ctor.{InRange, ctor_text, ctor_cmp, positions, Rises, sort_at};
 ghost use Rattle.grove_sorts.specs.Position.{position_text, position_cmp};
 
 use crate::ctor::Ctor;
@@ -48,4 +49,11 @@ pub fn constructors_are_their_texts()
 pub fn positions_are_their_words()
     ensures one { (a b : Position) → position_text a ≡ position_text b → a ≡ b }
     ensures unbroken { (c : ℕ) (position : Position) → c < 48 → Lacks c (position_text position) }
+{}
+
+/// The positions of each row rise, so none stands twice; a row has at most three; and each is found with its sort.
+pub fn rows_are_in_order()
+    ensures rise { (ctor : Ctor) → Rises 0 (positions ctor) }
+    ensures few { (ctor : Ctor) → length (positions ctor) ≤ 3 }
+    ensures found { (ctor : Ctor) → AllByRecursion (λ place. sort_at ctor place.0 ≡ Some place.1) (positions ctor) }
 {}

@@ -16,13 +16,15 @@ pub use ctor::Ctor;
 pub use ident::{Ident, IdentFault};
 pub use laws::{
     constructors_are_ordered, constructors_are_their_texts, identifiers_are_ordered,
-    positions_are_ordered, positions_are_their_words,
+    positions_are_ordered, positions_are_their_words, rows_are_in_order,
 };
 pub use no_memory::NoMemory;
 pub use position::Position;
 pub use read::{read_ctor, read_ident, read_position};
 pub use sort::Sort;
-pub use table::{first_position_of_sort, position_at, position_count, position_sort, sort_of};
+pub use table::{
+    WIDEST, first_position_of_sort, place_at, position_at, position_count, position_sort, sort_of,
+};
 pub use write::{write_ctor, write_ident, write_position, write_sort};
 
 #[cfg(test)]

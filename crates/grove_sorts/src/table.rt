@@ -16,9 +16,12 @@ pub fn sort_of(ctor: &Ctor) -> Sort
 {
     match ctor {
         Ctor::Root => Sort::Top,
+        Ctor::Var(_) | Ctor::Lam | Ctor::Ap => Sort::Exp,
+        Ctor::Num(_) | Ctor::Plus => Sort::Exp,
+        Ctor::LitTrue | Ctor::LitFalse | Ctor::Choose => Sort::Exp,
+        Ctor::Pair | Ctor::Fst | Ctor::Snd => Sort::Exp,
         Ctor::PVar(_) => Sort::Pat,
         Ctor::TNum | Ctor::TBool | Ctor::TArrow | Ctor::TProd => Sort::Typ,
-        _ => Sort::Exp,
     }
 }
 
@@ -44,9 +47,13 @@ fn positions(ctor: &Ctor) -> &'static [(Position, Sort)]
         Ctor::Fst | Ctor::Snd => &[(Position::Operand, Sort::Exp)],
         Ctor::TArrow => &[(Position::Dom, Sort::Typ), (Position::Cod, Sort::Typ)],
         Ctor::TProd => &[(Position::Left, Sort::Typ), (Position::Right, Sort::Typ)],
-        _ => &[],
+        Ctor::Var(_) | Ctor::Num(_) | Ctor::LitTrue | Ctor::LitFalse => &[],
+        Ctor::PVar(_) | Ctor::TNum | Ctor::TBool => &[],
     }
 }
+
+/// How many positions a constructor may have.
+pub const WIDEST: usize = 3;
 
 /// How many positions a constructor has.
 pub fn position_count(ctor: &Ctor) -> usize
@@ -61,6 +68,14 @@ pub fn position_at(ctor: &Ctor, index: usize) -> Option<Position>
     ensures found { IsSome result ↔ (index < length (positions ctor.now)) }
 {
     positions(ctor).get(index).map(|entry| entry.0)
+}
+
+/// The position at an index of the constructor's row, from 0 on, with the sort of its children.
+pub fn place_at(ctor: &Ctor, index: usize) -> Option<(Position, Sort)>
+    ensures { result ≡ slice_get (positions ctor.now) index }
+{
+    let place = positions(ctor).get(index)?;
+    Some(*place)
 }
 
 /// The sort of the children at a position of the constructor.

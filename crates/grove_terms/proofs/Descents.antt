@@ -4,10 +4,10 @@ use Rattle.std.specs.Prelude.{◌||◌, Some}
 use Rattle.grove_edits.specs.declared.vertex.Vertex.{Vertex}
 use Rattle.grove_edits.specs.declared.edge.Edge.{Edge}
 use Rattle.walks.specs.declared.class.Class.TheVariants.{Inner}
-use Rattle.walks.specs.Live.{is_same_vertex, stands_in}
+use Rattle.grove_edits.specs.Vertex.{is_same_vertex, stands_in}
 use Rattle.walks.specs.Walk.{above}
 use Rattle.walks.specs.Class.{class}
-use Rattle.walks.proofs.Vertices.{same_vertex_itself, same_vertex_exact}
+use Rattle.grove_edits.proofs.Vertices.{same_vertex_itself, same_vertex_exact}
 use Rattle.walks.proofs.Endings.{AllStandIn, AreApart, target_list, length-target_list, target-from_above, length-AllStandIn}
 
 -- vertices from the lowest up to a root, each of them but the root inner and below the next

@@ -7,8 +7,10 @@ use Rattle.grove_sorts.specs.Ctor.{positions}
 use Rattle.grove_edits.specs.declared.vertex.Vertex.{Vertex}
 use Rattle.grove_edits.specs.declared.edge.Edge.{Edge}
 use Rattle.grove_edits.specs.Edge.{IsWellFormed}
-use Rattle.walks.specs.Live.{children_of, is_same_vertex, is_same_position}
-use Rattle.walks.proofs.Vertices.{same_vertex_exact}
+use Rattle.walks.specs.Live.{children_of}
+use Rattle.grove_edits.specs.Vertex.{is_same_vertex}
+use Rattle.grove_sorts.specs.Position.{is_same_position}
+use Rattle.grove_edits.proofs.Vertices.{same_vertex_exact}
 use Rattle.grove_terms.specs.Forest.{edges_from, edges_under}
 use Rattle.grove_terms.proofs.Table.{occurs, occurs_once}
 use Rattle.grove_terms.proofs.Totals.{total, total-append, spread, spread_all}

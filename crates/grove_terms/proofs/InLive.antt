@@ -15,10 +15,12 @@ use Rattle.grove_edits.specs.Graph.{is_same_edge}
 use Rattle.std.proofs.lemmas.Cmp.{tied_itself}
 use Rattle.grove_edits.proofs.Orders.{edge_cmp_exact, edge_cmp_total}
 use Rattle.walks.specs.declared.class.Class.TheVariants.{NoParent, Inner}
-use Rattle.walks.specs.Live.{holds_edge, is_same_vertex, is_same_position, parents_of, children_of}
+use Rattle.walks.specs.Live.{holds_edge, parents_of, children_of}
+use Rattle.grove_edits.specs.Vertex.{is_same_vertex}
+use Rattle.grove_sorts.specs.Position.{is_same_position}
 use Rattle.walks.specs.Walk.{only_source, above}
 use Rattle.walks.specs.Class.{is_cycle_root, class_by, class}
-use Rattle.walks.proofs.Vertices.{same_vertex_itself, same_vertex_exact}
+use Rattle.grove_edits.proofs.Vertices.{same_vertex_itself, same_vertex_exact}
 use Rattle.grove_terms.specs.Forest.{edges_from, edges_under}
 
 equal_from_test : (o : Ordering) → is_eq o ≡ true → o ≡ Equal

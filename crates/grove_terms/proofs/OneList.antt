@@ -4,16 +4,17 @@ use Rattle.std.specs.List.{AllByRecursion}
 use Rattle.std.proofs.lemmas.Bool.{cases_lt}
 use Rattle.grove_sorts.specs.declared.position.Position.{Position}
 use Rattle.grove_sorts.specs.declared.sort.Sort.{Sort}
-use Rattle.grove_sorts.specs.Ctor.{positions}
-use Rattle.grove_sorts.specs.Position.{position_number}
+use Rattle.grove_sorts.specs.Ctor.{positions, Rises}
+use Rattle.grove_sorts.specs.Position.{position_number, is_same_position}
 use Rattle.grove_edits.specs.declared.vertex.Vertex.{Vertex as VertexOf}
 use Rattle.grove_edits.specs.declared.edge.Edge.{Edge}
-use Rattle.walks.specs.Live.{is_same_position}
 use Rattle.grove_terms.specs.declared.node.Node.{Node}
 use Rattle.grove_terms.specs.declared.node.What.TheVariants.{Vertex, Hole, Conflict, MultiRef, CycleRef}
 use Rattle.grove_terms.specs.Forest.{Forest, none, multi_ref, cycle_ref, tree, child_edges, IsWellSorted}
 use Rattle.grove_terms.specs.Nodes.{node_at, child_node, head_node, place_nodes, places_nodes, count_at, child_nodes, nodes_under, tree_nodes}
-use Rattle.grove_terms.proofs.Table.{Rises, positions_rise, occurs, occurs_not, one_position, other_position}
+use Rattle.grove_terms.proofs.Table.{occurs, occurs_not}
+use Rattle.grove_sorts.proofs.Rows.{positions_rise}
+use Rattle.grove_sorts.proofs.Orders.{one_position, other_position}
 use Rattle.grove_terms.proofs.Weights.{child_once}
 
 -- ---- the children at one position

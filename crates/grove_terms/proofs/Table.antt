@@ -1,50 +1,15 @@
--- The positions of a constructor, each of which stands once in the table, and the tests of positions.
-use Rattle.std.proofs.Common.{◌≡◌, ℕ, suc, ◌+◌, ◌<◌, ◌≤◌, Bool, true, false, cond, eqb, List, [], ◌∷◌, Some, None, is_some, is_none, refl, sym, ap, ◌∙◌, arith, lit≤}
+-- How often the position of a well-formed edge stands in the row of its source: once.
+use Rattle.std.proofs.Common.{◌≡◌, ℕ, suc, ◌+◌, ◌<◌, Bool, true, false, cond, eqb, List, [], ◌∷◌, Some, is_some, refl, sym, ap, ◌∙◌, arith}
 use Rattle.std.proofs.lemmas.Bool.{eqb-true, eq-eqb, true≢false}
-use Rattle.std.specs.Cmp.{IsEquivalence, eq_by_cmp_equiv}
-use Rattle.grove_sorts.specs.declared.ctor.Ctor.{Ctor}
-use Rattle.grove_sorts.specs.declared.ctor.Ctor.TheVariants.{Root, Lam, Ap, Plus, Choose, Pair, Fst, Snd, TArrow, TProd}
 use Rattle.grove_sorts.specs.declared.position.Position.{Position}
 use Rattle.grove_sorts.specs.declared.sort.Sort.{Sort}
-use Rattle.grove_sorts.specs.Ctor.{positions, sort_in}
-use Rattle.grove_sorts.specs.Position.{position_number, position_cmp}
-use Rattle.grove_sorts.proofs.Orders.{position_cmp_total, position_cmp_exact, position_same}
+use Rattle.grove_sorts.specs.Ctor.{positions, sort_in, Rises}
+use Rattle.grove_sorts.specs.Position.{position_number, is_same_position}
+use Rattle.grove_sorts.proofs.Orders.{position_same, same_position_laws, other_position}
+use Rattle.grove_sorts.proofs.Rows.{positions_rise}
 use Rattle.grove_edits.specs.declared.edge.Edge.{Edge}
-use Rattle.grove_edits.specs.declared.edge.EdgeFault.TheVariants.{BadVertex, NoPosition, WrongSort}
-use Rattle.grove_edits.specs.Edge.{IsWellFormed, has_position, has_good_vertices, has_sort}
-use Rattle.grove_edits.proofs.Orders.{equal_from_test}
-use Rattle.walks.specs.Live.{is_same_position}
-
-pub same_position_laws : IsEquivalence is_same_position
-same_position_laws = eq_by_cmp_equiv position_cmp_total
-
--- positions that the test finds the same are one
-pub one_position : (p q : Position) → is_same_position p q ≡ true → p ≡ q
-one_position p q same = position_cmp_exact p q (equal_from_test (position_cmp p q) same)
-
-pub other_position : (p q : Position) → (position_number p ≡ position_number q → ⊥) → is_same_position p q ≡ false
-other_position p q differ = by_test (is_same_position p q) refl where
-  by_test : (b : Bool) → is_same_position p q ≡ b → is_same_position p q ≡ false
-  by_test true same = absurd (differ (ap position_number (one_position p q same)))
-  by_test false other = other
-
--- the positions stand in their order, from a number on
-abbrev pub Rises : ℕ → List (Position × Sort) → Type 0
-Rises low [] = Unit {0}
-Rises low (p ∷ ps) = (low ≤ position_number p.0) × Rises (suc (position_number p.0)) ps
-
-pub positions_rise : (ctor : Ctor) → Rises 0 (positions ctor)
-positions_rise Root = (lit≤ tt, tt)
-positions_rise Lam = (lit≤ tt, (lit≤ tt, (lit≤ tt, tt)))
-positions_rise Ap = (lit≤ tt, (lit≤ tt, tt))
-positions_rise Plus = (lit≤ tt, (lit≤ tt, tt))
-positions_rise Choose = (lit≤ tt, (lit≤ tt, (lit≤ tt, tt)))
-positions_rise Pair = (lit≤ tt, (lit≤ tt, tt))
-positions_rise Fst = (lit≤ tt, tt)
-positions_rise Snd = (lit≤ tt, tt)
-positions_rise TArrow = (lit≤ tt, (lit≤ tt, tt))
-positions_rise TProd = (lit≤ tt, (lit≤ tt, tt))
-positions_rise _ = tt
+use Rattle.grove_edits.specs.Edge.{IsWellFormed}
+use Rattle.grove_edits.proofs.WellFormed.{place_fits}
 
 -- how often a position stands among some
 abbrev pub occurs : Position → List (Position × Sort) → ℕ
@@ -78,13 +43,6 @@ occurs_in p low (q ∷ qs) rises found = by_test (eqb (position_number q.0) (pos
       true-eq : position_number p ≡ position_number q.0 → eqb (position_number q.0) (position_number p) ≡ true
       true-eq e = eq-eqb (position_number q.0) (position_number p) (sym e)
 
-has_position_from : (e : Edge) → IsWellFormed e → has_position e ≡ true
-has_position_from e well = by_tests (has_good_vertices e) (has_position e) (has_sort e) well where
-  by_tests : (good placed sorted : Bool) → is_none (cond good (cond placed (cond sorted None (Some WrongSort)) (Some NoPosition)) (Some BadVertex)) ≡ true → placed ≡ true
-  by_tests true true sorted h = refl
-  by_tests true false sorted h = absurd (true≢false (sym h))
-  by_tests false placed sorted h = absurd (true≢false (sym h))
-
 -- the position of a well-formed edge stands once among those of its source
 pub occurs_once : (e : Edge) → IsWellFormed e → occurs e.position (positions e.source.ctor) ≡ 1
-occurs_once e well = occurs_in e.position 0 (positions e.source.ctor) (positions_rise e.source.ctor) (has_position_from e well)
+occurs_once e well = occurs_in e.position 0 (positions e.source.ctor) (positions_rise e.source.ctor) (ap is_some (place_fits e well))

@@ -4,7 +4,7 @@ use Rattle.std.specs.List.{AllByRecursion}
 use Rattle.std.proofs.lemmas.List.Sums.{sum_by-cons}
 use Rattle.grove_sorts.specs.declared.position.Position.{Position}
 use Rattle.grove_sorts.specs.declared.sort.Sort.{Sort}
-use Rattle.walks.specs.Live.{is_same_position}
+use Rattle.grove_sorts.specs.Position.{is_same_position}
 use Rattle.grove_terms.proofs.Table.{occurs}
 
 abbrev pub once : Bool → ℕ

@@ -5,8 +5,8 @@ use Rattle.std.proofs.lemmas.Bool.{and_parts, or_left, or_right}
 use Rattle.edge_lattice.specs.declared.state.State.TheVariants.{Live}
 use Rattle.grove_sorts.specs.declared.position.Position.{Position}
 use Rattle.grove_sorts.specs.declared.sort.Sort.{Sort}
-use Rattle.grove_sorts.specs.Ctor.{positions}
-use Rattle.grove_sorts.specs.Position.{position_number}
+use Rattle.grove_sorts.specs.Ctor.{positions, Rises}
+use Rattle.grove_sorts.specs.Position.{position_number, is_same_position}
 use Rattle.grove_edits.specs.declared.vertex.Vertex.{Vertex}
 use Rattle.grove_edits.specs.declared.edge.Edge.{Edge}
 use Rattle.grove_edits.specs.declared.edit.Edit.{Edit}
@@ -14,11 +14,13 @@ use Rattle.grove_edits.specs.Edge.{IsWellFormed, edge_fault}
 use Rattle.grove_edits.specs.Graph.{graph, is_same_edge}
 use Rattle.grove_edits.proofs.Orders.{same_edge_laws}
 use Rattle.grove_edits.proofs.Graphs.{unnamed}
-use Rattle.walks.specs.Live.{children_of, is_same_vertex, is_same_position, holds_edge}
+use Rattle.walks.specs.Live.{children_of, holds_edge}
+use Rattle.grove_edits.specs.Vertex.{is_same_vertex}
 use Rattle.walks.specs.Whole.{AreLive}
-use Rattle.walks.proofs.Vertices.{same_vertex_exact}
+use Rattle.grove_edits.proofs.Vertices.{same_vertex_exact}
 use Rattle.grove_terms.specs.Forest.{Forest, none, multi_ref, cycle_ref, tree, child_edges, edges_from, edges_under, AreChildren, StandsUnder, IsChildOf, IsWellSorted}
-use Rattle.grove_terms.proofs.Table.{Rises, positions_rise, one_position}
+use Rattle.grove_sorts.proofs.Rows.{positions_rise}
+use Rattle.grove_sorts.proofs.Orders.{one_position}
 
 -- ---- the live edges of a graph of edits
 

@@ -5,7 +5,8 @@ use Rattle.grove_sorts.specs.declared.sort.Sort.{Sort}
 use Rattle.grove_sorts.specs.Ctor.{positions}
 use Rattle.grove_edits.specs.declared.vertex.Vertex.{Vertex as VertexOf}
 use Rattle.grove_edits.specs.declared.edge.Edge.{Edge}
-use Rattle.walks.specs.Live.{is_same_position, is_same_vertex}
+use Rattle.grove_sorts.specs.Position.{is_same_position}
+use Rattle.grove_edits.specs.Vertex.{is_same_vertex}
 use Rattle.grove_terms.specs.declared.node.Node.{Node}
 use Rattle.grove_terms.specs.declared.node.What.{What}
 use Rattle.grove_terms.specs.declared.node.What.TheVariants.{Vertex, Hole, Conflict, MultiRef, CycleRef}

@@ -12,8 +12,8 @@ use Rattle.grove_edits.specs.declared.vertex.Vertex.{Vertex as VertexOf}
 use Rattle.grove_edits.specs.declared.edge.Edge.{Edge}
 use Rattle.grove_edits.specs.Edge.{IsWellFormed, is_sort, has_sort, has_position, has_good_vertices}
 use Rattle.grove_edits.specs.declared.edge.EdgeFault.TheVariants.{BadVertex, NoPosition, WrongSort}
-use Rattle.walks.specs.Live.{is_same_position}
-use Rattle.grove_terms.proofs.Table.{one_position}
+use Rattle.grove_sorts.specs.Position.{is_same_position}
+use Rattle.grove_sorts.proofs.Orders.{one_position}
 use Rattle.grove_terms.specs.declared.node.Node.{Node}
 use Rattle.grove_terms.specs.declared.node.What.TheVariants.{Vertex, Hole, Conflict, MultiRef, CycleRef}
 use Rattle.grove_terms.specs.Forest.{Forest, none, multi_ref, cycle_ref, tree, child_edges, IsChildOf, IsWellSorted}
@@ -21,11 +21,10 @@ use Rattle.grove_terms.specs.Nodes.{node_at, child_node, head_node, place_nodes,
 use Rattle.type_core.specs.Typ.{Typ}
 use Rattle.mark_step.specs.Scope.{Scope}
 use Rattle.mark_step.specs.Expression.{Wanted, Synthesise, Analyse, Expression, Demanded}
-use Rattle.mark_step.specs.Step.{demand}
+use Rattle.mark_step.specs.Step.{demand, settled}
 use Rattle.mark_step.specs.Rows.{is_exp}
 use Rattle.marking.specs.Types.{if_sole, child_name, tree_type, child_type, pattern_name}
 use Rattle.marking.specs.Marking.{MarkedNode, expression, judged_in, judged_child, marked_plain, marked_vertex, marked_place, marked_places, marked_children, marked_tree, synthesised_in, children_types}
-use Rattle.mark_step.specs.Step.{settled}
 use Rattle.judging.specs.Machine.{Given, nothing, of_type, of_name, Opened, Frame, Of, Several, State, at, given_of, head_of, unsettled, fresh, filled, demanded_by, demanded_next, deliver, opened, taken, step, run}
 
 pub run-append : (s : State) (xs ys : List Node) → run s (xs ++ ys) ≡ run (run s xs) ys

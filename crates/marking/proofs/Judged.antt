@@ -12,11 +12,9 @@ use Rattle.grove_edits.specs.declared.vertex.Vertex.{Vertex}
 use Rattle.grove_edits.specs.declared.edge.Edge.{Edge}
 use Rattle.grove_edits.specs.declared.edge.EdgeFault.TheVariants.{BadVertex, NoPosition, WrongSort}
 use Rattle.grove_edits.specs.Edge.{has_good_vertices, has_position, has_sort, is_sort}
-use Rattle.grove_edits.proofs.Orders.{equal_from_test}
-use Rattle.grove_sorts.specs.Position.{position_cmp}
-use Rattle.grove_sorts.proofs.Orders.{position_cmp_exact}
+use Rattle.grove_sorts.proofs.Orders.{equal_from_test, position_cmp_exact}
+use Rattle.grove_sorts.specs.Position.{position_cmp, is_same_position}
 use Rattle.std.proofs.lemmas.Bool.{false≢true}
-use Rattle.walks.specs.Live.{is_same_position}
 use Rattle.grove_terms.specs.Forest.{Forest, none, multi_ref, cycle_ref, tree, child_edges, IsChildOf, IsWellSorted}
 use Rattle.grove_terms.specs.Nodes.{count_at}
 use Rattle.type_core.specs.Typ.{Typ, Unknown}

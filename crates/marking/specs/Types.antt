@@ -5,7 +5,7 @@ use Rattle.grove_sorts.specs.declared.ctor.Ctor.{Ctor}
 use Rattle.grove_sorts.specs.declared.ctor.Ctor.TheVariants.{PVar, TNum, TBool, TArrow, TProd}
 use Rattle.grove_sorts.specs.declared.position.Position.{Position}
 use Rattle.grove_sorts.specs.declared.position.Position.TheVariants.{Param, Annot, Left, Right, Dom, Cod}
-use Rattle.walks.specs.Live.{is_same_position}
+use Rattle.grove_sorts.specs.Position.{is_same_position}
 use Rattle.grove_terms.specs.Forest.{Forest, none, multi_ref, cycle_ref, tree}
 use Rattle.grove_terms.specs.Nodes.{count_at}
 use Rattle.type_core.specs.declared.former.Former.TheVariants.{Arrow, Product}

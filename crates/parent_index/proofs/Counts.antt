@@ -14,8 +14,9 @@ use Rattle.grove_edits.specs.declared.vertex.Vertex.{Vertex}
 use Rattle.grove_edits.specs.declared.edge.Edge.{Edge}
 use Rattle.grove_edits.specs.Graph.{is_same_edge}
 use Rattle.grove_edits.proofs.Orders.{vertex_cmp_total}
-use Rattle.walks.specs.Live.{is_same_vertex, stands_in, targets_of, holds_edge}
-use Rattle.walks.proofs.Vertices.{same_vertex_laws, same_vertex_exact, same_vertex_itself}
+use Rattle.walks.specs.Live.{targets_of, holds_edge}
+use Rattle.grove_edits.specs.Vertex.{is_same_vertex, stands_in}
+use Rattle.grove_edits.proofs.Vertices.{same_vertex_laws, same_vertex_exact, same_vertex_itself}
 use Rattle.walks.proofs.Endings.{length-AllStandIn}
 use Rattle.edge_index.specs.Lists.{Kept, Lists, edges_of, edges_at, live, used_keys, IsByKey}
 use Rattle.edge_index.proofs.Ordered.{same_edge_exact, same_edge_itself}

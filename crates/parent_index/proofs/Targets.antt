@@ -8,7 +8,8 @@ use Rattle.std.proofs.lemmas.List.Sums.{length-filter}
 use Rattle.grove_edits.specs.declared.vertex.Vertex.{Vertex}
 use Rattle.grove_edits.specs.declared.edge.Edge.{Edge}
 use Rattle.grove_edits.proofs.Orders.{cmp_is_vertex_cmp}
-use Rattle.walks.specs.Live.{is_same_vertex, parents_of}
+use Rattle.walks.specs.Live.{parents_of}
+use Rattle.grove_edits.specs.Vertex.{is_same_vertex}
 use Rattle.edge_index.specs.Lists.{Lists, room_of, room_at, with_key}
 use Rattle.parent_index.specs.declared.target.Target.{Target}
 use Rattle.parent_index.specs.contracts.target.TargetOrd.TheImpl as impl

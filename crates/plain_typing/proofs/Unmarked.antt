@@ -12,8 +12,8 @@ use Rattle.grove_edits.specs.declared.vertex.Vertex.{Vertex as VertexOf}
 use Rattle.grove_edits.specs.declared.edge.Edge.{Edge}
 use Rattle.grove_edits.specs.declared.edge.EdgeFault.TheVariants.{BadVertex, NoPosition, WrongSort}
 use Rattle.grove_edits.specs.Edge.{IsWellFormed, has_good_vertices, has_position, has_sort, is_sort}
-use Rattle.walks.specs.Live.{is_same_position}
-use Rattle.grove_terms.proofs.Table.{one_position}
+use Rattle.grove_sorts.specs.Position.{is_same_position}
+use Rattle.grove_sorts.proofs.Orders.{one_position}
 use Rattle.grove_terms.specs.declared.node.Node.{Node}
 use Rattle.grove_terms.specs.Forest.{Forest, none, multi_ref, cycle_ref, tree, child_edges, IsChildOf, IsWellSorted}
 use Rattle.grove_terms.specs.Nodes.{count_at}

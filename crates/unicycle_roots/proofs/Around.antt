@@ -7,12 +7,11 @@ use Rattle.std.specs.declared.cmp.Ordering.TheVariants.{Less, Equal, Greater}
 use Rattle.std.specs.Ordering.{is_gt, ordering_reverse}
 use Rattle.grove_edits.specs.declared.vertex.Vertex.{Vertex}
 use Rattle.grove_edits.specs.declared.edge.Edge.{Edge}
-use Rattle.grove_edits.specs.Vertex.{vertex_cmp}
+use Rattle.grove_edits.specs.Vertex.{vertex_cmp, is_same_vertex}
 use Rattle.grove_edits.proofs.Orders.{vertex_cmp_exact, vertex_cmp_total}
-use Rattle.walks.specs.Live.{is_same_vertex}
 use Rattle.walks.specs.Walk.{above}
 use Rattle.walks.specs.Class.{is_cycle_root}
-use Rattle.walks.proofs.Vertices.{vertex_cmp_itself, same_vertex_itself, same_vertex_exact}
+use Rattle.grove_edits.proofs.Vertices.{vertex_cmp_itself, same_vertex_itself, same_vertex_exact}
 use Rattle.walks.proofs.Up.{up, walk_len, walk_apart}
 use Rattle.unicycle_roots.specs.Met.{leads_to, is_on_cycle}
 use Rattle.walks.proofs.Returns.{some_same, up_from}

@@ -8,13 +8,13 @@ use Rattle.std.specs.declared.cmp.Ordering.TheVariants.{Less, Equal, Greater}
 use Rattle.std.specs.Ordering.{is_gt, ordering_reverse}
 use Rattle.grove_edits.specs.declared.vertex.Vertex.{Vertex}
 use Rattle.grove_edits.specs.declared.edge.Edge.{Edge}
-use Rattle.grove_edits.specs.Vertex.{vertex_cmp}
+use Rattle.grove_edits.specs.Vertex.{vertex_cmp, is_same_vertex, stands_in}
 use Rattle.grove_edits.proofs.Orders.{vertex_cmp_exact, vertex_cmp_total}
-use Rattle.walks.specs.Live.{is_same_vertex, stands_in, parents_of}
+use Rattle.walks.specs.Live.{parents_of}
 use Rattle.walks.specs.Walk.{only_source, above, above_last, GoesOn, walk}
 use Rattle.walks.specs.Class.{class, class_by, is_same_class, is_vertex_of, is_least, is_cycle_root}
 use Rattle.walks.specs.declared.class.Class.TheVariants.{Cycle}
-use Rattle.walks.proofs.Vertices.{same_vertex_exact, same_vertex_itself}
+use Rattle.grove_edits.proofs.Vertices.{same_vertex_exact, same_vertex_itself}
 use Rattle.walks.proofs.Endings.{walk_is}
 use Rattle.walks.proofs.Up.{up, next_above, up-along, up_none_along, walk_len, walk_apart, walk_back, walk_last, walk_least, walk_least_from}
 use Rattle.unicycle_roots.specs.Met.{leads_to, is_on_cycle}

@@ -5,10 +5,10 @@ use Rattle.std.specs.Cmp.{both_ways}
 use Rattle.std.proofs.lemmas.Bool.{leb-true, leb-false}
 use Rattle.grove_edits.specs.declared.vertex.Vertex.{Vertex}
 use Rattle.grove_edits.specs.declared.edge.Edge.{Edge}
-use Rattle.walks.specs.Live.{is_same_vertex, stands_in}
+use Rattle.grove_edits.specs.Vertex.{is_same_vertex, stands_in}
 use Rattle.walks.specs.Class.{is_cycle_root, class, is_same_class, of_class}
 use Rattle.walks.specs.declared.class.Class.TheVariants.{Cycle}
-use Rattle.walks.proofs.Vertices.{same_vertex_exact, same_vertex_itself}
+use Rattle.grove_edits.proofs.Vertices.{same_vertex_exact, same_vertex_itself}
 use Rattle.unicycle_roots.specs.Met.{leads_to, met_by, KeepsMet, AreNumbered, HasEnded}
 use Rattle.unicycle_roots.proofs.Cycles.{or_true, reaches_from_leads, leads_to_itself, one_root, class_is_cycle}
 use Rattle.unicycle_roots.proofs.Meetings.{Met}

@@ -10,7 +10,7 @@ use Rattle.grove_edits.specs.contracts.vertex.VertexOrd.TheImpl as vertex_impl
 use Rattle.grove_edits.specs.contracts.vertex.VertexOrd.TheImpl.Laws.{matches_eq-law}
 use Rattle.grove_edits.specs.contracts.vertex.VertexPartialEq.TheImpl as vertex_eq
 use Rattle.grove_edits.proofs.Orders.{vertex_cmp_total, cmp_is_vertex_cmp}
-use Rattle.walks.specs.Live.{is_same_vertex, stands_in}
+use Rattle.grove_edits.specs.Vertex.{is_same_vertex, stands_in}
 use Rattle.unicycle_roots.specs.Met.{met_by}
 
 same_vertex_laws : IsEquivalence is_same_vertex

@@ -3,10 +3,10 @@ use Rattle.std.proofs.Common.{◌≡◌, ℕ, suc, ◌+◌, ◌*◌, ◌<◌, �
 use Rattle.std.specs.Prelude.{List, Option, None, Some}
 use Rattle.grove_edits.specs.declared.vertex.Vertex.{Vertex}
 use Rattle.grove_edits.specs.declared.edge.Edge.{Edge}
-use Rattle.walks.specs.Live.{is_same_vertex}
+use Rattle.grove_edits.specs.Vertex.{is_same_vertex}
 use Rattle.walks.specs.Walk.{above}
 use Rattle.walks.specs.Class.{is_cycle_root}
-use Rattle.walks.proofs.Vertices.{same_vertex_exact, same_vertex_itself}
+use Rattle.grove_edits.proofs.Vertices.{same_vertex_exact, same_vertex_itself}
 use Rattle.walks.proofs.Up.{up, walk_len, walk_back}
 use Rattle.unicycle_roots.specs.Met.{leads_to, met_by, KeepsMet, HasEnded}
 use Rattle.walks.proofs.Returns.{some_same, up_from}

@@ -7,12 +7,11 @@ use Rattle.std.specs.declared.cmp.Ordering.TheVariants.{Less, Equal, Greater}
 use Rattle.std.specs.Ordering.{is_gt}
 use Rattle.grove_edits.specs.declared.vertex.Vertex.{Vertex}
 use Rattle.grove_edits.specs.declared.edge.Edge.{Edge}
-use Rattle.grove_edits.specs.Vertex.{vertex_cmp}
+use Rattle.grove_edits.specs.Vertex.{vertex_cmp, is_same_vertex}
 use Rattle.grove_edits.proofs.Orders.{vertex_cmp_exact}
-use Rattle.walks.specs.Live.{is_same_vertex}
 use Rattle.walks.specs.Walk.{above, above_last, walk}
 use Rattle.walks.specs.Class.{is_vertex_of, is_least, is_cycle_root}
-use Rattle.walks.proofs.Vertices.{vertex_cmp_itself, same_vertex_itself, same_vertex_exact}
+use Rattle.grove_edits.proofs.Vertices.{vertex_cmp_itself, same_vertex_itself, same_vertex_exact}
 use Rattle.walks.proofs.Up.{up, up-along, up_none_along, walk_len, walk_some, walk_apart, walk_back, walk_last, walk_least}
 use Rattle.walks.proofs.Returns.{AllGreater, some_same, walk_len_pos, not_itself, up_from, root_from_back}
 use Rattle.unicycle_roots.specs.declared.step_up.StepUp.TheVariants.{ToGreater, Back, ToNoCycle}

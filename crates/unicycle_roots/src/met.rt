@@ -1,6 +1,6 @@
 ghost use Rattle.std.specs.Prelude.{◌≡◌, None, Some, if◌then◌else◌, IsSome, IfOk, OnOk};
 ghost use Rattle.grove_edits.specs.declared.vertex.Vertex.{Vertex};
-ghost use Rattle.walks.specs.Live.{is_same_vertex};
+ghost use Rattle.grove_edits.specs.Vertex.{is_same_vertex};
 ghost use Rattle.unicycle_roots.specs.Met.{met_by, KeepsMet, AreNumbered, HasEnded};
 
 use crate::no_memory::NoMemory;

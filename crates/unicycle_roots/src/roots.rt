@@ -1,6 +1,6 @@
 ghost use Rattle.std.specs.Prelude.{◌≡◌, ◌||◌, true, filter, IfOk, OnOk};
 ghost use Rattle.grove_edits.specs.declared.vertex.Vertex.{Vertex};
-ghost use Rattle.walks.specs.Live.{is_same_vertex, stands_in};
+ghost use Rattle.grove_edits.specs.Vertex.{is_same_vertex, stands_in};
 ghost use Rattle.walks.specs.Class.{is_cycle_root, of_class};
 
 use crate::cycle::root_of_cycle;

@@ -1,8 +1,7 @@
 ghost use Rattle.std.specs.Prelude.{◌≡◌, ◌+◌, ◌<◌, ◌≤◌, None, Some, OnSome, if◌then◌else◌};
 ghost use Rattle.std.specs.Ordering.{is_gt};
 ghost use Rattle.grove_edits.specs.declared.vertex.Vertex.{Vertex};
-ghost use Rattle.grove_edits.specs.Vertex.{vertex_cmp};
-ghost use Rattle.walks.specs.Live.{is_same_vertex};
+ghost use Rattle.grove_edits.specs.Vertex.{vertex_cmp, is_same_vertex};
 ghost use Rattle.walks.specs.Walk.{above};
 ghost use Rattle.unicycle_roots.specs.StepUp.{found};
 

@@ -5,10 +5,11 @@ use Rattle.grove_edits.specs.declared.vertex.Vertex.{Vertex}
 use Rattle.grove_edits.specs.declared.edge.Edge.{Edge}
 use Rattle.walks.specs.declared.class.Class.{Class}
 use Rattle.walks.specs.declared.class.Class.TheVariants.{NoParent, Multi, Cycle, Inner}
-use Rattle.walks.specs.Live.{is_same_vertex, stands_in, parents_of}
+use Rattle.walks.specs.Live.{parents_of}
+use Rattle.grove_edits.specs.Vertex.{is_same_vertex, stands_in}
 use Rattle.walks.specs.Walk.{only_source, above}
 use Rattle.walks.specs.Class.{class_by, class, is_cycle_root, is_same_class}
-use Rattle.walks.proofs.Vertices.{same_vertex_exact}
+use Rattle.grove_edits.proofs.Vertices.{same_vertex_exact}
 use Rattle.walks.proofs.Up.{up, up-shift}
 use Rattle.walks.proofs.Returns.{some_same}
 use Rattle.walks.proofs.Tops.{has_top}

@@ -3,9 +3,10 @@ use Rattle.std.proofs.Common.{◌≡◌, ℕ, zero, suc, ◌+◌, ◌<◌, ◌�
 use Rattle.std.specs.Prelude.{◌||◌, Option, None, Some}
 use Rattle.grove_edits.specs.declared.vertex.Vertex.{Vertex}
 use Rattle.grove_edits.specs.declared.edge.Edge.{Edge}
-use Rattle.walks.specs.Live.{is_same_vertex, stands_in, parents_of}
+use Rattle.walks.specs.Live.{parents_of}
+use Rattle.grove_edits.specs.Vertex.{is_same_vertex, stands_in}
 use Rattle.walks.specs.Walk.{only_source, above, IsEnd, GoesOn, IsWalk, walk_on, walk}
-use Rattle.walks.proofs.Vertices.{same_vertex_exact, same_vertex_itself}
+use Rattle.grove_edits.proofs.Vertices.{same_vertex_exact, same_vertex_itself}
 
 -- ---- more distinct vertices than a list has do not all stand in it
 

@@ -1,4 +1,3 @@
-pub mod Vertices
 pub mod Endings
 pub mod Up
 pub mod Returns

@@ -8,7 +8,7 @@ use Rattle.grove_edits.specs.declared.edge.Edge.{Edge}
 use Rattle.grove_edits.specs.Vertex.{vertex_cmp}
 use Rattle.walks.specs.Walk.{above, above_last, walk}
 use Rattle.walks.specs.Class.{is_vertex_of, is_least, is_cycle_root}
-use Rattle.walks.proofs.Vertices.{vertex_cmp_itself, same_vertex_itself}
+use Rattle.grove_edits.proofs.Vertices.{vertex_cmp_itself, same_vertex_itself}
 use Rattle.walks.proofs.Up.{up, next_above, up-along, up_none_along, walk_len, walk_apart, walk_back, walk_last, walk_least_from}
 
 -- the vertices above are greater, so many steps up

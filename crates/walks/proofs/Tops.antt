@@ -15,7 +15,7 @@ use Rattle.walks.specs.declared.class.Class.TheVariants.{Inner}
 use Rattle.walks.specs.Live.{parents_of}
 use Rattle.walks.specs.Walk.{only_source, above}
 use Rattle.walks.specs.Class.{class_by, class, is_cycle_root}
-use Rattle.walks.proofs.Vertices.{vertex_cmp_itself}
+use Rattle.grove_edits.proofs.Vertices.{vertex_cmp_itself}
 use Rattle.walks.proofs.Up.{up, next_above, up-along, walk_len, walk_some, walk_apart, walk_back}
 use Rattle.walks.proofs.Returns.{AllGreater, some_same, walk_len_pos, root_from_return}
 

@@ -5,11 +5,10 @@ use Rattle.std.specs.Prelude.{◌||◌, ◌&&◌, ◌⊎◌, not, Option, None, 
 use Rattle.std.specs.Ordering.{is_gt}
 use Rattle.grove_edits.specs.declared.vertex.Vertex.{Vertex}
 use Rattle.grove_edits.specs.declared.edge.Edge.{Edge}
-use Rattle.grove_edits.specs.Vertex.{vertex_cmp}
-use Rattle.walks.specs.Live.{is_same_vertex, stands_in}
+use Rattle.grove_edits.specs.Vertex.{vertex_cmp, is_same_vertex, stands_in}
 use Rattle.walks.specs.Walk.{above, above_last, GoesOn, walk}
 use Rattle.walks.specs.Class.{is_least}
-use Rattle.walks.proofs.Vertices.{same_vertex_exact, same_vertex_itself}
+use Rattle.grove_edits.proofs.Vertices.{same_vertex_exact, same_vertex_itself}
 use Rattle.walks.proofs.Endings.{walk_is}
 
 abbrev pub next_above : List Edge → Option Vertex → Option Vertex

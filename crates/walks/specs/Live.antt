@@ -1,13 +1,12 @@
 -- The live edges of a graph in edge order, and those of one vertex.
-use Rattle.std.specs.Prelude.{◌≡◌, Bool, false, ◌||◌, ◌&&◌, List, [], ◌∷◌, if◌then◌else◌, filter}
+use Rattle.std.specs.Prelude.{◌≡◌, Bool, ◌&&◌, List, [], ◌∷◌, if◌then◌else◌, filter}
 use Rattle.std.specs.List.{AllByRecursion, list_any}
 use Rattle.std.specs.declared.cmp.Ordering.TheVariants.{Less}
-use Rattle.std.specs.Ordering.{is_eq}
 use Rattle.grove_sorts.specs.declared.position.Position.{Position}
-use Rattle.grove_sorts.specs.Position.{position_cmp}
+use Rattle.grove_sorts.specs.Position.{is_same_position}
 use Rattle.grove_edits.specs.declared.vertex.Vertex.{Vertex}
 use Rattle.grove_edits.specs.declared.edge.Edge.{Edge}
-use Rattle.grove_edits.specs.Vertex.{vertex_cmp}
+use Rattle.grove_edits.specs.Vertex.{is_same_vertex, stands_in}
 use Rattle.grove_edits.specs.Edge.{edge_cmp}
 use Rattle.grove_edits.specs.Graph.{is_same_edge}
 
@@ -20,12 +19,6 @@ IsInEdgeOrder (e ∷ es) = AllByRecursion (λ later. edge_cmp e later ≡ Less) 
 abbrev pub holds_edge : Edge → List Edge → Bool
 holds_edge e xs = list_any (λ x. is_same_edge x e) xs
 
-abbrev pub is_same_vertex : Vertex → Vertex → Bool
-is_same_vertex a b = is_eq (vertex_cmp a b)
-
-abbrev pub is_same_position : Position → Position → Bool
-is_same_position p q = is_eq (position_cmp p q)
-
 -- the live edges to a vertex
 abbrev pub parents_of : Vertex → List Edge → List Edge
 parents_of v edges = filter (λ e. is_same_vertex e.target v) edges
@@ -33,10 +26,6 @@ parents_of v edges = filter (λ e. is_same_vertex e.target v) edges
 -- the live edges from a position of a vertex
 abbrev pub children_of : Vertex → Position → List Edge → List Edge
 children_of v p edges = filter (λ e. is_same_vertex e.source v && is_same_position e.position p) edges
-
-abbrev pub stands_in : Vertex → List Vertex → Bool
-stands_in v [] = false
-stands_in v (x ∷ xs) = is_same_vertex x v || stands_in v xs
 
 -- the vertices with a live parent edge, each once
 abbrev pub targets_of : List Edge → List Vertex

@@ -2,7 +2,8 @@
 use Rattle.std.specs.Prelude.{◌≡◌, ℕ, zero, suc, true, false, List, [], ◌∷◌, length, Option, None, Some, if◌then◌else◌}
 use Rattle.grove_edits.specs.declared.vertex.Vertex.{Vertex}
 use Rattle.grove_edits.specs.declared.edge.Edge.{Edge}
-use Rattle.walks.specs.Live.{parents_of, stands_in}
+use Rattle.walks.specs.Live.{parents_of}
+use Rattle.grove_edits.specs.Vertex.{stands_in}
 
 -- the source of a list's one edge
 abbrev pub only_source : List Edge → Option Vertex

@@ -3,16 +3,11 @@ use Rattle.std.specs.Prelude.{◌≡◌, ◌≢◌, ◌⊎◌, true, List, [], �
 use Rattle.std.specs.List.{AllByRecursion}
 use Rattle.std.specs.declared.cmp.Ordering.TheVariants.{Less}
 use Rattle.edge_lattice.specs.declared.state.State.TheVariants.{Absent, Live}
-use Rattle.grove_sorts.specs.declared.ctor.Ctor.TheVariants.{Root}
 use Rattle.grove_edits.specs.declared.vertex.Vertex.{Vertex}
 use Rattle.grove_edits.specs.declared.edge.Edge.{Edge}
-use Rattle.grove_edits.specs.Vertex.{vertex_cmp}
+use Rattle.grove_edits.specs.Vertex.{root, vertex_cmp, stands_in}
 use Rattle.grove_edits.specs.Graph.{Graph}
-use Rattle.walks.specs.Live.{IsInEdgeOrder, holds_edge, stands_in}
-
--- the vertex `0.0 root`
-abbrev pub root : Vertex
-root = record { name = record { author = 0; counter = 0 }; ctor = Root }
+use Rattle.walks.specs.Live.{IsInEdgeOrder, holds_edge}
 
 -- the vertex `0.0 root`, or an end of an edge that is not Absent
 abbrev pub IsVertexOf : Graph → Vertex → Type 0

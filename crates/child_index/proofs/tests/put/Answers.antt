@@ -3,8 +3,8 @@ use Rattle.std.specs.Prelude.{◌&&◌}
 use Rattle.std.specs.Ordering.{is_eq}
 use Rattle.std.proofs.lemmas.Cmp.{tied_itself}
 use Rattle.grove_sorts.proofs.Orders.{position_cmp_total}
-use Rattle.walks.specs.Live.{is_same_position}
-use Rattle.walks.proofs.Vertices.{same_vertex_itself}
+use Rattle.grove_sorts.specs.Position.{is_same_position}
+use Rattle.grove_edits.proofs.Vertices.{same_vertex_itself}
 use Rattle.child_index.specs.Place.{room_at_place, is_from}
 use Rattle.child_index.proofs.tests.put.Goals as goal
 

@@ -2,7 +2,7 @@ use Rattle.std.proofs.Common.{◌≡◌, ℕ, ◌+◌, None, ap, is_some, unwrap
 use Rattle.std.specs.Prelude.{IsSome}
 use Rattle.std.specs.BTreeMap.{BTreeMap}
 use Rattle.grove_edits.specs.declared.vertex.Vertex.{Vertex}
-use Rattle.walks.specs.Live.{is_same_vertex}
+use Rattle.grove_edits.specs.Vertex.{is_same_vertex}
 use Rattle.graph_store.specs.Counts.{count_at, count_of, once}
 use Rattle.graph_store.proofs.Counts.{get_vertex, counts_kept, counted_up, counted_same, counted_new, new_has_number, others_have_numbers}
 use Rattle.graph_store.proofs.ends.count_in.Goals as goal

@@ -1,6 +1,6 @@
 use Rattle.std.proofs.Common.{◌≡◌, true, false, sym, ap, ◌∙◌}
-use Rattle.walks.specs.Live.{is_same_vertex}
-use Rattle.walks.proofs.Vertices.{same_vertex_exact, same_vertex_itself}
+use Rattle.grove_edits.specs.Vertex.{is_same_vertex}
+use Rattle.grove_edits.proofs.Vertices.{same_vertex_exact, same_vertex_itself}
 use Rattle.grove_decompose.specs.Tasks.{is_shared}
 use Rattle.grove_decompose.proofs.Under.{what_of_shared, what_of_root, what_of_inner}
 use Rattle.grove_decompose.proofs.child.what_of.Goals as goal

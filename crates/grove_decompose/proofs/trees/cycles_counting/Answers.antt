@@ -1,7 +1,7 @@
 use Rattle.std.proofs.Common.{◌≡◌, true, sym, ap, subst, ◌∙◌}
 use Rattle.std.specs.List.{AllByRecursion}
 use Rattle.walks.specs.declared.class.Class.TheVariants.{Cycle}
-use Rattle.walks.specs.Live.{stands_in}
+use Rattle.grove_edits.specs.Vertex.{stands_in}
 use Rattle.walks.specs.Class.{of_class}
 use Rattle.graph_table.specs.Table.{live}
 use Rattle.grove_decompose.proofs.ByNumber.{all_of}

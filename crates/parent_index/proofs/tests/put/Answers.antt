@@ -1,5 +1,5 @@
 use Rattle.std.proofs.Common.{◌≤◌, cond, [], ◌∷◌, length, subst, arith}
-use Rattle.walks.proofs.Vertices.{same_vertex_itself}
+use Rattle.grove_edits.proofs.Vertices.{same_vertex_itself}
 use Rattle.parent_index.specs.Target.{room_at_vertex}
 use Rattle.parent_index.proofs.tests.put.Goals as goal
 

@@ -1,5 +1,5 @@
 use Rattle.std.proofs.Common.{◌≡◌, filter, take}
-use Rattle.walks.specs.Live.{stands_in}
+use Rattle.grove_edits.specs.Vertex.{stands_in}
 use Rattle.unicycle_roots.proofs.roots.held.Given as goal
 
 abbrev pub invariant-loop-vertex : goal.invariant-loop-vertex

@@ -2,7 +2,7 @@ use Rattle.std.proofs.Common.{◌+◌, Option, ap, refl, subst, sym, ◌∙◌}
 use Rattle.std.proofs.lemmas.List.{get_or_read}
 use Rattle.grove_edits.specs.declared.vertex.Vertex.{Vertex}
 use Rattle.unicycle_roots.specs.Met.{HasEnded}
-use Rattle.walks.specs.Live.{stands_in}
+use Rattle.grove_edits.specs.Vertex.{stands_in}
 use Rattle.unicycle_roots.proofs.Found.{AreFound, found_none, found_one, all_found}
 use Rattle.unicycle_roots.proofs.roots.roots_above.Goals as goal
 use Rattle.unicycle_roots.proofs.roots.roots_above.Goals.{in-Some+in_ok-add, in_default}

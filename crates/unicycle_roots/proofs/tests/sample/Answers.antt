@@ -6,7 +6,7 @@ use Rattle.grove_sorts.specs.declared.position.Position.TheVariants.{Main, Opera
 use Rattle.grove_edits.specs.declared.vertex.Vertex.{Vertex}
 use Rattle.grove_edits.specs.declared.edge.Edge.{Edge}
 use Rattle.walks.specs.Live.{IsInEdgeOrder, targets_of}
-use Rattle.walks.specs.Whole.{root}
+use Rattle.grove_edits.specs.Vertex.{root}
 use Rattle.unicycle_roots.proofs.tests.sample.Goals as goal
 
 abbrev vertex : ℕ → Ctor → Vertex

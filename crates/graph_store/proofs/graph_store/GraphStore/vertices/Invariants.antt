@@ -1,5 +1,5 @@
 use Rattle.std.proofs.Common.{◌≡◌, ◌∷◌, ◌++◌}
-use Rattle.walks.specs.Whole.{root}
+use Rattle.grove_edits.specs.Vertex.{root}
 use Rattle.graph_store.proofs.VertexOrder.{is_counted}
 use Rattle.graph_store.proofs.Parts.{kept}
 use Rattle.graph_store.proofs.graph_store.GraphStore.vertices.Given as goal

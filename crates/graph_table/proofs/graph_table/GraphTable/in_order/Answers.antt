@@ -2,7 +2,7 @@ use Rattle.std.proofs.Common.{Vec, Global, IfOk, subst, ap, ◌≡◌, ◌∙◌
 use Rattle.std.proofs.lemmas.Result.{IfOk-weaker}
 use Rattle.std.specs.List.{AllByRecursion}
 use Rattle.grove_edits.specs.declared.vertex.Vertex.{Vertex}
-use Rattle.walks.specs.Live.{stands_in}
+use Rattle.grove_edits.specs.Vertex.{stands_in}
 use Rattle.graph_table.specs.declared.numbered.Numbered.{Numbered}
 use Rattle.graph_table.specs.Table.{Table, IsNumbered}
 use Rattle.graph_table.specs.Around.{IsTable}

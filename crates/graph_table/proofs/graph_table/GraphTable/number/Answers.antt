@@ -1,6 +1,6 @@
 use Rattle.std.proofs.Common.{◌∙◌, ap}
 use Rattle.std.specs.List.{position}
-use Rattle.walks.specs.Live.{stands_in}
+use Rattle.grove_edits.specs.Vertex.{stands_in}
 use Rattle.graph_table.specs.Table.{Table}
 use Rattle.graph_table.proofs.Numbers.{eq, any_is_stands_in}
 use Rattle.graph_table.proofs.Readings.{numbers_found}

@@ -1,6 +1,6 @@
 use Rattle.std.proofs.Common.{◌<◌, ◌+◌, cond, sym, ap, subst, ◌∙◌}
 use Rattle.std.specs.Ordering.{is_eq}
-use Rattle.walks.specs.Live.{is_same_vertex}
+use Rattle.grove_edits.specs.Vertex.{is_same_vertex}
 use Rattle.edge_index.specs.Lists.{room_at}
 use Rattle.parent_index.specs.contracts.target.TargetOrd.TheImpl as impl
 use Rattle.parent_index.specs.Target.{room_at_vertex}

@@ -1,0 +1,37 @@
+-- What a well-formed edge has: good vertices, a position of its source, and a target of the sort that the position wants.
+use Rattle.std.proofs.Common.{◌≡◌, Bool, true, false, cond, Option, Some, None, is_none, is_some, refl, sym, ap, ◌∙◌}
+use Rattle.grove_sorts.specs.declared.sort.Sort.{Sort}
+use Rattle.grove_sorts.specs.declared.sort.Sort.TheVariants.{Top, Exp, Pat, Typ}
+use Rattle.grove_sorts.specs.Ctor.{sort_of_ctor, sort_at}
+use Rattle.grove_edits.specs.declared.edge.Edge.{Edge}
+use Rattle.grove_edits.specs.declared.edge.EdgeFault.TheVariants.{BadVertex, NoPosition, WrongSort}
+use Rattle.grove_edits.specs.Edge.{IsWellFormed, has_good_vertices, has_position, has_sort, is_sort}
+
+-- the three tests of an edge that has no fault
+all_pass : (good placed sorted : Bool) → is_none (cond good (cond placed (cond sorted None (Some WrongSort)) (Some NoPosition)) (Some BadVertex)) ≡ true
+    → (good ≡ true) × (placed ≡ true) × (sorted ≡ true)
+all_pass true true true h = (refl, refl, refl)
+all_pass true true false h = absurd cc
+all_pass true false sorted h = absurd cc
+all_pass false placed sorted h = absurd cc
+
+pub good_vertices : (e : Edge) → IsWellFormed e → has_good_vertices e ≡ true
+good_vertices e well = (all_pass (has_good_vertices e) (has_position e) (has_sort e) well).0
+
+-- sorts that the test finds the same are one
+pub one_sort : (s t : Sort) → is_sort (Some s) t ≡ true → t ≡ s
+one_sort Top Top h = refl
+one_sort Exp Exp h = refl
+one_sort Pat Pat h = refl
+one_sort Typ Typ h = refl
+one_sort _ _ h = absurd cc
+
+one_answer : (found : Option Sort) (t : Sort) → is_sort found t ≡ true → found ≡ Some t
+one_answer None t h = absurd cc
+one_answer (Some s) t h = ap Some (sym (one_sort s t h))
+
+-- the position of a well-formed edge wants children of its target's sort
+pub place_fits : (e : Edge) → IsWellFormed e → sort_at e.source.ctor e.position ≡ Some (sort_of_ctor e.target.ctor)
+place_fits e well =
+    one_answer (sort_at e.source.ctor e.position) (sort_of_ctor e.target.ctor)
+    (all_pass (has_good_vertices e) (has_position e) (has_sort e) well).2
