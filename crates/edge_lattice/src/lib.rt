@@ -5,3 +5,6 @@
 mod state;
 
 pub use state::{State, join, join_is_a_semilattice, leq};
+
+#[cfg(test)]
+mod tests;
