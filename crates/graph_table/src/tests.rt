@@ -71,7 +71,7 @@ fn edit(
 fn table_of(alloc: Global, edits: &[Edit]) -> Result<GraphTable, Fail> {
     let mut list = EditList::new(alloc);
     list.extend_from_slice(edits)?;
-    let list = list.into_canonical(alloc)?;
+    let list = list.into_canonical();
     Ok(GraphTable::of(alloc, list)?)
 }
 

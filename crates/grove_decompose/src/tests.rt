@@ -126,7 +126,7 @@ fn sample(alloc: Global) -> Result<GraphTable, Fail> {
     ] {
         edits.push(Edit::insert(inserted)?)?;
     }
-    Ok(GraphTable::of(alloc, edits.into_canonical(alloc)?)?)
+    Ok(GraphTable::of(alloc, edits.into_canonical())?)
 }
 
 #[test]

@@ -1,12 +1,12 @@
 -- The last edit of each run of equal edges in a sorted list is the canonical list.
-use Rattle.std.proofs.Common.{◌≡◌, ℕ, zero, suc, ◌+◌, ◌-◌, ◌<◌, ◌≤◌, Bool, true, false, cond, List, [], ◌∷◌, ◌++◌, length, get_or, take, drop, append_assoc, add-one, drop-cons, refl, sym, ap, subst, ◌∙◌, arith}
+use Rattle.std.proofs.Common.{◌≡◌, ℕ, zero, suc, ◌+◌, ◌-◌, ◌<◌, ◌≤◌, Bool, true, false, cond, List, [], ◌∷◌, ◌++◌, length, get_or, set, take, drop, append_assoc, add-one, drop-cons, refl, sym, ap, subst, ◌∙◌, arith}
 use Rattle.std.specs.List.{AllByRecursion}
 use Rattle.std.specs.declared.cmp.Ordering.{Ordering}
 use Rattle.std.specs.declared.cmp.Ordering.TheVariants.{Less, Equal, Greater}
 use Rattle.std.specs.Ordering.{is_eq, is_gt, is_lt, ordering_reverse, ordering_then, nat_cmp}
 use Rattle.std.specs.List.Sorted.{IsSorted}
 use Rattle.std.specs.Cmp.{IsTotalOrder}
-use Rattle.std.proofs.lemmas.List.{append-nil, take_rest, drop_all, get_or_default}
+use Rattle.std.proofs.lemmas.List.{append-nil, take_rest, take_more_set, drop_all, drop-set-lt, get_or_default, length-set}
 use Rattle.std.proofs.lemmas.Cmp.{alike_right, on_total, then_total, nat_cmp_total}
 use Rattle.edge_lattice.specs.declared.state.State.{State}
 use Rattle.edge_lattice.specs.declared.state.State.TheVariants.{Absent, Live, Deleted}
@@ -201,8 +201,44 @@ chain_from_sorted : (xs : List Edit) → IsSorted edit_impl.ghosts.cmp xs → Is
 chain_from_sorted [] up = tt
 chain_from_sorted (x ∷ xs) up = chain_after x xs up
 
-pub all_kept : (xs edits : List Edit) (i : ℕ) → length xs ≤ i → IsSorted edit_impl.ghosts.cmp xs → edits ++ kept (drop i xs) ≡ kept xs → IsCanonical (graph xs) edits
-all_kept xs edits i le up so_far =
-    let none : drop i xs ≡ [] = drop_all i xs le in
-    let is : edits ≡ kept xs = sym (append-nil edits) ∙ ap (λ (ys : List Edit). edits ++ kept ys) (sym none) ∙ so_far in
+-- ---- the loop in place
+
+-- a list after its first i edits were gone over: those of them that are kept stand at its front, and behind the i edits nothing has
+-- changed
+pub record AreCompacted (xs ys : List Edit) (len i : ℕ) : Type 0 where
+  pub below : len ≤ i
+  pub long : length ys ≡ length xs
+  pub front : take len ys ++ kept (drop i ys) ≡ kept xs
+
+pub compacted_first : (xs : List Edit) → AreCompacted xs xs 0 0
+compacted_first xs = record { below = omega arith; long = refl; front = refl }
+
+pub compacted_skipped : (xs ys : List Edit) (len i : ℕ) (x : Edit) → i < length ys → x ≡ get_or ys i x
+    → (zs : List Edit) → zs ≡ ys → true ≡ begins_with (edit_edge x) (take (length zs - (i + 1)) (drop (i + 1) zs))
+    → AreCompacted xs ys len i → AreCompacted xs ys len (i + 1)
+compacted_skipped xs ys len i x lt is zs lent tested so_far =
+    let below = so_far.below in
+    let test = subst (λ (us : List Edit). true ≡ begins_with (edit_edge x) (take (length us - (i + 1)) (drop (i + 1) us))) lent tested in
+    record { below = omega arith; long = so_far.long; front = skipped ys (take len ys) (kept xs) i x lt is test so_far.front }
+
+pub compacted_pushed : (xs ys : List Edit) (len i : ℕ) (x y : Edit) → i < length ys → x ≡ get_or ys i x → y ≡ get_or ys i y
+    → (zs : List Edit) → zs ≡ ys → false ≡ begins_with (edit_edge x) (take (length zs - (i + 1)) (drop (i + 1) zs))
+    → AreCompacted xs ys len i → AreCompacted xs (set ys len y) (len + 1) (i + 1)
+compacted_pushed xs ys len i x y lt is is_too zs lent tested so_far =
+    let below = so_far.below in
+    let test = subst (λ (us : List Edit). false ≡ begins_with (edit_edge x) (take (length us - (i + 1)) (drop (i + 1) us))) lent tested in
+    let front : take (len + 1) (set ys len y) ≡ take len ys ++ y ∷ [] = take_more_set ys len y (omega arith) in
+    let rest : drop (i + 1) (set ys len y) ≡ drop (i + 1) ys = drop-set-lt (i + 1) ys len y (omega arith) in
+    record {
+      below = omega arith;
+      long = length-set ys len y ∙ so_far.long;
+      front = ap (λ zs. zs ++ kept (drop (i + 1) (set ys len y))) front ∙ ap (λ zs. (take len ys ++ y ∷ []) ++ kept zs) rest
+          ∙ pushed ys (take len ys) (kept xs) i x y lt is is_too test so_far.front;
+    }
+
+pub compacted_all : (xs ys : List Edit) (len i : ℕ) → length xs ≤ i → IsSorted edit_impl.ghosts.cmp xs → AreCompacted xs ys len i → IsCanonical (graph xs) (take len ys)
+compacted_all xs ys len i le up all =
+    let long = all.long in
+    let none : drop i ys ≡ [] = drop_all i ys (omega arith) in
+    let is : take len ys ≡ kept xs = sym (append-nil (take len ys)) ∙ ap (λ zs. take len ys ++ kept zs) (sym none) ∙ all.front in
     subst (IsCanonical (graph xs)) (sym is) (kept_is_canonical xs (chain_from_sorted xs up))

@@ -1,24 +1,23 @@
-ghost use Rattle.std.specs.Prelude.{◌≡◌, IfOk};
+ghost use Rattle.std.specs.Prelude.{◌≡◌};
 ghost use Rattle.std.specs.List.Sorted.{IsSorted};
 ghost use Rattle.grove_edits.specs.Edit.{edit_edge};
 ghost use Rattle.grove_edits.specs.Graph.{begins_with, graph, IsCanonical};
 
 use crate::edit::Edit;
-use crate::no_memory::NoMemory;
-use std::alloc::Global;
 
-// In a sorted list the last edit of an edge is the greatest.
-pub(crate) fn last_of_each_edge(alloc: Global, sorted: &[Edit]) -> Result<Vec<Edit>, NoMemory>
-    requires { IsSorted ⟦<Edit as Ord>⟧.cmp sorted.now }
-    ensures { IfOk result (λ edits. IsCanonical (graph sorted.now) edits.items) }
+// Keeps the last edit of each edge. In a sorted list that is the greatest.
+pub(crate) fn keep_last_of_each_edge(edits: &mut Vec<Edit>)
+    requires { IsSorted ⟦<Edit as Ord>⟧.cmp edits.old.items }
+    ensures { IsCanonical (graph edits.old.items) edits.new.items }
 {
-    let mut edits = Vec::with_capacity(alloc, sorted.len())?;
-    for i in 0..sorted.len() {
-        if !begins_with_edge(&sorted[i + 1..], &sorted[i]) {
-            edits.push(sorted[i])?;
+    let mut len = 0;
+    for i in 0..edits.len() {
+        if !begins_with_edge(&edits[i + 1..], &edits[i]) {
+            edits[len] = edits[i];
+            len += 1;
         }
     }
-    Ok(edits)
+    edits.truncate(len);
 }
 
 // Whether the first of the edits has the same edge as this one.

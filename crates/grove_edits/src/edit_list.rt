@@ -1,7 +1,7 @@
-ghost use Rattle.std.specs.Prelude.{◌≡◌, ◌∷◌, [], ◌++◌, List, length, slice_get, IfOk, IsTrue, ◌↔◌, OnOk, OnErr};
+ghost use Rattle.std.specs.Prelude.{◌≡◌, ◌∷◌, [], ◌++◌, List, length, slice_get, IsTrue, ◌↔◌, OnOk, OnErr};
 ghost use Rattle.grove_edits.specs.Graph.{graph, IsCanonical};
 
-use crate::canonical::last_of_each_edge;
+use crate::canonical::keep_last_of_each_edge;
 use crate::edit::Edit;
 use crate::no_memory::NoMemory;
 use std::alloc::Global;
@@ -75,12 +75,13 @@ impl EditList {
     }
 
     /// The canonical list of the graph that the edits make: one edit for each edge that they name, in edge order.
-    pub fn into_canonical(self, alloc: Global) -> Result<EditList, NoMemory>
-        ensures canonical { IfOk result (λ list. IsCanonical (graph self) list) }
+    /// It takes no memory.
+    pub fn into_canonical(self) -> EditList
+        ensures canonical { IsCanonical (graph self) result }
     {
         let EditList { mut edits } = self;
         edits.sort_unstable();
-        let edits = last_of_each_edge(alloc, &edits)?;
-        Ok(EditList { edits })
+        keep_last_of_each_edge(&mut edits);
+        EditList { edits }
     }
 }

@@ -50,7 +50,7 @@ fn a_deletion_wins(rt: HostRuntime) -> Result<(), Fail> {
     edits.push(other)?;
     edits.push(deleted)?;
     edits.extend_from_slice(&[inserted])?;
-    let canonical = edits.into_canonical(rt.alloc())?;
+    let canonical = edits.into_canonical();
     assert_eq!(rt; canonical.len(), 2);
     assert_eq!(rt; canonical.get(0), Some(deleted));
     assert_eq!(rt; canonical.get(1), Some(other));
