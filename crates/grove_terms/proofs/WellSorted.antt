@@ -11,16 +11,20 @@ use Rattle.grove_edits.specs.declared.vertex.Vertex.{Vertex}
 use Rattle.grove_edits.specs.declared.edge.Edge.{Edge}
 use Rattle.grove_edits.specs.declared.edit.Edit.{Edit}
 use Rattle.grove_edits.specs.Edge.{IsWellFormed, edge_fault}
-use Rattle.grove_edits.specs.Graph.{graph, is_same_edge}
+use Rattle.grove_edits.specs.Graph.{Graph, graph, is_same_edge}
 use Rattle.grove_edits.proofs.Orders.{same_edge_laws}
 use Rattle.grove_edits.proofs.Graphs.{unnamed}
 use Rattle.walks.specs.Live.{children_of, holds_edge}
 use Rattle.grove_edits.specs.Vertex.{is_same_vertex}
 use Rattle.walks.specs.Whole.{AreLive}
 use Rattle.grove_edits.proofs.Vertices.{same_vertex_exact}
-use Rattle.grove_terms.specs.Forest.{Forest, none, multi_ref, cycle_ref, tree, child_edges, edges_from, edges_under, AreChildren, StandsUnder, IsChildOf, IsWellSorted}
 use Rattle.grove_sorts.proofs.Rows.{positions_rise}
 use Rattle.grove_sorts.proofs.Orders.{one_position}
+use Rattle.grove_terms.specs.declared.node.Node.{Node}
+use Rattle.grove_terms.specs.declared.grove.Grove.{Grove}
+use Rattle.grove_terms.specs.Forest.{Forest, none, multi_ref, cycle_ref, tree, child_edges, edges_from, edges_under, AreChildren, StandsUnder, IsChildOf, IsWellSorted}
+use Rattle.grove_terms.specs.Grove.{IsTreeOf, AreTreesOf, IsGrove}
+use Rattle.grove_terms.specs.Sorted.{IsSortedTree, AreSortedTrees, IsSortedGrove}
 
 -- ---- the live edges of a graph of edits
 
@@ -40,8 +44,11 @@ well_formed_from_live edits e live = by_test (is_none (edge_fault e)) refl where
   by_test true well = well
   by_test false ill = let absent = unnamed edits e ill in absurd cc
 
+well_formed_of : (g : Graph) (live : List Edge) → ((e : Edge) → g e ≡ Live → IsWellFormed e) → AreLive g live → AllByRecursion IsWellFormed live
+well_formed_of g live each are = all_from_held live (λ e held. each e (are.no_other e held))
+
 pub live_well_formed : (edits : List Edit) (live : List Edge) → AreLive (graph edits) live → AllByRecursion IsWellFormed live
-live_well_formed edits live are = all_from_held live (λ e held. well_formed_from_live edits e (are.no_other e held))
+live_well_formed edits live are = well_formed_of (graph edits) live (well_formed_from_live edits) are
 
 -- ---- the edges under a vertex
 
@@ -105,3 +112,23 @@ stands_sorted live v forest well stands =
 
 pub trees_sorted : (edits : List Edit) (live : List Edge) (v : Vertex) (forest : Forest) → AreLive (graph edits) live → StandsUnder live v forest → IsWellSorted v forest
 trees_sorted edits live v forest are stands = stands_sorted live v forest (live_well_formed edits live are) stands
+
+-- ---- the trees and the grove of a graph
+
+pub sorted_tree : (live : List Edge) (v : Vertex) (nodes : List Node) → AllByRecursion IsWellFormed live → IsTreeOf live v nodes → IsSortedTree nodes
+sorted_tree live v nodes well of_v = record { head = v; forest = of_v.forest; well_sorted = stands_sorted live v of_v.forest well of_v.stands; listed = of_v.listed }
+
+sorted_trees : (live : List Edge) (vs : List Vertex) (ts : List (List Node)) → AllByRecursion IsWellFormed live → AreTreesOf live vs ts → AreSortedTrees ts
+sorted_trees live [] [] well of_vs = tt
+sorted_trees live [] (t ∷ ts) well of_vs = absurd of_vs
+sorted_trees live (v ∷ vs) [] well of_vs = absurd of_vs
+sorted_trees live (v ∷ vs) (t ∷ ts) well of_vs = (sorted_tree live v t well of_vs.0, sorted_trees live vs ts well of_vs.1)
+
+-- the grove of a graph whose live edges are well formed
+pub sorted_grove : (g : Graph) (grove : Grove) → ((e : Edge) → g e ≡ Live → IsWellFormed e) → IsGrove g grove → IsSortedGrove grove
+sorted_grove g grove each is =
+    let well = well_formed_of g is.live each is.are_live in
+    record { none = sorted_trees is.live _ grove.none well is.none; multi = sorted_trees is.live _ grove.multi well is.multi; cycle = sorted_trees is.live _ grove.cycle well is.cycle }
+
+pub groves_sorted : (edits : List Edit) (grove : Grove) → IsGrove (graph edits) grove → IsSortedGrove grove
+groves_sorted edits grove is = sorted_grove (graph edits) grove (well_formed_from_live edits) is
