@@ -1,5 +1,5 @@
 -- The roots that the walks up from the first of some vertices have found.
-use Rattle.std.proofs.Common.{◌≡◌, ℕ, suc, ◌+◌, ◌<◌, ◌≤◌, Bool, true, false, cond, List, [], ◌∷◌, length, get_or, refl, sym, ap, ◌∙◌, arith, inl, inr, is_some, IsSome, filter}
+use Rattle.std.proofs.Common.{◌≡◌, ℕ, suc, ◌+◌, ◌*◌, ◌<◌, ◌≤◌, Bool, true, false, cond, List, [], ◌∷◌, length, get_or, refl, sym, ap, ◌∙◌, arith, inl, inr, is_some, IsSome, filter}
 use Rattle.std.specs.Prelude.{◌||◌, leb, Option, None, Some}
 use Rattle.std.specs.Cmp.{both_ways}
 use Rattle.std.proofs.lemmas.Bool.{leb-true, leb-false}
@@ -118,3 +118,18 @@ pub roots_are_cycles : (edges : List Edge) (vertices roots : List Vertex) → ((
     → filter (λ v. stands_in v roots) vertices ≡ of_class Cycle edges vertices
 roots_are_cycles edges vertices roots each =
     filter_same (λ v. stands_in v roots) (λ v. is_same_class (class edges v) Cycle) vertices (λ v stands. each v stands ∙ sym (class_is_cycle edges v))
+
+-- ---- how many steps the walks took
+
+-- a walk, and the way round the cycle that it found
+pub ticks_more : (i j left before after round from start now around : ℕ) → from + 4 * before ≤ start + 4 * left + 3 * i → round + after ≤ before → now + 2 * after ≤ from + 2 * before + 3
+    → around ≤ now + 2 * round → j ≡ i + 1 → around + 4 * after ≤ start + 4 * left + 3 * j
+ticks_more i j left before after round from start now around so_far within walked further e = omega arith
+
+-- and where memory ran out
+pub ticks_within : (i n left before after round from start now around : ℕ) → from + 4 * before ≤ start + 4 * left + 3 * i → round + after ≤ before → now + 2 * after ≤ from + 2 * before + 3
+    → around ≤ now + 2 * round → i < n → around ≤ start + 4 * left + 3 * n
+ticks_within i n left before after round from start now around so_far within walked further lt = omega arith
+
+pub ticks_cut_off : (i n left before from start now : ℕ) → from + 4 * before ≤ start + 4 * left + 3 * i → now ≤ from + 2 * before → i < n → now ≤ start + 4 * left + 3 * n
+ticks_cut_off i n left before from start now so_far walked lt = omega arith

@@ -13,7 +13,7 @@ use Rattle.grove_edits.proofs.Orders.{vertex_cmp_total, cmp_is_vertex_cmp}
 use Rattle.grove_edits.specs.Vertex.{is_same_vertex, stands_in}
 use Rattle.unicycle_roots.specs.Met.{met_by}
 
-same_vertex_laws : IsEquivalence is_same_vertex
+pub same_vertex_laws : IsEquivalence is_same_vertex
 same_vertex_laws = eq_by_cmp_equiv vertex_cmp_total
 
 test_is_same : (v k : Vertex) → is_at (vertex_impl.ghosts.cmp v) k ≡ is_same_vertex v k

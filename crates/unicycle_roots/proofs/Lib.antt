@@ -4,3 +4,4 @@ pub mod Around
 pub mod Meetings
 pub mod Found
 pub mod Keys
+pub mod Unmet

@@ -1,15 +1,17 @@
 -- A walk up that gives a number to each vertex that it meets first.
 use Rattle.std.proofs.Common.{◌≡◌, ℕ, suc, ◌+◌, ◌*◌, ◌<◌, ◌≤◌, true, false, cond, refl, sym, ap, ◌∙◌, arith, inl, inr, ◌⊎◌, is_some, IsSome}
-use Rattle.std.specs.Prelude.{List, Option, None, Some}
+use Rattle.std.specs.Prelude.{List, length, Option, None, Some}
 use Rattle.grove_edits.specs.declared.vertex.Vertex.{Vertex}
 use Rattle.grove_edits.specs.declared.edge.Edge.{Edge}
 use Rattle.grove_edits.specs.Vertex.{is_same_vertex}
+use Rattle.walks.specs.Live.{parents_of}
 use Rattle.walks.specs.Walk.{above}
 use Rattle.walks.specs.Class.{is_cycle_root}
 use Rattle.grove_edits.proofs.Vertices.{same_vertex_exact, same_vertex_itself}
 use Rattle.walks.proofs.Up.{up, walk_len, walk_back}
-use Rattle.unicycle_roots.specs.Met.{leads_to, met_by, KeepsMet, HasEnded}
+use Rattle.unicycle_roots.specs.Met.{leads_to, met_by, unmet, round_len, KeepsMet, HasEnded}
 use Rattle.walks.proofs.Returns.{some_same, up_from}
+use Rattle.unicycle_roots.proofs.Unmet.{HasEntered, unmet-entered, sole_parent, no_longer}
 use Rattle.unicycle_roots.proofs.Cycles.{Reaches, leads_from_reaches, reaches_from_leads, back_from_return, cycle_from_back, root_further, no_root_below_none}
 
 abbrev pub Met : Type 0
@@ -22,8 +24,9 @@ pub record IsMeeting (edges : List Edge) (first at : Vertex) (number : ℕ) (bef
   pub passed : (i : ℕ) (x : Vertex) → i < n → up edges i (Some first) ≡ Some x → IsSome (met_by after x)
   pub within : n ≤ walk_len edges first
   pub counted : now ≡ start + 2 * n
+  pub fewer : n + unmet edges after ≤ unmet edges before
   pub kept : KeepsMet number before after
-  pub below : (v : Vertex) → met_by after v ≡ Some number → (m : ℕ) × (up edges (suc m) (Some v) ≡ Some at)
+  pub below : (v : Vertex) → met_by after v ≡ Some number → (m : ℕ) × (m < n) × (up edges (suc m) (Some v) ≡ Some at)
 
 -- the same after the vertex got the number
 pub record IsEntered (edges : List Edge) (first at : Vertex) (number : ℕ) (before after : Met) (start now : ℕ) : Type 0 where
@@ -32,13 +35,11 @@ pub record IsEntered (edges : List Edge) (first at : Vertex) (number : ℕ) (bef
   pub passed : (i : ℕ) (x : Vertex) → i ≤ n → up edges i (Some first) ≡ Some x → IsSome (met_by after x)
   pub within : n < walk_len edges first
   pub counted : now ≡ start + 2 * n
+  pub fewer : n + length (parents_of at edges) + unmet edges after ≤ unmet edges before
   pub kept : KeepsMet number before after
-  pub below : (v : Vertex) → met_by after v ≡ Some number → Reaches edges v at
+  pub below : (v : Vertex) → met_by after v ≡ Some number → (m : ℕ) × (m ≤ n) × (up edges m (Some v) ≡ Some at)
 
 -- ---- a vertex gets the number
-
-abbrev pub HasEntered : Vertex → ℕ → Met → Met → Type 0
-HasEntered at number after then = (v : Vertex) → met_by then v ≡ cond (is_same_vertex at v) (Some number) (met_by after v)
 
 some_from : (o : Option ℕ) (k : ℕ) → o ≡ Some k → IsSome o
 some_from None k is = absurd cc
@@ -66,12 +67,13 @@ entered_kept at number before after then new entered kept v =
       | false ↦ λ _ is. elim (kept v) [ inl e ↦ inl (is ∙ e) | inr got ↦ inr (got.0, is ∙ got.1) ]
     ] refl (entered v)
 
-entered_below : (edges : List Edge) (at : Vertex) (number : ℕ) (after then : Met) → HasEntered at number after then
-    → ((v : Vertex) → met_by after v ≡ Some number → (m : ℕ) × (up edges (suc m) (Some v) ≡ Some at)) → (v : Vertex) → met_by then v ≡ Some number → Reaches edges v at
-entered_below edges at number after then entered below v has =
-    elim (is_same_vertex at v) as (λ b. is_same_vertex at v ≡ b → met_by then v ≡ cond b (Some number) (met_by after v) → Reaches edges v at) [
-      | true ↦ λ same _. (0, ap Some (sym (same_vertex_exact at v same)))
-      | false ↦ λ _ is. let found = below v (sym is ∙ has) in (suc found.0, found.1)
+entered_below : (edges : List Edge) (at : Vertex) (number n : ℕ) (after then : Met) → HasEntered at number after then
+    → ((v : Vertex) → met_by after v ≡ Some number → (m : ℕ) × (m < n) × (up edges (suc m) (Some v) ≡ Some at)) → (v : Vertex) → met_by then v ≡ Some number
+    → (m : ℕ) × (m ≤ n) × (up edges m (Some v) ≡ Some at)
+entered_below edges at number n after then entered below v has =
+    elim (is_same_vertex at v) as (λ b. is_same_vertex at v ≡ b → met_by then v ≡ cond b (Some number) (met_by after v) → (m : ℕ) × (m ≤ n) × (up edges m (Some v) ≡ Some at)) [
+      | true ↦ λ same _. (0, omega arith, ap Some (sym (same_vertex_exact at v same)))
+      | false ↦ λ _ is. let found = below v (sym is ∙ has) in (suc found.0, omega (arith, found.1), found.2)
     ] refl (entered v)
 
 -- a vertex that was not met is not behind the end of the walk
@@ -88,14 +90,17 @@ not_ended edges first at n after there new passed within =
 pub meeting_entered : (edges : List Edge) (first at : Vertex) (number : ℕ) (before after then : Met) (start now : ℕ) → IsMeeting edges first at number before after start now
     → met_by after at ≡ None → HasEntered at number after then → IsEntered edges first at number before then start now
 meeting_entered edges first at number before after then start now meeting new entered =
+    let fewer = meeting.fewer in
+    let with_it = unmet-entered edges at number after then new entered in
     record {
       n = meeting.n;
       there = meeting.there;
       passed = entered_passed edges first at number meeting.n after then meeting.there entered meeting.passed;
       within = not_ended edges first at meeting.n after meeting.there new meeting.passed meeting.within;
       counted = meeting.counted;
+      fewer = omega arith;
       kept = entered_kept at number before after then new entered meeting.kept;
-      below = entered_below edges at number after then entered meeting.below;
+      below = entered_below edges at number meeting.n after then entered meeting.below;
     }
 
 pub meeting_next : (edges : List Edge) (first at x : Vertex) (number : ℕ) (before after : Met) (start now then : ℕ) → IsEntered edges first at number before after start now
@@ -104,14 +109,17 @@ meeting_next edges first at x number before after start now then entered next ti
     let n : ℕ = entered.n in
     let within = entered.within in
     let counted = entered.counted in
+    let fewer = entered.fewer in
+    let sole = sole_parent edges at x next in
     record {
       n = suc n;
       there = up_from edges first at n (Some x) entered.there next;
       passed = λ i y lt found. entered.passed i y (omega arith) found;
       within = omega arith;
       counted = omega arith;
+      fewer = omega arith;
       kept = entered.kept;
-      below = λ v has. let found = entered.below v has in (found.0, up_from edges v at found.0 (Some x) found.1 next);
+      below = λ v has. let found = entered.below v has in (found.0, omega (arith, found.1), up_from edges v at found.0 (Some x) found.2 next);
     }
 
 -- ---- the walk ends
@@ -121,7 +129,7 @@ pub ended_at_none : (edges : List Edge) (first at : Vertex) (number : ℕ) (befo
     → above edges at ≡ None → HasEnded edges number before after None
 ended_at_none edges first at number before after start now entered none v r has root leads =
     let found = entered.below v has in
-    absurd (no_root_below_none edges v r (suc found.0) root (reaches_from_leads edges v r leads) (up_from edges v at found.0 None found.1 none))
+    absurd (no_root_below_none edges v r (suc found.0) root (reaches_from_leads edges v r leads) (up_from edges v at found.0 None found.2 none))
 
 -- a root above what the walk met is above the vertex at which the walk ends
 root_from_end : (edges : List Edge) (at v r : Vertex) → is_cycle_root edges r ≡ true → leads_to edges v r ≡ true → Reaches edges v at → leads_to edges at r ≡ true
@@ -131,8 +139,8 @@ pub ended_at_itself : (edges : List Edge) (first at : Vertex) (number : ℕ) (be
     → met_by after at ≡ Some number → HasEnded edges number before after (Some at)
 ended_at_itself edges first at number before after start now meeting is =
     let return = meeting.below at is in (
-      cycle_from_back edges at (back_from_return edges at return.0 return.1),
-      λ v r has root leads. let found = meeting.below v has in root_from_end edges at v r root leads (suc found.0, found.1),
+      cycle_from_back edges at (back_from_return edges at return.0 return.2),
+      λ v r has root leads. let found = meeting.below v has in root_from_end edges at v r root leads (suc found.0, found.2),
     )
 
 pub ended_at_earlier : (edges : List Edge) (first at : Vertex) (number walk : ℕ) (before after : Met) (start now : ℕ) → IsMeeting edges first at number before after start now
@@ -143,10 +151,32 @@ ended_at_earlier edges first at number walk before after start now meeting is ot
       | inl e ↦ sym e ∙ is
       | inr got ↦ absurd (other (same_number (sym is ∙ got.1)))
     ] in
-    (at, walk, earlier, root_from_end edges at v r root leads (suc found.0, found.1))
+    (at, walk, earlier, root_from_end edges at v r root leads (suc found.0, found.2))
   where
     same_number : Some walk ≡ Some number → walk ≡ number
     same_number e = cc
+
+-- ---- how many steps the walk took
+
+-- the way round is no longer than the walk
+pub round_within : (edges : List Edge) (first at : Vertex) (number : ℕ) (before after : Met) (start now : ℕ) → IsMeeting edges first at number before after start now
+    → met_by after at ≡ Some number → walk_len edges at + unmet edges after ≤ unmet edges before
+round_within edges first at number before after start now meeting is =
+    let return = meeting.below at is in
+    let len = no_longer edges at (suc return.0) (omega arith) return.2 in
+    let fewer = meeting.fewer in
+    omega (arith, return.1)
+
+pub fewer_entered : (edges : List Edge) (first at : Vertex) (number : ℕ) (before after : Met) (start now : ℕ) → IsEntered edges first at number before after start now
+    → round_len edges None + unmet edges after ≤ unmet edges before
+fewer_entered edges first at number before after start now entered = let fewer = entered.fewer in omega arith
+
+pub ticks_entered : (edges : List Edge) (first at : Vertex) (number : ℕ) (before after : Met) (start now then : ℕ) → IsEntered edges first at number before after start now → then ≤ now + 3
+    → then + 2 * unmet edges after ≤ start + 2 * unmet edges before + 3
+ticks_entered edges first at number before after start now then entered ticks =
+    let fewer = entered.fewer in
+    let counted = entered.counted in
+    omega arith
 
 pub first_entered : (edges : List Edge) (first at : Vertex) (number : ℕ) (before after : Met) (start now : ℕ) → IsEntered edges first at number before after start now → IsSome (met_by after first)
 first_entered edges first at number before after start now entered = entered.passed 0 first (omega arith) refl

@@ -1,5 +1,5 @@
--- The vertices that walks up have met, each with the number of the walk that met it first.
-use Rattle.std.specs.Prelude.{◌≡◌, ◌<◌, ◌⊎◌, ℕ, Bool, true, List, Option, None, Some}
+-- Inner model, which no public contract cites: the vertices that walks up have met, each with the number of the walk that met it first.
+use Rattle.std.specs.Prelude.{◌≡◌, ◌<◌, ◌⊎◌, ℕ, Bool, true, List, Option, None, Some, is_none, filter, length}
 use Rattle.std.specs.Map.{lookup}
 use Rattle.grove_edits.specs.declared.vertex.Vertex.{Vertex}
 use Rattle.grove_edits.specs.declared.edge.Edge.{Edge}
@@ -18,6 +18,15 @@ is_on_cycle edges v = is_vertex_of v (above_last edges (walk edges v))
 -- the number of the walk that met the vertex first
 abbrev pub met_by : List (Vertex × ℕ) → Vertex → Option ℕ
 met_by met v = lookup (is_same_vertex v) met
+
+-- how many of the edges lead to a vertex that was not met
+abbrev pub unmet : List Edge → List (Vertex × ℕ) → ℕ
+unmet edges met = length (filter (λ e. is_none (met_by met e.target)) edges)
+
+-- how long the way round is from the vertex to which a walk came back, if it came back to one
+abbrev pub round_len : List Edge → Option Vertex → ℕ
+round_len edges None = 0
+round_len edges (Some v) = length (walk edges v)
 
 -- each vertex that was met keeps its number, and each other may have got this one
 abbrev pub KeepsMet : ℕ → List (Vertex × ℕ) → List (Vertex × ℕ) → Type 0

@@ -1,4 +1,4 @@
--- What a step up finds, as seen from the vertex that the walk began with.
+-- Inner model, which no public contract cites: what a step up finds, as seen from the vertex that the walk began with.
 use Rattle.std.specs.Prelude.{Option, None, Some}
 use Rattle.std.specs.declared.cmp.Ordering.{Ordering}
 use Rattle.std.specs.declared.cmp.Ordering.TheVariants.{Less, Equal, Greater}

@@ -1,4 +1,5 @@
-ghost use Rattle.std.specs.Prelude.{◌≡◌, true};
+ghost use Rattle.std.specs.Prelude.{◌≡◌, ◌+◌, ◌*◌, ◌≤◌, true, length};
+ghost use Rattle.walks.specs.Walk.{walk};
 ghost use Rattle.walks.specs.Class.{is_cycle_root};
 ghost use Rattle.unicycle_roots.specs.Met.{is_on_cycle, leads_to};
 
@@ -16,6 +17,7 @@ pub(crate) fn root_of_cycle<P: ParentOf, L: Ledger>(
     requires { is_on_cycle (P.live parents.now) entry.now ≡ true }
     ensures root { is_cycle_root (P.live parents.now) result ≡ true }
     ensures above { leads_to (P.live parents.now) entry.now result ≡ true }
+    ensures ticks { steps.new ≤ steps.old + 2 * length (walk (P.live parents.now) entry.now) }
 {
     let mut least = *entry;
     let mut at = *entry;

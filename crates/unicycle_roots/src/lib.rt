@@ -1,6 +1,6 @@
 //! The class of a vertex, by a walk up its live parent edges: whether it heads a tree of the grove, and why. The walk keeps no
-//! list. Also the roots of all cycles, for which no chain of vertices is walked up twice. Both stand on whatever tells a vertex's
-//! parents.
+//! list. Also the roots of all cycles, in a number of ticks that grows with the live edges and not with the lengths of the chains.
+//! Both stand on whatever tells a vertex's parents.
 #![tactic(auto)]
 
 mod classes;

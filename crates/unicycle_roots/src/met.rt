@@ -1,7 +1,7 @@
-ghost use Rattle.std.specs.Prelude.{◌≡◌, None, Some, if◌then◌else◌, IsSome, IfOk, OnOk};
+ghost use Rattle.std.specs.Prelude.{◌≡◌, ◌+◌, ◌*◌, ◌≤◌, None, Some, if◌then◌else◌, IsSome, IfOk, OnOk, OnErr};
 ghost use Rattle.grove_edits.specs.declared.vertex.Vertex.{Vertex};
 ghost use Rattle.grove_edits.specs.Vertex.{is_same_vertex};
-ghost use Rattle.unicycle_roots.specs.Met.{met_by, KeepsMet, AreNumbered, HasEnded};
+ghost use Rattle.unicycle_roots.specs.Met.{met_by, unmet, round_len, KeepsMet, AreNumbered, HasEnded};
 
 use crate::no_memory::NoMemory;
 use crate::step_up::vertex_above;
@@ -38,6 +38,9 @@ pub(crate) fn walk_up<P: ParentOf, L: Ledger>(
     ensures start { OnOk result (IsSome (met_by met.new.entries start.now)) }
     ensures kept { OnOk result (KeepsMet number met.old.entries met.new.entries) }
     ensures ended { IfOk result (λ back. HasEnded (P.live parents.now) number met.old.entries met.new.entries back) }
+    ensures round { IfOk result (λ back. round_len (P.live parents.now) back + unmet (P.live parents.now) met.new.entries ≤ unmet (P.live parents.now) met.old.entries) }
+    ensures ticks { OnOk result (steps.new + 2 * unmet (P.live parents.now) met.new.entries ≤ steps.old + 2 * unmet (P.live parents.now) met.old.entries + 3) }
+    ensures ticks_on_err { OnErr result (steps.new ≤ steps.old + 2 * unmet (P.live parents.now) met.old.entries) }
 {
     let mut at = *start;
     loop {

@@ -1,4 +1,4 @@
-ghost use Rattle.std.specs.Prelude.{◌≡◌, ◌||◌, true, filter, IfOk, OnOk};
+ghost use Rattle.std.specs.Prelude.{◌≡◌, ◌+◌, ◌*◌, ◌≤◌, ◌||◌, true, filter, length, IfOk, OnOk};
 ghost use Rattle.grove_edits.specs.declared.vertex.Vertex.{Vertex};
 ghost use Rattle.grove_edits.specs.Vertex.{is_same_vertex, stands_in};
 ghost use Rattle.walks.specs.Class.{is_cycle_root, of_class};
@@ -35,7 +35,8 @@ fn roots_above<P: ParentOf, L: Ledger>(
     parents: &P,
     steps: &mut Steps<L>,
 ) -> Result<BTreeSet<Vertex>, NoMemory>
-    ensures { IfOk result (λ roots. (v : Vertex) → stands_in v vertices.now ≡ true → stands_in v roots.keys ≡ is_cycle_root (P.live parents.now) v) }
+    ensures roots { IfOk result (λ roots. (v : Vertex) → stands_in v vertices.now ≡ true → stands_in v roots.keys ≡ is_cycle_root (P.live parents.now) v) }
+    ensures ticks { steps.new ≤ steps.old + 4 * length (P.live parents.now) + 3 * length vertices.now }
 {
     let mut met = IndexMap::new(alloc);
     let mut roots = BTreeSet::new(alloc);
@@ -64,7 +65,8 @@ fn held(
     Ok(found)
 }
 
-/// Those of some vertices that are the roots of cycles. No chain of vertices is walked up twice.
+/// Those of some vertices that are the roots of cycles. However long the chains above them are, it takes no more ticks than a few for
+/// each live edge and each of these vertices.
 pub fn cycle_roots<P: ParentOf, L: Ledger>(
     alloc: Global,
     vertices: &[Vertex],
@@ -72,6 +74,7 @@ pub fn cycle_roots<P: ParentOf, L: Ledger>(
     steps: &mut Steps<L>,
 ) -> Result<Vec<Vertex>, NoMemory>
     ensures roots { IfOk result (λ roots. roots.items ≡ of_class Class.Cycle (P.live parents.now) vertices.now) }
+    ensures ticks { steps.new ≤ steps.old + 4 * length (P.live parents.now) + 3 * length vertices.now }
 {
     let roots = roots_above(alloc, vertices, parents, steps)?;
     held(alloc, vertices, &roots)

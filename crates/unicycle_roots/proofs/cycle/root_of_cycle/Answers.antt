@@ -33,3 +33,8 @@ returns-clause-root g c =
 pub returns-clause-above : goal.returns-clause-above
 returns-clause-above g c =
     above_from_around (g.P.ParentOf.live c.args.parents.now) c.args.entry.now c.loop-above.at c.loop-above.least c.args.steps.now c.loop-above.steps c.loop-above.invariant
+
+pub returns-clause-ticks : goal.returns-clause-ticks
+returns-clause-ticks g c =
+    absurd (around_ends (g.P.ParentOf.live c.args.parents.now) c.args.entry.now c.loop-above.at c.loop-above.least c.args.steps.now c.loop-above.steps
+    c.requires c.loop-above.invariant (sym c.in_default.ensures.above))

@@ -1,5 +1,5 @@
 use Rattle.std.proofs.Common.{Some, ap, sym, ◌∙◌}
-use Rattle.unicycle_roots.proofs.Meetings.{meeting_entered, meeting_next, ended_at_none, ended_at_itself, ended_at_earlier, first_entered}
+use Rattle.unicycle_roots.proofs.Meetings.{meeting_entered, meeting_next, ended_at_none, ended_at_itself, ended_at_earlier, first_entered, round_within, fewer_entered, ticks_entered}
 use Rattle.unicycle_roots.proofs.met.walk_up.Goals as goal
 
 pub returns-then-walk-number-clause-ended : goal.returns-then-walk-number-clause-ended
@@ -40,3 +40,23 @@ loop-walk-preserved g c =
     c.loop-walk.invariant (sym c.in_default.ensures) c.in_ok-enter.ensures in
     meeting_next live c.args.start.now c.loop-walk.at c.in-Some-vertex_above.above c.args.number c.args.met.now.entries c.enter.new.met.entries c.args.steps.now c.loop-walk.steps c.vertex_above.new.steps
     entered (sym c.in-Some-vertex_above.ensures.above) c.in-Some-vertex_above.ensures.ticks_where_above
+
+pub returns-then-walk-number-clause-round : goal.returns-then-walk-number-clause-round
+returns-then-walk-number-clause-round g c =
+    round_within (g.P.ParentOf.live c.args.parents.now) c.args.start.now c.loop-walk.at c.args.number c.args.met.now.entries c.loop-walk.met.entries c.args.steps.now c.loop-walk.steps
+    c.loop-walk.invariant (sym c.in-Some.ensures ∙ ap Some c.if-walk-number.true)
+
+pub returns-in_default-vertex_above-clause-round : goal.returns-in_default-vertex_above-clause-round
+returns-in_default-vertex_above-clause-round g c =
+    let live = g.P.ParentOf.live c.args.parents.now in
+    let entered = meeting_entered live c.args.start.now c.loop-walk.at c.args.number c.args.met.now.entries c.loop-walk.met.entries c.enter.new.met.entries c.args.steps.now c.loop-walk.steps
+    c.loop-walk.invariant (sym c.in_default.ensures) c.in_ok-enter.ensures in
+    fewer_entered live c.args.start.now c.loop-walk.at c.args.number c.args.met.now.entries c.enter.new.met.entries c.args.steps.now c.loop-walk.steps entered
+
+pub returns-in_default-vertex_above-clause-ticks : goal.returns-in_default-vertex_above-clause-ticks
+returns-in_default-vertex_above-clause-ticks g c =
+    let live = g.P.ParentOf.live c.args.parents.now in
+    let entered = meeting_entered live c.args.start.now c.loop-walk.at c.args.number c.args.met.now.entries c.loop-walk.met.entries c.enter.new.met.entries c.args.steps.now c.loop-walk.steps
+    c.loop-walk.invariant (sym c.in_default.ensures) c.in_ok-enter.ensures in
+    ticks_entered live c.args.start.now c.loop-walk.at c.args.number c.args.met.now.entries c.enter.new.met.entries c.args.steps.now c.loop-walk.steps c.vertex_above.new.steps entered
+    c.in_default-vertex_above.ensures.ticks

@@ -6,5 +6,5 @@ use Rattle.unicycle_roots.proofs.roots.cycle_roots.Goals as goal
 
 pub returns : goal.returns
 returns g c =
-    let is = roots_are_cycles (g.P.ParentOf.live c.args.parents.now) c.args.vertices.now c.in_ok-roots.roots.keys c.in_ok-roots.ensures in
-    record { roots = subst (λ (xs : List Vertex). IfOk c.held.result (λ found. found.items ≡ xs)) is c.held.ensures }
+    let is = roots_are_cycles (g.P.ParentOf.live c.args.parents.now) c.args.vertices.now c.in_ok-roots.roots.keys c.in_ok-roots.ensures.roots in
+    record { roots = subst (λ (xs : List Vertex). IfOk c.held.result (λ found. found.items ≡ xs)) is c.held.ensures; ticks = c.in_ok-roots.ensures.ticks }
