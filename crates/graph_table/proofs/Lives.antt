@@ -12,7 +12,7 @@ use Rattle.grove_edits.specs.declared.edge.Edge.{Edge}
 use Rattle.grove_edits.specs.declared.edit.Edit.{Edit}
 use Rattle.grove_edits.specs.declared.edit.EditKind.{EditKind}
 use Rattle.grove_edits.specs.declared.edit.EditKind.TheVariants.{Insert, Delete}
-use Rattle.grove_edits.specs.Edge.{edge_cmp}
+use Rattle.grove_edits.specs.Edge.{IsWellFormed, edge_cmp}
 use Rattle.grove_edits.specs.Edit.{edit_edge, edit_kind}
 use Rattle.grove_edits.specs.Graph.{graph, state_of, is_same_edge, Ascends}
 use Rattle.grove_edits.proofs.Orders.{edge_cmp_total, one_edge}
@@ -27,6 +27,14 @@ inserted_all P (x ∷ xs) all = by_kind (is_insertion (edit_kind x)) (inserted_a
   by_kind : (b : Bool) → AllByRecursion P (inserted xs) → AllByRecursion P (cond b (edit_edge x ∷ inserted xs) (inserted xs))
   by_kind true rest = (all.0, rest)
   by_kind false rest = rest
+
+-- the edges of edits are well formed
+all_well_formed : (edits : List Edit) → AllByRecursion (λ edit. IsWellFormed (edit_edge edit)) edits
+all_well_formed [] = tt
+all_well_formed (x ∷ xs) = (x.well_formed, all_well_formed xs)
+
+pub inserted_well_formed : (edits : List Edit) → AllByRecursion IsWellFormed (inserted edits)
+inserted_well_formed edits = inserted_all IsWellFormed edits (all_well_formed edits)
 
 pub in_order : (edits : List Edit) → Ascends edits → IsInEdgeOrder (inserted edits)
 in_order [] up = tt

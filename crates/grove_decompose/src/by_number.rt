@@ -6,8 +6,10 @@ use crate::seen::Seen;
 use graph_table::{GraphTable, Parents};
 use grove_edits::Edge;
 use grove_sorts::Position;
-use std::sync::ledger::Ledger;
-use walks::Steps;
+
+/// Nothing is counted.
+#[derive(Clone, Copy, Debug)]
+pub(crate) struct NoCounter;
 
 // Vertices by their numbers and edges by their indices, so that nothing is looked up by a vertex or an edge.
 impl LiveGraph for GraphTable {
@@ -19,6 +21,8 @@ impl LiveGraph for GraphTable {
     type Link = usize;
 
     type Notes = Seen;
+
+    type Counter = NoCounter;
 
     ghost live = { λ table. live_edges table };
 
@@ -40,16 +44,16 @@ impl LiveGraph for GraphTable {
         GraphTable::target(self, *link)
     }
 
-    fn is_shared<L: Ledger>(&self, spot: &usize, _steps: &mut Steps<L>) -> bool {
+    fn is_shared(&self, spot: &usize, _counter: &mut NoCounter) -> bool {
         matches!(self.parents(*spot), Parents::More(_, _))
     }
 
-    fn children<L: Ledger>(
+    fn children(
         &self,
         spot: &usize,
         position: Position,
         out: &mut Vec<usize>,
-        _steps: &mut Steps<L>,
+        _counter: &mut NoCounter,
     ) -> Result<(), NoMemory> {
         GraphTable::children(self, *spot, position, out)?;
         Ok(())

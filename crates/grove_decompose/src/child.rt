@@ -14,8 +14,6 @@ use crate::task::Task;
 use grove_edits::{Edge, Vertex};
 use grove_terms::{Node, Tree, What};
 use std::cmp::Ordering;
-use std::sync::ledger::Ledger;
-use walks::Steps;
 
 fn order(a: &Vertex, b: &Vertex) -> Ordering
     ensures { result ≡ vertex_cmp a.now b.now }
@@ -30,12 +28,12 @@ fn is_same(a: &Vertex, b: &Vertex) -> bool
 }
 
 // What a child is: under a root only the root itself heads a tree with one parent.
-fn what_of<G: LiveGraph, L: Ledger>(
+fn what_of<G: LiveGraph>(
     edge: &Edge,
     target: &G::Spot,
     root: &Vertex,
     graph: &G,
-    steps: &mut Steps<L>,
+    counter: &mut G::Counter,
 ) -> What
     requires spot { G.IsSpot graph.now target.now }
     requires target { G.vertex_at graph.now target.now ≡ edge.now.target }
@@ -44,7 +42,7 @@ fn what_of<G: LiveGraph, L: Ledger>(
     requires under { IsUnder (G.live graph.now) root.now edge.now.source }
     ensures { result ≡ what_by (class (G.live graph.now) edge.now.target) edge.now.target }
 {
-    if graph.is_shared(target, steps) {
+    if graph.is_shared(target, counter) {
         return What::MultiRef(edge.target);
     }
     if is_same(&edge.target, root) {
@@ -55,14 +53,14 @@ fn what_of<G: LiveGraph, L: Ledger>(
 }
 
 /// Lists a child, and adds a task for each of its positions where it is no reference. It tells the vertex in that case.
-pub(crate) fn list_child<G: LiveGraph, L: Ledger>(
+pub(crate) fn list_child<G: LiveGraph>(
     link: &G::Link,
     depth: u64,
     root: &Vertex,
     graph: &G,
     tree: &mut Tree,
     tasks: &mut Vec<Task<G::Spot, G::Link>>,
-    steps: &mut Steps<L>,
+    counter: &mut G::Counter,
 ) -> Result<Option<G::Spot>, NoMemory>
     requires link { G.IsLink graph.now link.now }
     requires outer { class (G.live graph.now) root.now ≢ Inner }
@@ -79,7 +77,7 @@ pub(crate) fn list_child<G: LiveGraph, L: Ledger>(
 {
     let edge = graph.edge(link);
     let target = graph.target(link);
-    let what = what_of(&edge, &target, root, graph, steps);
+    let what = what_of(&edge, &target, root, graph, counter);
     // No child is deeper than there are nodes, so one more fits.
     let _nodes = tree.len();
     tree.push(Node {

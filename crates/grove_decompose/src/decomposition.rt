@@ -1,8 +1,12 @@
 ghost use Rattle.std.specs.Prelude.{◌≡◌, ◌<◌, IfOk};
+ghost use Rattle.edge_lattice.specs.declared.state.State.TheVariants.{Live};
+ghost use Rattle.grove_edits.specs.declared.edge.Edge.{Edge};
+ghost use Rattle.grove_edits.specs.Edge.{IsWellFormed};
 ghost use Rattle.walks.specs.Whole.{AreLive};
 ghost use Rattle.edge_index.specs.Lists.{live};
 ghost use Rattle.graph_store.specs.Store.{state_in};
 ghost use Rattle.grove_terms.specs.Grove.{IsGrove};
+ghost use Rattle.grove_terms.specs.Sorted.{IsSortedGrove};
 
 use crate::descent::trees_of;
 use crate::heads::find_heads;
@@ -13,13 +17,13 @@ use graph_store::GraphStore;
 use grove_terms::Grove;
 use parent_index::ParentIndex;
 use std::alloc::Global;
-use std::marker::Brand;
+use std::marker::{Brand, PhantomData};
 use std::sync::ledger::{Blank, Ledger};
 use unicycle_roots::cycle_roots;
 use walks::Steps;
 
-/// The grove of the graph that a store holds, of which the indexes hold the live edges. Its time is about linear in the number of
-/// edges, and it does not recurse.
+/// The grove of the graph that a store holds, of which the indexes hold the live edges. Its trees are well sorted where the live edges
+/// are well formed, as they are where the store was raised by edits.
 pub fn decompose(
     alloc: Global,
     store: &GraphStore,
@@ -29,6 +33,7 @@ pub fn decompose(
     requires children { AreLive (state_in store.now) (live children.now) }
     requires parents { AreLive (state_in store.now) (live parents.now) }
     ensures grove { IfOk result (λ grove. IsGrove (state_in store.now) grove) }
+    ensures sorted { ((e : Edge) → state_in store.now e ≡ Live → IsWellFormed e) → IfOk result IsSortedGrove }
 {
     decompose_counting::<Brand>(alloc, store, children, parents, Blank::new(1))
 }
@@ -46,12 +51,17 @@ fn decompose_counting<L: Ledger>(
     requires children { AreLive (state_in store.now) (live children.now) }
     requires parents { AreLive (state_in store.now) (live parents.now) }
     ensures grove { IfOk result (λ grove. IsGrove (state_in store.now) grove) }
+    ensures sorted { ((e : Edge) → state_in store.now e ≡ Live → IsWellFormed e) → IfOk result IsSortedGrove }
 {
     let mut steps = Steps::<L>::new(blank);
     let vertices = store.vertices(alloc)?;
     let heads = find_heads(alloc, &vertices, parents, &mut steps)?;
     let cycles = cycle_roots(alloc, &vertices, parents, &mut steps)?;
-    let indexes = LiveIndexes { children, parents };
+    let indexes = LiveIndexes::<L> {
+        children,
+        parents,
+        ledger: PhantomData,
+    };
     Ok(Grove {
         none: trees_of(alloc, &heads.none, &indexes, &mut steps)?,
         multi: trees_of(alloc, &heads.multi, &indexes, &mut steps)?,

@@ -20,14 +20,14 @@ use walks::Steps;
 
 // Lists the first nodes of a part of a tree, and adds tasks for the rest of it. It tells the vertex that it lists under another one,
 // if it does. The list is for the children of a position.
-fn take<G: LiveGraph, L: Ledger>(
+fn take<G: LiveGraph>(
     task: &Task<G::Spot, G::Link>,
     root: &Vertex,
     graph: &G,
     links: &mut Vec<G::Link>,
     tree: &mut Tree,
     tasks: &mut Vec<Task<G::Spot, G::Link>>,
-    steps: &mut Steps<L>,
+    counter: &mut G::Counter,
 ) -> Result<Option<G::Spot>, NoMemory>
     requires outer { class (G.live graph.now) root.now ≢ Inner }
     requires sound { IsSound (G.live graph.now) root.now (length tree.old) (task_at (G.vertex_at graph.now) (G.edge_at graph.now) task.now) }
@@ -46,22 +46,22 @@ fn take<G: LiveGraph, L: Ledger>(
             sort,
             depth,
         } => {
-            graph.children(spot, *position, links, steps)?;
+            graph.children(spot, *position, links, counter)?;
             list_place(links, *position, *sort, *depth, tree, tasks)?;
             Ok(None)
         }
-        Task::Child { link, depth } => list_child(link, *depth, root, graph, tree, tasks, steps),
+        Task::Child { link, depth } => list_child(link, *depth, root, graph, tree, tasks, counter),
     }
 }
 
 /// The tree of a vertex that heads one. What stands in it under another one is noted, also where memory runs out in the midst of it.
-pub(crate) fn tree_of<G: LiveGraph, L: Ledger>(
+pub(crate) fn tree_of<G: LiveGraph>(
     alloc: Global,
     spot: &G::Spot,
     root: &Vertex,
     graph: &G,
     notes: &mut G::Notes,
-    steps: &mut Steps<L>,
+    counter: &mut G::Counter,
 ) -> Result<Tree, NoMemory>
     requires spot { G.IsSpot graph.now spot.now }
     requires root { G.vertex_at graph.now spot.now ≡ root.now }
@@ -81,7 +81,9 @@ pub(crate) fn tree_of<G: LiveGraph, L: Ledger>(
     let mut tasks = Vec::new(alloc);
     push_places(spot, &root.ctor, 1, &mut tasks)?;
     while let Some(task) = tasks.pop() {
-        let met = take(&task, root, graph, &mut links, &mut tree, &mut tasks, steps)?;
+        let met = take(
+            &task, root, graph, &mut links, &mut tree, &mut tasks, counter,
+        )?;
         if let Some(inner) = met {
             graph.note(&inner, notes);
         }
@@ -93,7 +95,7 @@ pub(crate) fn tree_of<G: LiveGraph, L: Ledger>(
 pub(crate) fn trees_of<L: Ledger>(
     alloc: Global,
     roots: &[Vertex],
-    indexes: &LiveIndexes,
+    indexes: &LiveIndexes<L>,
     steps: &mut Steps<L>,
 ) -> Result<TreeList, NoMemory>
     requires outer { AllByRecursion (λ root. class (live indexes.now.parents.now) root ≢ Inner) roots.now }

@@ -8,8 +8,6 @@ ghost use Rattle.grove_decompose.specs.Tasks.{is_shared};
 use crate::no_memory::NoMemory;
 use grove_edits::Edge;
 use grove_sorts::Position;
-use std::sync::ledger::Ledger;
-use walks::Steps;
 
 /// A graph as the listing of its trees asks for it.
 pub(crate) trait LiveGraph {
@@ -25,6 +23,9 @@ pub(crate) trait LiveGraph {
 
     /// What keeps the vertices that were listed under another one.
     type Notes;
+
+    /// What counts the look-ups.
+    type Counter;
 
     /// The live edges, in edge order.
     ghost live: { Self → List Edge };
@@ -52,17 +53,17 @@ pub(crate) trait LiveGraph {
         ensures target { vertex_at self.now result ≡ (edge_at self.now link.now).target };
 
     /// Whether two or more live edges lead to a vertex.
-    fn is_shared<L: Ledger>(&self, spot: &Self::Spot, steps: &mut Steps<L>) -> bool
+    fn is_shared(&self, spot: &Self::Spot, counter: &mut Self::Counter) -> bool
         requires { IsSpot self.now spot.now }
         ensures { result ≡ is_shared (vertex_at self.now spot.now) (live self.now) };
 
     /// Puts the live edges from a position into a list, in place of what it had, in edge order.
-    fn children<L: Ledger>(
+    fn children(
         &self,
         spot: &Self::Spot,
         position: Position,
         out: &mut Vec<Self::Link>,
-        steps: &mut Steps<L>,
+        counter: &mut Self::Counter,
     ) -> Result<(), NoMemory>
         requires { IsSpot self.now spot.now }
         ensures edges { OnOk result (map (edge_at self.now) out.new.items ≡ children_of (vertex_at self.now spot.now) position (live self.now)) }

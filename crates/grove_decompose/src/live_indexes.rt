@@ -7,14 +7,16 @@ use child_index::ChildIndex;
 use grove_edits::{Edge, Vertex};
 use grove_sorts::Position;
 use parent_index::ParentIndex;
+use std::marker::PhantomData;
 use std::sync::ledger::Ledger;
 use walks::{Few, ParentOf, Steps};
 
-/// The live edges of a graph by both their ends.
-#[derive(Clone, Copy)]
-pub(crate) struct LiveIndexes<'a> {
+/// The live edges of a graph by both their ends. The look-ups are counted in a ledger.
+#[derive(Drop)]
+pub(crate) struct LiveIndexes<'a, L: Ledger> {
     pub(crate) children: &'a ChildIndex,
     pub(crate) parents: &'a ParentIndex,
+    pub(crate) ledger: PhantomData<L>,
     ghost same: { live children.now ≡ live parents.now },
 }
 
@@ -22,7 +24,7 @@ pub(crate) struct LiveIndexes<'a> {
 #[derive(Clone, Copy, Debug)]
 pub(crate) struct NoNotes;
 
-impl LiveGraph for LiveIndexes<'_> {
+impl<L: Ledger> LiveGraph for LiveIndexes<'_, L> {
     ghost use Rattle.edge_index.specs.Lists.{live as live_edges};
 
     type Spot = Vertex;
@@ -30,6 +32,8 @@ impl LiveGraph for LiveIndexes<'_> {
     type Link = Edge;
 
     type Notes = NoNotes;
+
+    type Counter = Steps<L>;
 
     ghost live = { λ it. live_edges it.parents.now };
 
@@ -51,11 +55,11 @@ impl LiveGraph for LiveIndexes<'_> {
         link.target
     }
 
-    fn is_shared<L: Ledger>(&self, spot: &Vertex, steps: &mut Steps<L>) -> bool {
+    fn is_shared(&self, spot: &Vertex, steps: &mut Steps<L>) -> bool {
         matches!(self.parents.few(spot, steps), Few::More(_, _))
     }
 
-    fn children<L: Ledger>(
+    fn children(
         &self,
         spot: &Vertex,
         position: Position,

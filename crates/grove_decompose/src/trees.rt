@@ -4,8 +4,10 @@ ghost use Rattle.walks.specs.declared.class.Class.TheVariants.{NoParent, Multi, 
 ghost use Rattle.walks.specs.Class.{class, of_class};
 ghost use Rattle.graph_table.specs.Table.{live, IsNumbered};
 ghost use Rattle.grove_terms.specs.Grove.{IsTreeOf};
+ghost use Rattle.grove_terms.specs.Sorted.{IsSortedTree};
 ghost use Rattle.grove_decompose.specs.Trees.{OnlyInner, vertices_of};
 
+use crate::by_number::NoCounter;
 use crate::candidates::{candidates_of, with_numbers};
 use crate::descent::tree_of;
 use crate::no_memory::NoMemory;
@@ -63,29 +65,17 @@ pub fn tree_by_number(
     requires outer { class (live table.now) root.now.vertex ≢ Inner }
     requires seen { OnlyInner table.now seen.old }
     ensures tree { IfOk result (λ tree. IsTreeOf (live table.now) root.now.vertex tree) }
+    ensures sorted { IfOk result IsSortedTree }
     ensures seen { OnlyInner table.now seen.new }
 {
-    tree_counting::<Brand>(alloc, table, root, seen, Blank::new(1))
-}
-
-fn tree_counting<L: Ledger>(
-    alloc: Global,
-    table: &GraphTable,
-    root: &Numbered,
-    seen: &mut Seen,
-    blank: Blank,
-) -> Result<Tree, NoMemory>
-    requires name { blank.name ≡ L.name }
-    requires parts { blank.parts ≡ L.parts }
-    requires some { 0 < blank.parts }
-    requires number { IsNumbered table.now root.now }
-    requires outer { class (live table.now) root.now.vertex ≢ Inner }
-    requires seen { OnlyInner table.now seen.old }
-    ensures tree { IfOk result (λ tree. IsTreeOf (live table.now) root.now.vertex tree) }
-    ensures seen { OnlyInner table.now seen.new }
-{
-    let mut steps = Steps::<L>::new(blank);
-    tree_of(alloc, &root.number, &root.vertex, table, seen, &mut steps)
+    tree_of(
+        alloc,
+        &root.number,
+        &root.vertex,
+        table,
+        seen,
+        &mut NoCounter,
+    )
 }
 
 /// Those of some vertices that are the least of a cycle. Vertices that were seen in the trees of others are not looked at.
