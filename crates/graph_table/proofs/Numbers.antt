@@ -1,5 +1,5 @@
 -- What a set of vertices says of their numbers.
-use Rattle.std.proofs.Common.{◌≡◌, ℕ, zero, suc, ◌<◌, Bool, true, false, cond, List, [], ◌∷◌, ◌++◌, length, get_or, slice_get, map, Some, ◌⊎◌, inl, inr, refl, sym, ap, subst, ◌∙◌, arith, is_eq}
+use Rattle.std.proofs.Common.{◌≡◌, ℕ, zero, suc, ◌<◌, Bool, true, false, cond, List, [], ◌∷◌, ◌++◌, length, get_or, slice_get, map, Some, ◌⊎◌, inl, inr, refl, sym, ap, subst, ◌∙◌, arith}
 use Rattle.std.specs.Prelude.{◌||◌}
 use Rattle.std.specs.List.{IsDistinct, Contains, list_any, position}
 use Rattle.std.specs.Option.{option_map}
@@ -13,11 +13,9 @@ use Rattle.grove_edits.specs.declared.vertex.Vertex.{Vertex}
 use Rattle.grove_edits.specs.declared.edge.Edge.{Edge}
 use Rattle.grove_edits.specs.declared.edit.Edit.{Edit}
 use Rattle.grove_edits.specs.Edit.{edit_edge}
-use Rattle.grove_edits.specs.contracts.vertex.VertexOrd.TheImpl.Laws.{matches_eq-law}
 use Rattle.grove_edits.specs.contracts.vertex.VertexPartialEq.TheImpl as vertex_eq
-use Rattle.grove_edits.proofs.Orders.{cmp_is_vertex_cmp}
 use Rattle.grove_edits.specs.Vertex.{is_same_vertex, stands_in, root}
-use Rattle.grove_edits.proofs.Vertices.{same_vertex_laws, same_vertex_exact, same_vertex_itself}
+use Rattle.grove_edits.proofs.Vertices.{same_vertex_laws, same_vertex_exact, same_vertex_itself, eq_is_same_vertex}
 use Rattle.graph_table.specs.Table.{IsEndIn}
 use Rattle.graph_table.specs.Numbering.{with_vertex, sources_of, targets_of, AreNumbersOf, AreNumbered}
 
@@ -26,13 +24,10 @@ use Rattle.graph_table.specs.Numbering.{with_vertex, sources_of, targets_of, Are
 abbrev pub eq : Vertex → Vertex → Bool
 eq = vertex_eq.eq-value.it
 
-eq_is_same : (v k : Vertex) → eq v k ≡ is_same_vertex v k
-eq_is_same v k = matches_eq-law v k ∙ ap is_eq (cmp_is_vertex_cmp v k)
-
 pub any_is_stands_in : (keys : List Vertex) (v : Vertex) → list_any (eq v) keys ≡ stands_in v keys
 any_is_stands_in [] v = refl
 any_is_stands_in (k ∷ ks) v =
-    let here : eq v k ≡ is_same_vertex k v = eq_is_same v k ∙ same_vertex_laws.symm v k in
+    let here : eq v k ≡ is_same_vertex k v = eq_is_same_vertex v k ∙ same_vertex_laws.symm v k in
     ap (λ b. b || list_any (eq v) ks) here ∙ ap (λ b. is_same_vertex k v || b) (any_is_stands_in ks v)
 
 pub inserted_is : (keys : List Vertex) (v : Vertex) → insert_key eq keys v ≡ with_vertex v keys
@@ -40,11 +35,11 @@ inserted_is keys v = ap (λ b. cond b keys (keys ++ v ∷ [])) (any_is_stands_in
 
 pub once_from_set : (keys : List Vertex) → IsDistinct eq keys → IsDistinct is_same_vertex keys
 once_from_set keys once =
-    IsDistinct-from_apart is_same_vertex keys (λ i j d lt within. sym (eq_is_same (get_or keys i d) (get_or keys j d)) ∙ apart_from_distinct eq keys i j d once lt within)
+    IsDistinct-from_apart is_same_vertex keys (λ i j d lt within. sym (eq_is_same_vertex (get_or keys i d) (get_or keys j d)) ∙ apart_from_distinct eq keys i j d once lt within)
 
 -- a vertex that the set finds equal is the vertex
 pub number_from_set : (keys : List Vertex) (n : ℕ) (v k : Vertex) → slice_get keys n ≡ Some k → eq v k ≡ true → slice_get keys n ≡ Some v
-number_from_set keys n v k is same = is ∙ ap Some (sym (same_vertex_exact v k (sym (eq_is_same v k) ∙ same)))
+number_from_set keys n v k is same = is ∙ ap Some (sym (same_vertex_exact v k (sym (eq_is_same_vertex v k) ∙ same)))
 
 -- the index of a vertex is its number
 pub number_found : (keys : List Vertex) (v : Vertex) (i : ℕ) → position (eq v) keys ≡ Some i → slice_get keys i ≡ Some v

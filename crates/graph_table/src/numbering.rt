@@ -6,8 +6,6 @@ ghost use Rattle.graph_table.specs.Numbering.{with_vertex, AreNumbered};
 
 use crate::no_memory::NoMemory;
 use grove_edits::{Edit, Vertex};
-use grove_names::Name;
-use grove_sorts::Ctor;
 use indexmap::IndexSet;
 use std::alloc::Global;
 
@@ -18,14 +16,6 @@ pub(crate) struct Numbering {
     pub(crate) sources: Vec<usize>,
     pub(crate) targets: Vec<usize>,
 }
-
-const ROOT: Vertex = Vertex {
-    name: Name {
-        author: 0,
-        counter: 0,
-    },
-    ctor: Ctor::Root,
-};
 
 /// The number of a vertex, which gets the next one where it has none.
 fn number_of(numbers: &mut IndexSet<Vertex>, vertex: Vertex) -> Result<usize, NoMemory>
@@ -43,7 +33,7 @@ impl Numbering {
         ensures { IfOk result (λ n. AreNumbered [] n.numbers.keys n.sources.items n.targets.items) }
     {
         let mut numbers = IndexSet::with_capacity(alloc, count.saturating_add(1))?;
-        number_of(&mut numbers, ROOT)?;
+        number_of(&mut numbers, Vertex::ROOT)?;
         Ok(Numbering {
             numbers,
             sources: Vec::with_capacity(alloc, count)?,

@@ -1,18 +1,14 @@
 -- The nodes under a vertex, position by position.
-use Rattle.std.proofs.Common.{◌≡◌, ℕ, zero, suc, ◌+◌, ◌≤◌, Bool, true, false, cond, List, [], ◌∷◌, ◌++◌, length, refl, sym, ap, subst, ◌∙◌, append-nil, append_assoc, lit≤}
+use Rattle.std.proofs.Common.{◌≡◌, ℕ, zero, suc, ◌+◌, ◌<◌, ◌≤◌, Bool, true, false, cond, List, [], ◌∷◌, ◌++◌, length, refl, sym, ap, subst, ◌∙◌, append-nil, append_assoc, arith}
 use Rattle.std.specs.Prelude.{◌||◌, filter}
 use Rattle.std.specs.List.{AllByRecursion}
-use Rattle.std.specs.declared.cmp.Ordering.{Ordering}
-use Rattle.std.specs.declared.cmp.Ordering.TheVariants.{Less, Equal, Greater}
-use Rattle.std.specs.Ordering.{is_eq}
 use Rattle.grove_sorts.specs.declared.position.Position.{Position}
 use Rattle.grove_sorts.specs.declared.sort.Sort.{Sort}
 use Rattle.grove_sorts.specs.declared.ctor.Ctor.{Ctor}
-use Rattle.grove_sorts.specs.declared.ctor.Ctor.TheVariants.{Root, Var, Lam, Ap, Num, Plus, LitTrue, LitFalse, Choose, Pair, Fst, Snd, PVar, TNum, TBool, TArrow, TProd}
-use Rattle.std.proofs.lemmas.Cmp.{tied_itself}
-use Rattle.grove_sorts.specs.Ctor.{positions}
-use Rattle.grove_sorts.specs.Position.{position_cmp, is_same_position}
-use Rattle.grove_sorts.proofs.Orders.{position_cmp_exact, position_cmp_total}
+use Rattle.grove_sorts.specs.Ctor.{positions, Rises}
+use Rattle.grove_sorts.specs.Position.{position_number, is_same_position}
+use Rattle.grove_sorts.proofs.Orders.{one_position, other_position, same_position_laws}
+use Rattle.grove_sorts.proofs.Rows.{positions_rise}
 use Rattle.grove_edits.specs.declared.vertex.Vertex.{Vertex}
 use Rattle.grove_edits.specs.declared.edge.Edge.{Edge}
 use Rattle.walks.specs.declared.class.Class.{Class}
@@ -30,59 +26,24 @@ use Rattle.grove_decompose.specs.Tasks.{Task, what_by, under_by, child_lists, ta
 
 -- ---- positions
 
-equal_from_test : (o : Ordering) → is_eq o ≡ true → o ≡ Equal
-equal_from_test Less e = absurd cc
-equal_from_test Equal e = refl
-equal_from_test Greater e = absurd cc
-
-pub same_position_exact : (p q : Position) → is_same_position p q ≡ true → p ≡ q
-same_position_exact p q h = position_cmp_exact p q (equal_from_test (position_cmp p q) h)
-
-pub same_position_itself : (p : Position) → is_same_position p p ≡ true
-same_position_itself p = ap is_eq (tied_itself position_cmp_total p)
-
 -- a position stands in a table once
 abbrev AreDistinct : List (Position × Sort) → Type 0
 AreDistinct [] = Unit {0}
 AreDistinct (p ∷ ps) = (knows p.0 ps ≡ false) × AreDistinct ps
 
-positions_distinct : (c : Ctor) → AreDistinct (positions c)
-positions_distinct Root = (refl, tt)
-positions_distinct (Var x) = tt
-positions_distinct Lam = (refl, (refl, (refl, tt)))
-positions_distinct Ap = (refl, (refl, tt))
-positions_distinct (Num n) = tt
-positions_distinct Plus = (refl, (refl, tt))
-positions_distinct LitTrue = tt
-positions_distinct LitFalse = tt
-positions_distinct Choose = (refl, (refl, (refl, tt)))
-positions_distinct Pair = (refl, (refl, tt))
-positions_distinct Fst = (refl, tt)
-positions_distinct Snd = (refl, tt)
-positions_distinct (PVar x) = tt
-positions_distinct TNum = tt
-positions_distinct TBool = tt
-positions_distinct TArrow = (refl, (refl, tt))
-positions_distinct TProd = (refl, (refl, tt))
+unknown_below : (p : Position) (low : ℕ) (ps : List (Position × Sort)) → Rises low ps → position_number p < low → knows p ps ≡ false
+unknown_below p low [] rises below = refl
+unknown_below p low (q ∷ qs) rises below =
+    let first = rises.0 in
+    ap (λ b. b || knows p qs) (other_position q.0 p (λ e. omega arith)) ∙ unknown_below p (suc (position_number q.0)) qs rises.1 (omega arith)
 
-pub few_positions : (c : Ctor) → length (positions c) ≤ 3
-few_positions Root = lit≤ tt
-few_positions (Var x) = lit≤ tt
-few_positions Lam = lit≤ tt
-few_positions Ap = lit≤ tt
-few_positions (Num n) = lit≤ tt
-few_positions Plus = lit≤ tt
-few_positions LitTrue = lit≤ tt
-few_positions LitFalse = lit≤ tt
-few_positions Choose = lit≤ tt
-few_positions Pair = lit≤ tt
-few_positions Fst = lit≤ tt
-few_positions Snd = lit≤ tt
-few_positions (PVar x) = lit≤ tt
-few_positions TNum = lit≤ tt
-few_positions TBool = lit≤ tt
-few_positions TArrow = lit≤ tt
-few_positions TProd = lit≤ tt
+distinct_from_rises : (low : ℕ) (ps : List (Position × Sort)) → Rises low ps → AreDistinct ps
+distinct_from_rises low [] rises = tt
+distinct_from_rises low (p ∷ ps) rises =
+    (unknown_below p.0 (suc (position_number p.0)) ps rises.1 (omega arith), distinct_from_rises (suc (position_number p.0)) ps rises.1)
+
+positions_distinct : (c : Ctor) → AreDistinct (positions c)
+positions_distinct c = distinct_from_rises 0 (positions c) (positions_rise c)
 
 or_right : (a b : Bool) → b ≡ true → (a || b) ≡ true
 or_right true b h = refl
@@ -104,7 +65,7 @@ known_later q known (p ∷ ps) all = (or_right (is_same_position q.0 p.0) (knows
 
 pub all_known : (ps : List (Position × Sort)) → AllByRecursion (λ p. knows p.0 ps ≡ true) ps
 all_known [] = tt
-all_known (p ∷ ps) = (or_left (is_same_position p.0 p.0) (knows p.0 ps) (same_position_itself p.0), known_later p ps ps (all_known ps))
+all_known (p ∷ ps) = (or_left (is_same_position p.0 p.0) (knows p.0 ps) (same_position_laws.refl p.0), known_later p ps ps (all_known ps))
 
 -- ---- the edges at one position
 
@@ -129,7 +90,7 @@ is_at p e = is_same_position e.position p
 at_all : (live : List Edge) (v : Vertex) (p q : Position) (b : Bool) → is_same_position p q ≡ b → (xs : List Edge) → AllByRecursion (IsFromPlace live v p) xs → AllByRecursion (λ e. is_at q e ≡ b) xs
 at_all live v p q b same [] all = tt
 at_all live v p q b same (x ∷ xs) all =
-    (ap (λ y. is_same_position y q) (same_position_exact x.position p all.0.position) ∙ same, at_all live v p q b same xs all.1)
+    (ap (λ y. is_same_position y q) (one_position x.position p all.0.position) ∙ same, at_all live v p q b same xs all.1)
 
 at_none : (live : List Edge) (v : Vertex) (q : Position) (ps : List (Position × Sort)) → knows q ps ≡ false → filter (is_at q) (edges_from live v ps) ≡ []
 at_none live v q [] unknown = refl
@@ -149,7 +110,7 @@ at_one live v q (p ∷ ps) apart known =
       by_test : (b : Bool) → is_same_position p.0 q ≡ b → (knows q ps ≡ true → filter (is_at q) (edges_from live v ps) ≡ children_of v q live)
           → filter (is_at q) (children_of v p.0 live) ++ filter (is_at q) (edges_from live v ps) ≡ children_of v q live
       by_test true same later =
-          let one : p.0 ≡ q = same_position_exact p.0 q same in
+          let one : p.0 ≡ q = one_position p.0 q same in
           let unknown : knows q ps ≡ false = ap (λ z. knows z ps) (sym one) ∙ apart.0 in
           ap (λ xs. filter (is_at q) (children_of v p.0 live) ++ xs) (at_none live v q ps unknown) ∙ append-nil (filter (is_at q) (children_of v p.0 live))
           ∙ filter_all (is_at q) (children_of v p.0 live) (at_all live v p.0 q true same (children_of v p.0 live) (children_lead live v p.0)) ∙ ap (λ z. children_of v z live) one
@@ -174,7 +135,7 @@ all_from P live v q (p ∷ ps) known all = by_test (is_same_position p.0 q) refl
   behind (x ∷ xs) ys a = behind xs ys a.1
 
   by_test : (b : Bool) → is_same_position p.0 q ≡ b → (knows q ps ≡ true → AllByRecursion P (children_of v q live)) → AllByRecursion P (children_of v q live)
-  by_test true same later = subst (λ (z : Position). AllByRecursion P (children_of v z live)) (same_position_exact p.0 q same) (before (children_of v p.0 live) (edges_from live v ps) all)
+  by_test true same later = subst (λ (z : Position). AllByRecursion P (children_of v z live)) (one_position p.0 q same) (before (children_of v p.0 live) (edges_from live v ps) all)
   by_test false other later = later (or_split (is_same_position p.0 q) (knows q ps) known false other refl)
 
 pub all_at : (P : Edge → Type 0) (live : List Edge) (v : Vertex) (q : Position) → knows q (positions v.ctor) ≡ true → AllByRecursion P (edges_under live v) → AllByRecursion P (children_of v q live)

@@ -5,6 +5,7 @@ use Rattle.std.specs.List.{AllByRecursion}
 use Rattle.grove_sorts.specs.declared.position.Position.{Position}
 use Rattle.grove_sorts.specs.declared.sort.Sort.{Sort}
 use Rattle.grove_sorts.specs.Ctor.{positions}
+use Rattle.grove_sorts.proofs.Rows.{row_short}
 use Rattle.grove_edits.specs.declared.vertex.Vertex.{Vertex}
 use Rattle.grove_edits.specs.declared.edge.Edge.{Edge}
 use Rattle.walks.specs.declared.class.Class.{Class}
@@ -20,7 +21,7 @@ use Rattle.grove_terms.proofs.InLive.{IsFromPlace, children_lead, target_has_par
 use Rattle.grove_terms.proofs.Forests.{Stands, below_stands}
 use Rattle.grove_decompose.specs.declared.task.Task.TheVariants.{Place, Child}
 use Rattle.grove_decompose.specs.Tasks.{Task, what_by, under_by, child_list, child_lists, task_nodes, todo, place_tasks, child_tasks, place_head, place_rest, child_rest, step_nodes, step_tasks, knows, IsUnder, IsSoundChild, IsSound}
-use Rattle.grove_decompose.proofs.Places.{same_position_exact, few_positions, all_known, all_at, BelowStands, todo-append, under-tasks}
+use Rattle.grove_decompose.proofs.Places.{all_known, all_at, BelowStands, todo-append, under-tasks}
 
 -- ---- nodes
 
@@ -29,7 +30,7 @@ todo-child_tasks : (live : List Edge) (v : Vertex) (p : Position) (d : ℕ) (es 
 todo-child_tasks live v p d [] all = refl
 todo-child_tasks live v p d (e ∷ es) all =
     todo-append live (child_tasks d es) (Child e d ∷ [])
-    ∙ ap (λ (q : Position). child_list live d q e ++ todo live (child_tasks d es)) (same_position_exact e.position p all.0.position)
+    ∙ ap (λ (q : Position). child_list live d q e ++ todo live (child_tasks d es)) (one_position e.position p all.0.position)
     ∙ ap (λ xs. child_list live d p e ++ xs) (todo-child_tasks live v p d es all.1)
 
 place_taken : (live : List Edge) (v : Vertex) (p : Position) (s : Sort) (d : ℕ) (es : List Edge) → AllByRecursion (IsFromPlace live v p) es
@@ -160,7 +161,7 @@ lighter_child live NoParent e d some stands = absurd (some refl)
 lighter_child live Inner e d some stands =
     let tasks = weight-place_tasks live e.target (d + 1) (positions e.target.ctor) in
     let listed = ap (λ (xs : List Node). length xs) (under-tasks live e.target (d + 1) (stands refl)) in
-    let few = few_positions e.target.ctor in
+    let few = row_short e.target.ctor in
     omega arith
 
 -- less is left after a task was taken

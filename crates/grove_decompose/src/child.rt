@@ -11,21 +11,8 @@ use crate::live_graph::LiveGraph;
 use crate::no_memory::NoMemory;
 use crate::place::push_places;
 use crate::task::Task;
-use grove_edits::{Edge, Vertex};
+use grove_edits::{Edge, Vertex, is_same_vertex};
 use grove_terms::{Node, Tree, What};
-use std::cmp::Ordering;
-
-fn order(a: &Vertex, b: &Vertex) -> Ordering
-    ensures { result ≡ vertex_cmp a.now b.now }
-{
-    a.cmp(b)
-}
-
-fn is_same(a: &Vertex, b: &Vertex) -> bool
-    ensures { result ≡ is_same_vertex a.now b.now }
-{
-    order(a, b) == Ordering::Equal
-}
 
 // What a child is: under a root only the root itself heads a tree with one parent.
 fn what_of<G: LiveGraph>(
@@ -45,7 +32,7 @@ fn what_of<G: LiveGraph>(
     if graph.is_shared(target, counter) {
         return What::MultiRef(edge.target);
     }
-    if is_same(&edge.target, root) {
+    if is_same_vertex(&edge.target, root) {
         What::CycleRef(edge.target)
     } else {
         What::Vertex(edge.target)

@@ -1,20 +1,11 @@
-ghost use Rattle.std.specs.Prelude.{◌≡◌, ◌++◌, ◌≤◌, length, slice_get, OnOk};
+ghost use Rattle.std.specs.Prelude.{◌≡◌, ◌++◌, ◌≤◌, length, OnOk};
 ghost use Rattle.grove_sorts.specs.Ctor.{positions};
 ghost use Rattle.grove_decompose.specs.Tasks.{place_tasks, child_tasks, place_head, place_rest};
 
 use crate::no_memory::NoMemory;
 use crate::task::Task;
-use grove_sorts::{Ctor, Position, Sort, position_at, position_count, position_sort};
+use grove_sorts::{Ctor, Position, Sort, place_at, position_count};
 use grove_terms::{Node, Tree, What};
-
-// The position at an index of the constructor's row, with its sort.
-fn place_at(ctor: &Ctor, index: usize) -> Option<(Position, Sort)>
-    ensures { result ≡ slice_get (positions ctor.now) index }
-{
-    let position = position_at(ctor, index)?;
-    let sort = position_sort(ctor, position)?;
-    Some((position, sort))
-}
 
 /// Adds a task for each position of a vertex, so that the first position is taken first.
 pub(crate) fn push_places<S: Copy, L: Copy>(

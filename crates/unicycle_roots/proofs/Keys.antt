@@ -1,38 +1,27 @@
 -- What the code's maps and sets of vertices find.
-use Rattle.std.proofs.Common.{◌≡◌, ℕ, Bool, true, false, cond, List, [], ◌∷◌, Some, is_eq, refl, sym, ap, ◌∙◌}
+use Rattle.std.proofs.Common.{◌≡◌, ℕ, Bool, true, false, cond, List, [], ◌∷◌, Some, refl, sym, ap, ◌∙◌}
 use Rattle.std.specs.Prelude.{◌||◌}
-use Rattle.std.specs.Cmp.{IsEquivalence, eq_by_cmp_equiv}
 use Rattle.std.specs.List.{list_any}
 use Rattle.std.specs.Map.{lookup}
 use Rattle.std.specs.BTreeMap.{is_at}
 use Rattle.grove_edits.specs.declared.vertex.Vertex.{Vertex}
 use Rattle.grove_edits.specs.contracts.vertex.VertexOrd.TheImpl as vertex_impl
-use Rattle.grove_edits.specs.contracts.vertex.VertexOrd.TheImpl.Laws.{matches_eq-law}
 use Rattle.grove_edits.specs.contracts.vertex.VertexPartialEq.TheImpl as vertex_eq
-use Rattle.grove_edits.proofs.Orders.{vertex_cmp_total, cmp_is_vertex_cmp}
+use Rattle.grove_edits.proofs.Vertices.{same_vertex_laws, order_is_same_vertex, eq_is_same_vertex}
 use Rattle.grove_edits.specs.Vertex.{is_same_vertex, stands_in}
 use Rattle.unicycle_roots.specs.Met.{met_by}
-
-pub same_vertex_laws : IsEquivalence is_same_vertex
-same_vertex_laws = eq_by_cmp_equiv vertex_cmp_total
-
-test_is_same : (v k : Vertex) → is_at (vertex_impl.ghosts.cmp v) k ≡ is_same_vertex v k
-test_is_same v k = ap is_eq (cmp_is_vertex_cmp v k)
-
-eq_is_same : (v k : Vertex) → vertex_eq.eq-value.it v k ≡ is_same_vertex v k
-eq_is_same v k = matches_eq-law v k ∙ test_is_same v k
 
 -- the code's look-up finds the number of a vertex
 pub lookup_is_met_by : (met : List (Vertex × ℕ)) (v : Vertex) → lookup (vertex_eq.eq-value.it v) met ≡ met_by met v
 lookup_is_met_by [] v = refl
 lookup_is_met_by (e ∷ es) v =
-    ap (λ b. cond b (Some e.1) (lookup (vertex_eq.eq-value.it v) es)) (eq_is_same v e.0) ∙ ap (cond (is_same_vertex v e.0) (Some e.1)) (lookup_is_met_by es v)
+    ap (λ b. cond b (Some e.1) (lookup (vertex_eq.eq-value.it v) es)) (eq_is_same_vertex v e.0) ∙ ap (cond (is_same_vertex v e.0) (Some e.1)) (lookup_is_met_by es v)
 
 -- the code's set has a vertex where it stands among the keys
 pub any_is_stands_in : (keys : List Vertex) (v : Vertex) → list_any (is_at (vertex_impl.ghosts.cmp v)) keys ≡ stands_in v keys
 any_is_stands_in [] v = refl
 any_is_stands_in (k ∷ ks) v =
-    let here : is_at (vertex_impl.ghosts.cmp v) k ≡ is_same_vertex k v = test_is_same v k ∙ same_vertex_laws.symm v k in
+    let here : is_at (vertex_impl.ghosts.cmp v) k ≡ is_same_vertex k v = order_is_same_vertex v k ∙ same_vertex_laws.symm v k in
     ap (λ b. b || list_any (is_at (vertex_impl.ghosts.cmp v)) ks) here ∙ ap (λ b. is_same_vertex k v || b) (any_is_stands_in ks v)
 
 true_or : (b c : Bool) → cond b true c ≡ (b || c)
@@ -46,7 +35,7 @@ pub numbers_from_insert : (v q : Vertex) (number : ℕ) (before after : List (Ve
 numbers_from_insert v q number before after changed =
     sym (lookup_is_met_by after q)
     ∙ changed
-    ∙ ap (λ b. cond b (Some number) (lookup (vertex_eq.eq-value.it q) before)) (eq_is_same v q)
+    ∙ ap (λ b. cond b (Some number) (lookup (vertex_eq.eq-value.it q) before)) (eq_is_same_vertex v q)
     ∙ ap (cond (is_same_vertex v q) (Some number)) (lookup_is_met_by before q)
 
 -- what an insertion says of the vertices that stand in a set
@@ -56,6 +45,6 @@ pub keys_from_insert : (v q : Vertex) (before after : List Vertex)
 keys_from_insert v q before after changed =
     sym (any_is_stands_in after q)
     ∙ changed
-    ∙ ap (λ b. cond b true (list_any (is_at (vertex_impl.ghosts.cmp q)) before)) (test_is_same v q)
+    ∙ ap (λ b. cond b true (list_any (is_at (vertex_impl.ghosts.cmp q)) before)) (order_is_same_vertex v q)
     ∙ ap (cond (is_same_vertex v q) true) (any_is_stands_in before q)
     ∙ true_or (is_same_vertex v q) (stands_in q before)

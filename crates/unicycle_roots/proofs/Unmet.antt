@@ -3,12 +3,12 @@ use Rattle.std.proofs.Common.{◌≡◌, ℕ, suc, ◌+◌, ◌<◌, ◌≤◌, 
 use Rattle.std.specs.Prelude.{Option, None, Some}
 use Rattle.grove_edits.specs.declared.vertex.Vertex.{Vertex}
 use Rattle.grove_edits.specs.declared.edge.Edge.{Edge}
-use Rattle.walks.specs.Live.{is_same_vertex, parents_of}
+use Rattle.grove_edits.specs.Vertex.{is_same_vertex}
+use Rattle.walks.specs.Live.{parents_of}
 use Rattle.walks.specs.Walk.{only_source, above}
-use Rattle.walks.proofs.Vertices.{same_vertex_exact}
+use Rattle.grove_edits.proofs.Vertices.{same_vertex_laws, same_vertex_exact}
 use Rattle.walks.proofs.Up.{up, walk_len, walk_apart}
 use Rattle.unicycle_roots.specs.Met.{met_by, unmet}
-use Rattle.unicycle_roots.proofs.Keys.{same_vertex_laws}
 
 -- before the first walk no vertex was met
 pub unmet-none : (edges : List Edge) → unmet edges [] ≡ length edges

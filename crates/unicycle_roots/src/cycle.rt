@@ -3,8 +3,8 @@ ghost use Rattle.walks.specs.Walk.{walk};
 ghost use Rattle.walks.specs.Class.{is_cycle_root};
 ghost use Rattle.unicycle_roots.specs.Met.{is_on_cycle, leads_to};
 
-use crate::step_up::{is_same, lesser, vertex_above};
-use grove_edits::Vertex;
+use crate::step_up::{lesser, vertex_above};
+use grove_edits::{Vertex, is_same_vertex};
 use std::sync::ledger::Ledger;
 use walks::{ParentOf, Steps};
 
@@ -22,7 +22,7 @@ pub(crate) fn root_of_cycle<P: ParentOf, L: Ledger>(
     let mut least = *entry;
     let mut at = *entry;
     while let Some(above) = vertex_above(&at, parents, steps) {
-        if is_same(&above, entry) {
+        if is_same_vertex(&above, entry) {
             return least;
         }
         least = lesser(&least, &above);

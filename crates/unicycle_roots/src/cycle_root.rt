@@ -2,8 +2,8 @@ ghost use Rattle.std.specs.Prelude.{◌≡◌, ◌+◌, ◌*◌, ◌≤◌, leng
 ghost use Rattle.walks.specs.Walk.{walk};
 ghost use Rattle.walks.specs.Class.{is_cycle_root};
 
-use crate::step_up::{StepUp, is_same, step_up, vertex_above};
-use grove_edits::Vertex;
+use crate::step_up::{StepUp, step_up, vertex_above};
+use grove_edits::{Vertex, is_same_vertex};
 use std::sync::ledger::Ledger;
 use walks::{ParentOf, Steps};
 
@@ -34,7 +34,7 @@ pub(crate) fn is_cycle_root<P: ParentOf, L: Ledger>(
             Some(above) => above,
             None => return false,
         };
-        if is_same(&tortoise, &hare) {
+        if is_same_vertex(&tortoise, &hare) {
             return false;
         }
     }

@@ -1,11 +1,11 @@
 ghost use Rattle.std.specs.Prelude.{◌≡◌, ◌+◌, ◌<◌, ◌≤◌, None, Some, OnSome, if◌then◌else◌};
 ghost use Rattle.std.specs.Ordering.{is_gt};
 ghost use Rattle.grove_edits.specs.declared.vertex.Vertex.{Vertex};
-ghost use Rattle.grove_edits.specs.Vertex.{vertex_cmp, is_same_vertex};
+ghost use Rattle.grove_edits.specs.Vertex.{vertex_cmp};
 ghost use Rattle.walks.specs.Walk.{above};
 ghost use Rattle.unicycle_roots.specs.StepUp.{found};
 
-use grove_edits::Vertex;
+use grove_edits::{Vertex, compare_vertices};
 use std::cmp::Ordering;
 use std::sync::ledger::Ledger;
 use walks::{Few, ParentOf, Steps};
@@ -21,23 +21,11 @@ pub(crate) enum StepUp {
     ToNoCycle,
 }
 
-fn order(a: &Vertex, b: &Vertex) -> Ordering
-    ensures { result ≡ vertex_cmp a.now b.now }
-{
-    a.cmp(b)
-}
-
-pub(crate) fn is_same(a: &Vertex, b: &Vertex) -> bool
-    ensures { result ≡ is_same_vertex a.now b.now }
-{
-    order(a, b) == Ordering::Equal
-}
-
 /// The lesser of two vertices, and the first of two that are one.
 pub(crate) fn lesser(a: &Vertex, b: &Vertex) -> Vertex
     ensures { result ≡ (if is_gt (vertex_cmp a.now b.now) then b.now else a.now) }
 {
-    match order(a, b) {
+    match compare_vertices(a, b) {
         Ordering::Less | Ordering::Equal => *a,
         Ordering::Greater => *b,
     }
@@ -73,7 +61,7 @@ pub(crate) fn step_up<P: ParentOf, L: Ledger>(
     let Some(above) = vertex_above(from, parents, steps) else {
         return StepUp::ToNoCycle;
     };
-    match order(first, &above) {
+    match compare_vertices(first, &above) {
         Ordering::Less => StepUp::ToGreater(above),
         Ordering::Equal => StepUp::Back,
         Ordering::Greater => StepUp::ToNoCycle,

@@ -4,8 +4,7 @@ ghost use Rattle.walks.specs.Few.{first_two};
 ghost use Rattle.walks.specs.Live.{parents_of};
 
 use super::*;
-use crate::step_up::is_same;
-use grove_edits::{Edge, Vertex};
+use grove_edits::{Edge, Vertex, is_same_vertex};
 use grove_names::Name;
 use grove_sorts::{Ctor, Position};
 use std::alloc::Global;
@@ -71,7 +70,7 @@ fn parents(edges: &[Edge], vertex: &Vertex) -> Few
 fn with_parent(few: Few, edge: &Edge, vertex: &Vertex) -> Few
     ensures { (before : List Edge) → few ≡ first_two before → result ≡ first_two (before ++ parents_of vertex.now (edge.now ∷ [])) }
 {
-    if !is_same(&edge.target, vertex) {
+    if !is_same_vertex(&edge.target, vertex) {
         return few;
     }
     match few {
@@ -80,14 +79,6 @@ fn with_parent(few: Few, edge: &Edge, vertex: &Vertex) -> Few
         Few::More(first, second) => Few::More(first, second),
     }
 }
-
-const ROOT: Vertex = Vertex {
-    name: Name {
-        author: 0,
-        counter: 0,
-    },
-    ctor: Ctor::Root,
-};
 
 fn vertex(counter: u64, ctor: Ctor) -> Vertex
     ensures { result ≡ record { name = record { author = 1; counter = counter }; ctor = ctor } }
@@ -119,7 +110,7 @@ fn sample(alloc: Global) -> Result<Edges, NoMemory> {
         edge(4, least, Position::Operand, other),
         edge(6, other, Position::Operand, least),
         edge(8, other, Position::Operand, vertex(7, Ctor::Num(7))),
-        edge(10, ROOT, Position::Main, below),
+        edge(10, Vertex::ROOT, Position::Main, below),
         edge(12, below, Position::Operand, vertex(11, Ctor::Num(8))),
     ]?;
     Ok(Edges { edges, targets: 6 })
@@ -142,7 +133,7 @@ fn find<L: Ledger>(alloc: Global, blank: Blank) -> Result<Found, NoMemory>
     let least = vertex(3, Ctor::Fst);
     let other = vertex(5, Ctor::Snd);
     let vertices = [
-        ROOT,
+        Vertex::ROOT,
         vertex(11, Ctor::Num(8)),
         vertex(9, Ctor::Snd),
         vertex(7, Ctor::Num(7)),

@@ -11,17 +11,17 @@ returns-then-is_shared g c =
     let shared : is_shared c.args.edge.now.target live ≡ true = sym (c.is_shared.ensures ∙ ap (λ v. is_shared v live) c.requires.target) ∙ c.if-is_shared.true in
     what_of_shared live c.args.edge.now.target shared
 
-pub returns-then-is_same : goal.returns-then-is_same
-returns-then-is_same g c =
+pub returns-then-is_same_vertex : goal.returns-then-is_same_vertex
+returns-then-is_same_vertex g c =
     let live = g.G.LiveGraph.live c.args.graph.now in
     let alone : is_shared c.args.edge.now.target live ≡ false = sym (c.is_shared.ensures ∙ ap (λ v. is_shared v live) c.requires.target) ∙ c.if-is_shared.false in
-    let same = same_vertex_exact c.args.edge.now.target c.args.root.now (sym c.is_same.ensures ∙ c.if-is_same.true) in
+    let same = same_vertex_exact c.args.edge.now.target c.args.root.now (sym c.is_same_vertex.ensures ∙ c.if-is_same_vertex.true) in
     what_of_root live c.args.edge.now c.args.root.now c.requires.outer c.requires.held alone same
 
-pub returns-else-is_same : goal.returns-else-is_same
-returns-else-is_same g c =
+pub returns-else-is_same_vertex : goal.returns-else-is_same_vertex
+returns-else-is_same_vertex g c =
     let live = g.G.LiveGraph.live c.args.graph.now in
     let alone : is_shared c.args.edge.now.target live ≡ false = sym (c.is_shared.ensures ∙ ap (λ v. is_shared v live) c.requires.target) ∙ c.if-is_shared.false in
-    let other : is_same_vertex c.args.edge.now.target c.args.root.now ≡ false = sym c.is_same.ensures ∙ c.if-is_same.false in
+    let other : is_same_vertex c.args.edge.now.target c.args.root.now ≡ false = sym c.is_same_vertex.ensures ∙ c.if-is_same_vertex.false in
     what_of_inner live c.args.edge.now c.args.root.now c.requires.outer c.requires.under c.requires.held alone
     (λ same. let itself = ap (is_same_vertex c.args.edge.now.target) (sym same) ∙ same_vertex_itself c.args.edge.now.target in cc)

@@ -36,15 +36,15 @@ returns-in-None-clause-ticks g c =
     absurd (tortoise_goes (g.P.ParentOf.live c.args.parents.now) c.args.vertex.now c.loop-above.hare c.loop-above.tortoise c.in-ToGreater.above c.in-ToGreater-step_up.above after.k after.round
     (sym c.in-ToGreater.ensures.found) (sym c.in-ToGreater-step_up.ensures.found) (sym c.in-None.ensures.above))
 
-pub returns-then-is_same-clause-root : goal.returns-then-is_same-clause-root
-returns-then-is_same-clause-root g c =
+pub returns-then-is_same_vertex-clause-root : goal.returns-then-is_same_vertex-clause-root
+returns-then-is_same_vertex-clause-root g c =
     let after = c.loop-above.invariant in
     sym (no_root_from_same (g.P.ParentOf.live c.args.parents.now) c.args.vertex.now c.loop-above.hare c.loop-above.tortoise c.in-ToGreater.above c.in-ToGreater-step_up.above c.in-Some.above after.k after.round
-    (sym c.in-ToGreater.ensures.found) (sym c.in-ToGreater-step_up.ensures.found) (sym c.in-Some.ensures.above) (sym c.is_same.ensures ∙ c.if-is_same.true))
+    (sym c.in-ToGreater.ensures.found) (sym c.in-ToGreater-step_up.ensures.found) (sym c.in-Some.ensures.above) (sym c.is_same_vertex.ensures ∙ c.if-is_same_vertex.true))
 
 pub loop-above-preserved : goal.loop-above-preserved
 loop-above-preserved g c =
     after_round (g.P.ParentOf.live c.args.parents.now) c.args.vertex.now c.loop-above.hare c.loop-above.tortoise c.in-ToGreater.above c.in-ToGreater-step_up.above c.in-Some.above
     c.args.steps.now c.loop-above.steps c.vertex_above.new.steps c.loop-above.invariant
-    (sym c.in-ToGreater.ensures.found) (sym c.in-ToGreater-step_up.ensures.found) (sym c.in-Some.ensures.above) (sym c.is_same.ensures ∙ c.if-is_same.false)
+    (sym c.in-ToGreater.ensures.found) (sym c.in-ToGreater-step_up.ensures.found) (sym c.in-Some.ensures.above) (sym c.is_same_vertex.ensures ∙ c.if-is_same_vertex.false)
     (omega (arith, c.in-ToGreater.ensures.ticks_where_greater c.in-ToGreater.above refl, c.in-ToGreater-step_up.ensures.ticks_where_greater c.in-ToGreater-step_up.above refl, c.in-Some.ensures.ticks_where_above))
