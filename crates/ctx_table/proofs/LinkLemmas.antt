@@ -1,5 +1,5 @@
 -- Links, and the contexts that they stand for.
-use Rattle.std.proofs.Common.{◌≡◌, ℕ, ◌+◌, ◌-◌, ◌<◌, ◌⊎◌, Bool, true, List, [], ◌∷◌, ◌++◌, length, get_or, fold, refl, sym, ap, subst, ◌∙◌, inl, inr, arith, true≢false, zero, suc}
+use Rattle.std.proofs.Common.{◌≡◌, ℕ, ◌+◌, ◌<◌, ◌⊎◌, Bool, true, List, [], ◌∷◌, ◌++◌, length, get_or, fold, refl, sym, ap, subst, ◌∙◌, inl, inr, arith, true≢false, zero, suc}
 use Rattle.std.proofs.lemmas.Bool.{cases_order}
 use Rattle.std.proofs.lemmas.List.{length_push, get_or_append_left, get_or_push, get_or_default}
 use Rattle.std.proofs.lemmas.List.Sums.{fold-append}
@@ -65,19 +65,6 @@ context_at-contexts_of ls table i d h =
 pub empty_context : (ls : List Link) (table : List Context) → contexts_of ls ≡ table → get_or table 0 [] ≡ []
 empty_context ls table view =
     ap (λ t. get_or t 0 []) (sym view) ∙ context_at-fold ([] ∷ []) ls 0 (omega arith)
-
--- what a read of the links says of the context of that number
-pub context_at-read : (ls ws : List Link) (table : List Context) → contexts_of ls ≡ table → ws ≡ ls → IsTable ls → (n : ℕ) (l : Link) → 0 < n → n < length table
-    → l ≡ get_or ws (n - 1) l → (get_or table n [] ≡ context_of table l) × (l.outer.0 < n)
-context_at-read ls ws table view same links n l positive h read =
-    let within : n - 1 < length ls = omega (arith, h, positive, ap length view, length-contexts_of ls) in
-    let read_ls : get_or ls (n - 1) l ≡ l = sym (read ∙ ap (λ xs. get_or xs (n - 1) l) same) in
-    let back : n - 1 + 1 ≡ n = omega (arith, positive) in
-    let before = links.outer_before (n - 1) l within in (
-      subst (λ t. get_or t n [] ≡ context_of t l) view
-          (ap (λ k. get_or (contexts_of ls) k []) (sym back) ∙ context_at-contexts_of ls links (n - 1) l within ∙ ap (context_of (contexts_of ls)) read_ls),
-      omega (arith, subst (λ x. x.outer.0 < n - 1 + 1) read_ls before, back),
-    )
 
 pub KeepsContexts-push : (cs : List Context) (c : Context) → KeepsContexts cs (cs ++ c ∷ [])
 KeepsContexts-push cs c = record {

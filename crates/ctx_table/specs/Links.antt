@@ -1,7 +1,6 @@
 -- How a table keeps its contexts: as links from a binding to the context around it. The empty context has the number 0 and no link.
-use Rattle.std.specs.Prelude.{◌≡◌, ℕ, ◌+◌, ◌<◌, ◌⊎◌, List, [], ◌∷◌, ◌++◌, length, fold, Option, None, Some}
+use Rattle.std.specs.Prelude.{◌≡◌, ℕ, ◌+◌, ◌<◌, ◌⊎◌, List, [], ◌∷◌, ◌++◌, length, fold}
 use Rattle.std.specs.List.{slice_index_or}
-use Rattle.ctx_table.specs.declared.ctx_id.CtxId.{CtxId}
 use Rattle.ctx_table.specs.declared.link.Link.{Link}
 use Rattle.ctx_table.specs.Context.{Context}
 use Rattle.ctx_table.specs.CtxTable.{context_at}
@@ -26,8 +25,3 @@ pub record IsTable (links : List Link) : Type 0 where
 -- new is old, or old with l as its last link
 abbrev pub HasAddedLink : Link → List Link → List Link → Type 0
 HasAddedLink l old new = (new ≡ old) ⊎ (new ≡ old ++ l ∷ [])
-
--- the context of this number is empty, or has this link to a context before it
-abbrev pub LeadsFrom : List Context → CtxId → Option Link → Type 0
-LeadsFrom table id None = context_at table id ≡ []
-LeadsFrom table id (Some l) = (context_at table id ≡ context_of table l) × (l.outer.0 < id.0)
