@@ -1,0 +1,5 @@
+pub mod Steps
+pub mod Places
+pub mod Turned
+pub mod Closing
+pub mod Turns
