@@ -89,7 +89,7 @@ impl Board {
     /// Gives a seat the parts and the marks of another, and what that one has seen. It takes no memory.
     pub fn join(&self, seat: &mut BoardSeat, other: BoardSeat)
         requires board { (seat.old.board ≡ self.now) × (other.board ≡ self.now) }
-        ensures { seat.new ≡ joined_board_seat seat.old other }
+        ensures joined { seat.new ≡ joined_board_seat seat.old other }
     {
         let BoardSeat { place } = other;
         self.table.shared.join_seat::<Both>(&mut seat.place, place);

@@ -29,15 +29,16 @@ impl<M: Machine> Model for Journal<M> {
 }
 
 impl<M: Machine> Journal<M> {
+    /// How many entries there are.
     pub fn len(&self) -> usize
-        ensures { result ≡ length self.now }
+        ensures length { result ≡ length self.now }
     {
         self.entries.len()
     }
 
     /// The entry at an index, if it is not past the end.
     pub fn get(&self, index: usize) -> Option<&Entry<M>>
-        ensures { MatchOption result (length self.now ≤ index) (λ entry. slice_get self.now index ≡ Some entry.now) }
+        ensures entry { MatchOption result (length self.now ≤ index) (λ entry. slice_get self.now index ≡ Some entry.now) }
     {
         self.entries.get(index)
     }

@@ -43,7 +43,7 @@ impl<M: Machine> Shared<M> {
         calls: u64,
         parts: u64,
     ) -> Result<(Shared<M>, Pass<M>), NoMemoryWith<M>>
-        requires { 1 ≤ parts }
+        requires some_part { 1 ≤ parts }
         ensures shared { IfOk result (λ made. (made.0.calls ≡ calls) × (made.0.parts ≡ parts) × (made.0.first.machine ≡ machine)) }
         ensures pass { IfOk result (λ made. made.1 ≡ first_pass made.0) }
         ensures back { IfErr result (λ refused. refused.state ≡ machine) }
@@ -95,7 +95,7 @@ impl<M: Machine> Shared<M> {
         commands: Vec<M::Command>,
     ) -> Result<(), NoMemoryWith<Vec<M::Command>>>
         requires shared { pass.old.shared ≡ self.now }
-        requires some { 1 ≤ length commands.items }
+        requires some_command { 1 ≤ length commands.items }
         requires calls { length commands.items ≤ pass.old.calls }
         ensures entered { OnOk result (EntersAll pass.old pass.new commands.items) }
         ensures rest { IfErr result (λ refused. (taken : List M.Command) × (taken ++ refused.state.items ≡ commands.items) × EntersAll pass.old pass.new taken) }

@@ -88,7 +88,7 @@ impl<M: Machine> Solo<M> {
         actor: Actor,
         command: M::Command,
     ) -> Result<M::Reply, NoMemoryWith<M::Command>>
-        requires { length self.old.journal < self.old.calls }
+        requires room { length self.old.journal < self.old.calls }
         ensures reply { IfOk result (λ reply. reply ≡ M.reply self.old.machine actor command) }
         ensures entered { OnOk result (self.new ≡ with_step M.after M.effect M.reply self.old actor command) }
         ensures replays { (first : M) → Replays M.after M.effect M.reply first self.old.journal self.old.machine → Replays M.after M.effect M.reply first self.new.journal self.new.machine }
@@ -116,7 +116,7 @@ impl<M: Machine> Solo<M> {
         actor: Actor,
         mut commands: Vec<M::Command>,
     ) -> Result<(), NoMemoryWith<Vec<M::Command>>>
-        requires { length self.old.journal + length commands.items ≤ self.old.calls }
+        requires room { length self.old.journal + length commands.items ≤ self.old.calls }
         ensures entered { OnOk result (self.new ≡ with_steps M.after M.effect M.reply self.old actor commands.items) }
         ensures rest { IfErr result (λ refused. (taken : List M.Command) × (taken ++ refused.state.items ≡ commands.items) × (self.new ≡ with_steps M.after M.effect M.reply self.old actor taken)) }
         ensures replays { (first : M) → Replays M.after M.effect M.reply first self.old.journal self.old.machine → Replays M.after M.effect M.reply first self.new.journal self.new.machine }
@@ -133,10 +133,10 @@ impl<M: Machine> Solo<M> {
     }
 
     /// How many entries there are.
-    pub fn len(&self) -> u64
-        ensures { result ≡ length self.now.journal }
+    pub fn len(&self) -> usize
+        ensures length { result ≡ length self.now.journal }
     {
-        self.entries.len() as u64
+        self.entries.len()
     }
 
     /// The machine and the journal.

@@ -19,7 +19,7 @@ pub trait Kept: Send + Drop {
 
     /// The length of the list.
     fn len(&self) -> u64
-        ensures { result ≡ length (list self.now) };
+        ensures length { result ≡ length (list self.now) };
 
     /// A state with an empty list has grown from its own data.
     ghost from_itself: { (state : Self) → list state ≡ [] → grown (now state) state };

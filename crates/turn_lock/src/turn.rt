@@ -89,7 +89,7 @@ impl<S: Kept> Turn<S> {
         requires begun { seat.old.begun ≡ true }
         requires entries { (entries : List S.Entry) × (S.list state ≡ seat.old.seen ++ entries) × (length entries ≤ seat.old.calls) }
         requires grown { S.grown self.now.first state }
-        ensures { seat.new ≡ after_turn seat.old (S.list state) }
+        ensures seat { seat.new ≡ after_turn seat.old (S.list state) }
     {
         let number = seat.number;
         steps::leave(&self.table.shared, &mut seat.place, number, state);
