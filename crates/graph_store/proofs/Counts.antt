@@ -19,7 +19,7 @@ use Rattle.graph_store.specs.Counts.{once, ends_at, weight, uses, count_at, coun
 use Rattle.graph_store.specs.Room.{GetsRoom, GetsEntry}
 use Rattle.graph_store.specs.Named.{is_present}
 use Rattle.graph_store.specs.Store.{Entries, entry_at, state_in, HasRoom}
-use Rattle.graph_store.proofs.Lookups.{lookup_congr, test_is_same_edge, entry_kept, entry_set, IsEntered, entry_entered}
+use Rattle.graph_store.proofs.Lookups.{lookup_congr, test_is_same_edge, entry_kept, entry_set}
 
 -- ---- one number set
 
@@ -58,51 +58,12 @@ counted_up k n es fs room is more v = ap (λ o. unwrap_or o 0) (count_set k n es
   by_test true same = more ∙ ap (λ w. count_of es w + 1) (one_vertex k v same)
   by_test false other = omega arith
 
--- nothing changes where the number that is there is set
-pub counted_same : (k : Vertex) (n : ℕ) (es fs : List (Vertex × ℕ)) → count_at es k ≡ Some n → fs ≡ set_value (is_at (vertex_impl.ghosts.cmp k)) es n → (v : Vertex) → count_of fs v ≡ count_of es v
-counted_same k n es fs there is v = ap (λ o. unwrap_or o 0) (count_set k n es fs (ap is_some there) is v) ∙ by_test (is_same_vertex k v) refl where
-  by_test : (b : Bool) → is_same_vertex k v ≡ b → unwrap_or (cond b (Some n) (count_at es v)) 0 ≡ count_of es v
-  by_test true same = sym (ap (λ o. unwrap_or o 0) there) ∙ ap (λ w. count_of es w) (one_vertex k v same)
-  by_test false other = refl
-
 pub counted_down : (k : Vertex) (n : ℕ) (es fs : List (Vertex × ℕ)) → IsSome (count_at es k) → fs ≡ set_value (is_at (vertex_impl.ghosts.cmp k)) es n → n + 1 ≡ count_of es k → (v : Vertex)
     → count_of fs v + once (is_same_vertex k v) ≡ count_of es v
 counted_down k n es fs room is less v = ap (λ o. unwrap_or o 0 + once (is_same_vertex k v)) (count_set k n es fs room is v) ∙ by_test (is_same_vertex k v) refl where
   by_test : (b : Bool) → is_same_vertex k v ≡ b → unwrap_or (cond b (Some n) (count_at es v)) 0 + once b ≡ count_of es v
   by_test true same = less ∙ ap (λ w. count_of es w) (one_vertex k v same)
   by_test false other = omega arith
-
--- ---- a number entered
-
-number_entered : (k v : Vertex) (es fs : List (Vertex × ℕ))
-    → lookup (is_at (vertex_impl.ghosts.cmp v)) fs ≡ cond (is_at (vertex_impl.ghosts.cmp k) v) (Some 1) (lookup (is_at (vertex_impl.ghosts.cmp v)) es)
-    → count_at fs v ≡ cond (is_same_vertex k v) (Some 1) (count_at es v)
-number_entered k v es fs changed =
-    sym (get_vertex fs v)
-    ∙ changed
-    ∙ ap (λ b. cond b (Some 1) (lookup (is_at (vertex_impl.ghosts.cmp v)) es)) (test_is_same_vertex k v)
-    ∙ ap (cond (is_same_vertex k v) (Some 1)) (get_vertex es v)
-
--- a vertex without a number gets the number 1
-pub counted_new : (k v : Vertex) (es fs : List (Vertex × ℕ)) → count_at es k ≡ None
-    → lookup (is_at (vertex_impl.ghosts.cmp v)) fs ≡ cond (is_at (vertex_impl.ghosts.cmp k) v) (Some 1) (lookup (is_at (vertex_impl.ghosts.cmp v)) es)
-    → count_of fs v ≡ count_of es v + once (is_same_vertex k v)
-counted_new k v es fs none changed = ap (λ o. unwrap_or o 0) (number_entered k v es fs changed) ∙ by_test (is_same_vertex k v) refl where
-  by_test : (b : Bool) → is_same_vertex k v ≡ b → unwrap_or (cond b (Some 1) (count_at es v)) 0 ≡ count_of es v + once b
-  by_test true same = let zero : count_of es v ≡ 0 = ap (count_of es) (sym (one_vertex k v same)) ∙ ap (λ o. unwrap_or o 0) none in omega (arith, zero)
-  by_test false other = omega arith
-
-pub new_has_number : (k : Vertex) (es fs : List (Vertex × ℕ))
-    → lookup (is_at (vertex_impl.ghosts.cmp k)) fs ≡ cond (is_at (vertex_impl.ghosts.cmp k) k) (Some 1) (lookup (is_at (vertex_impl.ghosts.cmp k)) es) → IsSome (count_at fs k)
-new_has_number k es fs changed = ap is_some (number_entered k k es fs changed ∙ ap (λ b. cond b (Some 1) (count_at es k)) (same_vertex_laws.refl k))
-
-pub others_have_numbers : (k v : Vertex) (es fs : List (Vertex × ℕ))
-    → lookup (is_at (vertex_impl.ghosts.cmp v)) fs ≡ cond (is_at (vertex_impl.ghosts.cmp k) v) (Some 1) (lookup (is_at (vertex_impl.ghosts.cmp v)) es)
-    → IsSome (count_at es v) → IsSome (count_at fs v)
-others_have_numbers k v es fs changed had = ap is_some (number_entered k v es fs changed) ∙ by_test (is_same_vertex k v) where
-  by_test : (b : Bool) → is_some (cond b (Some 1) (count_at es v)) ≡ true
-  by_test true = refl
-  by_test false = had
 
 -- ---- one state set
 
@@ -213,16 +174,6 @@ target_fits top s t e counts mid absent here fits step =
     bounded : (a b w z n m : ℕ) → b ≡ 1 → w ≡ a + b → z ≡ 0 → n + w < top + z → m ≡ n + a → m + 1 < top
     bounded a b w z n m h k l p q = omega arith
 
--- the ends of an edge, of which both are counted once more
-
-pub first_end_counted : (e : Edge) (counts mid last : List (Vertex × ℕ)) → ((v : Vertex) → count_of mid v ≡ count_of counts v + once (is_same_vertex e.source v))
-    → ((v : Vertex) → count_of last v ≡ count_of mid v) → 1 ≤ count_of last e.source
-first_end_counted e counts mid last step same =
-    bounded (once (is_same_vertex e.source e.source)) (count_of counts e.source) (count_of mid e.source) (count_of last e.source) (ap once (same_vertex_laws.refl e.source)) (step e.source) (same e.source)
-  where
-    bounded : (a n m l : ℕ) → a ≡ 1 → m ≡ n + a → l ≡ m → 1 ≤ l
-    bounded a n m l h k i = omega arith
-
 -- ---- room
 
 vertex_kept : (k : Vertex) (m n : BTreeMap Vertex ℕ) → GetsRoom vertex_impl.ghosts.cmp k 0 m n → (v : Vertex)
@@ -325,34 +276,3 @@ counted_set k s es fs cs ds room is counted step kept = record {
     by_test : (b : Bool) → is_same_edge k e ≡ b → is_some (cond b (Some s) (entry_at es e)) ≡ true → HasRoom es e
     by_test true same h = subst (HasRoom es) (one_edge k e same) room
     by_test false other h = h
-
--- they are those of one more edge where its ends are counted once more
-pub counted_entered : (k : Edge) (s : State) (es fs : Entries) (cs ds : List (Vertex × ℕ)) → is_present s ≡ true → IsCounted es cs → lookup (is_at (edge_impl.ghosts.cmp k)) es ≡ None
-    → fs ≡ insert_entry edge_impl.ghosts.cmp es k s → IsEntered k s es fs → ((v : Vertex) → count_of ds v ≡ count_of cs v + ends_at k v)
-    → IsSome (count_at ds k.source) → IsSome (count_at ds k.target) → KeepsCounts cs ds → IsCounted fs ds
-counted_entered k s es fs cs ds present counted none is entered more source target kept = record {
-  exact = λ v. exactly (count_of ds v) (count_of cs v) (ends_at k v) (weight s k v) (uses es v) (uses fs v) (more v) (counted.exact v) (present_weight s k v present)
-      (ap (λ (gs : Entries). uses gs v) is ∙ uses_entered k s v es none);
-  sources = λ e had. by_test_source e (is_same_edge k e) refl (sym (ap is_some (entry_entered k s es fs entered e)) ∙ had);
-  targets = λ e had. by_test_target e (is_same_edge k e) refl (sym (ap is_some (entry_entered k s es fs entered e)) ∙ had);
-} where
-  exactly : (d c a w u f : ℕ) → d ≡ c + a → c ≡ u → w ≡ a → f ≡ w + u → d ≡ f
-  exactly d c a w u f h i j l = omega arith
-
-  by_test_source : (e : Edge) (b : Bool) → is_same_edge k e ≡ b → is_some (cond b (Some s) (entry_at es e)) ≡ true → IsSome (count_at ds e.source)
-  by_test_source e true same h = subst (λ (x : Edge). IsSome (count_at ds x.source)) (one_edge k e same) source
-  by_test_source e false other h = kept e.source (counted.sources e h)
-
-  by_test_target : (e : Edge) (b : Bool) → is_same_edge k e ≡ b → is_some (cond b (Some s) (entry_at es e)) ≡ true → IsSome (count_at ds e.target)
-  by_test_target e true same h = subst (λ (x : Edge). IsSome (count_at ds x.target)) (one_edge k e same) target
-  by_test_target e false other h = kept e.target (counted.targets e h)
-
--- counted once more and once less
-pub counted_back : (k : Edge) (cs mid ds : List (Vertex × ℕ)) → ((v : Vertex) → count_of mid v ≡ count_of cs v + ends_at k v) → ((v : Vertex) → count_of ds v + ends_at k v ≡ count_of mid v)
-    → (v : Vertex) → count_of ds v ≡ count_of cs v
-counted_back k cs mid ds more less v = back (count_of cs v) (count_of mid v) (count_of ds v) (ends_at k v) (more v) (less v) where
-  back : (c m d a : ℕ) → m ≡ c + a → d + a ≡ m → d ≡ c
-  back c m d a h i = omega arith
-
-pub none_counted : IsCounted [] []
-none_counted = record { exact = λ v. refl; sources = λ e had. absurd (true≢false (sym had)); targets = λ e had. absurd (true≢false (sym had)) }

@@ -9,4 +9,3 @@ pub mod VertexOrder
 pub mod Parts
 pub mod Maxima
 pub mod AuthorNames
-mod Restored

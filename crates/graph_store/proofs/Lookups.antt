@@ -116,32 +116,3 @@ room_set edge state es fs room is e had = ap is_some (entry_set edge state es fs
   by_test : (b : Bool) → is_some (cond b (Some state) (entry_at es e)) ≡ true
   by_test true = refl
   by_test false = had
-
--- ---- one entry entered
-
--- the code enters a state of an edge
-abbrev pub IsEntered : Edge → State → Entries → Entries → Type 0
-IsEntered k s es fs =
-    (e : Edge) → lookup (is_at (edge_impl.ghosts.cmp e)) fs ≡ cond (is_at (edge_impl.ghosts.cmp k) e) (Some s) (lookup (is_at (edge_impl.ghosts.cmp e)) es)
-
-pub entry_entered : (k : Edge) (s : State) (es fs : Entries) → IsEntered k s es fs → (e : Edge) → entry_at fs e ≡ cond (is_same_edge k e) (Some s) (entry_at es e)
-entry_entered k s es fs entered e =
-    sym (get_edge fs e)
-    ∙ entered e
-    ∙ ap (λ b. cond b (Some s) (lookup (is_at (edge_impl.ghosts.cmp e)) es)) (test_is_same_edge k e)
-    ∙ ap (cond (is_same_edge k e) (Some s)) (get_edge es e)
-
-pub state_entered : (k : Edge) (s : State) (es fs : Entries) → IsEntered k s es fs → IsSame (state_in fs) (with_state k s (state_in es))
-state_entered k s es fs entered e = ap (λ o. unwrap_or o Absent) (entry_entered k s es fs entered e) ∙ by_test (is_same_edge k e) where
-  by_test : (b : Bool) → unwrap_or (cond b (Some s) (entry_at es e)) Absent ≡ cond b s (state_in es e)
-  by_test true = refl
-  by_test false = refl
-
-pub has_entered : (k : Edge) (s : State) (es fs : Entries) → IsEntered k s es fs → HasRoom fs k
-has_entered k s es fs entered = ap is_some (entry_entered k s es fs entered k ∙ ap (λ b. cond b (Some s) (entry_at es k)) (same_edge_laws.refl k))
-
-pub room_entered : (k : Edge) (s : State) (es fs : Entries) → IsEntered k s es fs → KeepsRoom es fs
-room_entered k s es fs entered e had = ap is_some (entry_entered k s es fs entered e) ∙ by_test (is_same_edge k e) where
-  by_test : (b : Bool) → is_some (cond b (Some s) (entry_at es e)) ≡ true
-  by_test true = refl
-  by_test false = had

@@ -14,7 +14,6 @@ use Rattle.edge_lattice.specs.declared.state.State.TheVariants.{Absent, Live, De
 use Rattle.grove_names.specs.declared.name.Name.{Name}
 use Rattle.grove_names.specs.Name.{name_cmp}
 use Rattle.grove_names.proofs.Orders.{name_cmp_total}
-use Rattle.grove_sorts.specs.declared.ctor.Ctor.{Ctor}
 use Rattle.grove_sorts.specs.declared.ctor.Ctor.TheVariants.{Root}
 use Rattle.grove_sorts.specs.declared.position.Position.TheVariants.{Main}
 use Rattle.grove_sorts.specs.Ctor.{ctor_cmp, ctor_number, payload}
@@ -45,9 +44,6 @@ zero_le (suc n) = ap (λ b. is_le (cond b Less (cond (0 == suc n) Equal Greater)
 none_le : (xs : List ℕ) → is_le (slice_cmp nat_cmp [] xs) ≡ true
 none_le [] = refl
 none_le (x ∷ xs) = refl
-
-pub root_ctor_le : (k : Ctor) → is_le (ctor_cmp Root k) ≡ true
-root_ctor_le k = le_then (nat_cmp 0 (ctor_number k)) (slice_cmp nat_cmp [] (payload k)) (zero_le (ctor_number k)) (none_le (payload k))
 
 pub root_le : (v : Vertex) → is_le (vertex_cmp root v) ≡ true
 root_le v =

@@ -1,5 +1,5 @@
--- The keys of entries in order whose values have a property: the vertices and the live edges of a graph.
-use Rattle.std.proofs.Common.{◌≡◌, ℕ, ◌<◌, Bool, true, false, cond, ◌||◌, List, [], ◌∷◌, ◌++◌, append_assoc, append-nil, Option, Some, None, Ordering, Less, Equal, Greater, is_eq, is_lt, is_le, true≢false, unwrap_or, refl, sym, ap, subst, ◌∙◌, inl, inr, ◌⊎◌}
+-- The keys of entries in order whose values have a property: the vertices of a graph.
+use Rattle.std.proofs.Common.{◌≡◌, ℕ, ◌<◌, Bool, true, false, cond, ◌||◌, List, [], ◌∷◌, ◌++◌, append-nil, Some, None, Ordering, Less, Equal, Greater, is_eq, is_lt, is_le, true≢false, refl, sym, ap, subst, ◌∙◌, inl, inr, ◌⊎◌}
 use Rattle.std.specs.Cmp.{IsTotalOrder}
 use Rattle.std.specs.Ordering.{ordering_reverse}
 use Rattle.std.specs.List.{AllByRecursion}
@@ -9,19 +9,15 @@ use Rattle.std.specs.BTreeMap.{is_at}
 use Rattle.std.specs.BTreeMap.Range.{range_contains, entries_between}
 use Rattle.std.specs.declared.ops.Bound.TheVariants.{Excluded, Unbounded}
 use Rattle.std.proofs.lemmas.Cmp.{tied_itself}
-use Rattle.edge_lattice.specs.declared.state.State.{State}
-use Rattle.edge_lattice.specs.declared.state.State.TheVariants.{Absent, Live, Deleted}
 use Rattle.grove_edits.specs.declared.vertex.Vertex.{Vertex}
-use Rattle.grove_edits.specs.declared.edge.Edge.{Edge}
 use Rattle.grove_edits.specs.contracts.vertex.VertexOrd.TheImpl as vertex_impl
 use Rattle.grove_edits.specs.contracts.edge.EdgeOrd.TheImpl as edge_impl
 use Rattle.grove_edits.specs.Vertex.{vertex_cmp, is_same_vertex, stands_in, root}
 use Rattle.grove_edits.specs.Edge.{edge_cmp}
-use Rattle.grove_edits.proofs.Orders.{vertex_cmp_total, vertex_cmp_exact, edge_cmp_total, edge_cmp_exact}
-use Rattle.walks.specs.Live.{IsInEdgeOrder, holds_edge}
-use Rattle.walks.specs.Whole.{IsVertexOf, IsInVertexOrder, AreVertices, AreLive}
+use Rattle.grove_edits.proofs.Orders.{vertex_cmp_total, vertex_cmp_exact}
+use Rattle.walks.specs.Whole.{IsVertexOf, IsInVertexOrder, AreVertices}
 use Rattle.graph_store.specs.Counts.{count_at, count_of, IsCounted}
-use Rattle.graph_store.specs.Store.{Entries, entry_at, state_in}
+use Rattle.graph_store.specs.Store.{Entries, state_in}
 use Rattle.grove_sorts.proofs.Orders.{equal_from_test}
 use Rattle.graph_store.proofs.Joins.{in_edge_order}
 use Rattle.graph_store.proofs.Names.{root_le, less_from_test}
@@ -87,59 +83,8 @@ module _ {K X : Type 0} {R : K → K → Ordering} (total : IsTotalOrder R) (exa
 
 -- ---- a loop that pushes the keys
 
-pub kept_more : {K X : Type 0} (p : X → Bool) (left rest : List (K × X)) (x : K × X) (so_far more all : List K) → left ≡ x ∷ rest → p x.1 ≡ true → more ≡ so_far ++ x.0 ∷ []
-    → so_far ++ kept p left ≡ all → more ++ kept p rest ≡ all
-kept_more {K} p left rest x so_far more all is has pushed before =
-    ap (λ ks. ks ++ kept p rest) pushed ∙ append_assoc so_far (x.0 ∷ []) (kept p rest)
-    ∙ sym (ap (λ b. so_far ++ cond b (x.0 ∷ kept p rest) (kept p rest)) has) ∙ sym (ap (λ es. so_far ++ kept p es) is) ∙ before
-
-pub kept_passed : {K X : Type 0} (p : X → Bool) (left rest : List (K × X)) (x : K × X) (so_far all : List K) → left ≡ x ∷ rest → p x.1 ≡ false
-    → so_far ++ kept p left ≡ all → so_far ++ kept p rest ≡ all
-kept_passed p left rest x so_far all is has before =
-    sym (ap (λ b. so_far ++ cond b (x.0 ∷ kept p rest) (kept p rest)) has) ∙ sym (ap (λ es. so_far ++ kept p es) is) ∙ before
-
 pub kept_all : {K X : Type 0} (p : X → Bool) (left : List (K × X)) (so_far all : List K) → left ≡ [] → so_far ++ kept p left ≡ all → so_far ≡ all
 kept_all p left so_far all is before = sym (append-nil so_far) ∙ sym (ap (λ es. so_far ++ kept p es) is) ∙ before
-
--- ---- the live edges
-
-abbrev pub is_live : State → Bool
-is_live Absent = false
-is_live Live = true
-is_live Deleted = false
-
-held_live : (o : Option State) → unwrap_or o Absent ≡ Live → holds is_live o ≡ true
-held_live None h = absurd cc
-held_live (Some Absent) h = absurd cc
-held_live (Some Live) h = refl
-held_live (Some Deleted) h = absurd cc
-
-live_held : (o : Option State) → holds is_live o ≡ true → unwrap_or o Absent ≡ Live
-live_held None h = absurd cc
-live_held (Some Absent) h = absurd cc
-live_held (Some Live) h = refl
-live_held (Some Deleted) h = absurd cc
-
-edges_in_order : (es : List Edge) → IsStrictlySortedBy edge_cmp es → IsInEdgeOrder es
-unfolding IsStrictlySortedBy
-edges_in_order [] up = tt
-edges_in_order (e ∷ es) up = (up.0, edges_in_order es up.1)
-
-edge_stands : (e : Edge) (es : List Edge) → holds_edge e es ≡ stands edge_cmp e es
-edge_stands e [] = refl
-edge_stands e (x ∷ es) = ap (λ b. is_eq (edge_cmp x e) || b) (edge_stands e es)
-
-pub live_listed : (es : Entries) (list : List Edge) → IsStrictlySortedBy edge_impl.ghosts.cmp (keys_of es) → list ≡ kept is_live es → AreLive (state_in es) list
-live_listed es list up is =
-    let sorted = in_edge_order (keys_of es) up in
-    subst (AreLive (state_in es)) (sym is) (record {
-      in_order = edges_in_order (kept is_live es) (kept_in_order edge_cmp is_live es sorted);
-      each = λ e live. found e sorted ∙ held_live (entry_at es e) live;
-      no_other = λ e stands. live_held (entry_at es e) (sym (found e sorted) ∙ stands);
-    })
-  where
-    found : (e : Edge) → IsStrictlySortedBy edge_cmp (keys_of es) → holds_edge e (kept is_live es) ≡ holds is_live (entry_at es e)
-    found e sorted = edge_stands e (kept is_live es) ∙ stands_where_held edge_cmp_total edge_cmp_exact is_live e es sorted
 
 -- ---- the vertices
 

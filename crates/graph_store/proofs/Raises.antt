@@ -1,6 +1,5 @@
 -- Graphs of edits that a store raised, and of edges that are not well formed.
-use Rattle.std.proofs.Common.{◌≡◌, ◌≢◌, ℕ, suc, ◌+◌, ◌<◌, ◌≤◌, Bool, true, false, cond, List, [], ◌∷◌, ◌++◌, length, take, slice_index_or, Option, Some, None, is_some, is_none, unwrap_or, refl, sym, ap, ◌∙◌, arith}
-use Rattle.std.proofs.Math.Seq.{take-suc, take-length}
+use Rattle.std.proofs.Common.{◌≡◌, ◌≢◌, Bool, true, false, cond, List, [], ◌∷◌, ◌++◌, Option, Some, None, is_some, is_none, unwrap_or, refl, sym, ap, ◌∙◌}
 use Rattle.edge_lattice.specs.declared.state.State.{State}
 use Rattle.edge_lattice.specs.declared.state.State.TheVariants.{Absent}
 use Rattle.edge_lattice.specs.State.{state_join}
@@ -8,7 +7,7 @@ use Rattle.edge_lattice.proofs.States.{state_join_assoc, Absent-state_join}
 use Rattle.grove_edits.specs.declared.edge.Edge.{Edge}
 use Rattle.grove_edits.specs.declared.edit.Edit.{Edit}
 use Rattle.grove_edits.specs.Edge.{edge_fault}
-use Rattle.grove_edits.specs.Graph.{Graph, graph, graph_join, IsSame, IsCanonical}
+use Rattle.grove_edits.specs.Graph.{graph, graph_join, IsSame, IsCanonical}
 use Rattle.grove_edits.proofs.Graphs.{graph-append, unnamed}
 use Rattle.graph_store.specs.Raised.{IsRaised, AreRaised}
 use Rattle.graph_store.specs.Store.{Entries, entry_at, state_in, HasRoom, well_formed}
@@ -45,21 +44,3 @@ canonical_of_edits edits list es is canonical = record {
   in_order = canonical.in_order;
   same = λ e. canonical.same e ∙ ap (λ s. cond (is_none (edge_fault e)) s Absent) (is e) ∙ graph_is_well_formed edits e;
 }
-
--- one more edit of a list raised
-pub raised_more : (g h k : Graph) (edits : List Edit) (i : ℕ) (edit : Edit) → i < length edits → edit ≡ slice_index_or edits i edit
-    → IsSame h (graph_join g (graph (take i edits))) → IsSame k (graph_join h (graph (edit ∷ []))) → IsSame k (graph_join g (graph (take (i + 1) edits)))
-raised_more g h k edits i edit lt at so_far step e =
-    step e ∙ ap (λ s. state_join s (graph (edit ∷ []) e)) (so_far e) ∙ state_join_assoc (g e) (graph (take i edits) e) (graph (edit ∷ []) e)
-    ∙ ap (state_join (g e)) (sym (graph-append (take i edits) (edit ∷ []) e) ∙ ap (λ l. graph l e) (sym more))
-  where
-    plus_one : (n : ℕ) → n + 1 ≡ suc n
-    plus_one n = omega arith
-
-    more : take (i + 1) edits ≡ take i edits ++ edit ∷ []
-    more = ap (λ n. take n edits) (plus_one i) ∙ take-suc edits i edit lt ∙ ap (λ x. take i edits ++ x ∷ []) (sym at)
-
-pub raised_whole : (g h : Graph) (edits : List Edit) (i : ℕ) → i ≤ length edits → length edits ≤ i → IsSame h (graph_join g (graph (take i edits))) → IsSame h (graph_join g (graph edits))
-raised_whole g h edits i le ge so_far e = so_far e ∙ ap (λ l. state_join (g e) (graph l e)) (ap (λ n. take n edits) (same i (length edits) le ge) ∙ take-length edits) where
-  same : (m n : ℕ) → m ≤ n → n ≤ m → m ≡ n
-  same m n h k = omega arith

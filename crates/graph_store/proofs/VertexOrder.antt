@@ -11,8 +11,6 @@ use Rattle.std.specs.declared.ops.Bound.TheVariants.{Included, Excluded, Unbound
 use Rattle.std.proofs.lemmas.Bool.{ltb-true}
 use Rattle.grove_names.specs.declared.name.Name.{Name}
 use Rattle.grove_names.specs.Name.{name_cmp}
-use Rattle.grove_names.proofs.Orders.{name_cmp_total}
-use Rattle.grove_sorts.specs.declared.ctor.Ctor.TheVariants.{Root}
 use Rattle.grove_edits.proofs.Orders.{one_edge, vertex_cmp_total, vertex_cmp_exact, cmp_is_vertex_cmp, edge_cmp_total, edge_cmp_exact}
 use Rattle.grove_sorts.specs.Ctor.{ctor_cmp}
 use Rattle.grove_edits.specs.declared.vertex.Vertex.{Vertex}
@@ -32,7 +30,7 @@ use Rattle.walks.specs.Whole.{IsVertexOf}
 use Rattle.graph_store.specs.Vertices.{IsCountedFrom, IsCountedNamed, IsVertexNamed, AreLeastTwo}
 use Rattle.graph_store.specs.declared.vertices.Named.TheVariants.{Zero, One, More}
 use Rattle.graph_store.proofs.Joins.{in_edge_order}
-use Rattle.graph_store.proofs.Names.{root_le, root_ctor_le, le_then, absent_not_present, present_from_state, less_from_test}
+use Rattle.graph_store.proofs.Names.{root_le, absent_not_present, present_from_state, less_from_test}
 use Rattle.grove_edits.proofs.Vertices.{same_vertex_laws}
 use Rattle.graph_store.proofs.Counts.{one_vertex}
 use Rattle.graph_store.proofs.Leasts.{pick, holds, found_later, found_behind, Fits, AreByName, pick_is_least, least_same, sorted_part, found_part}
@@ -111,31 +109,12 @@ pub found_is_least : (n : Name) (from : Bound Vertex) (es start left : List (Ver
 found_is_least n from es start left r up between so_far found =
     subst (IsLeast vertex_cmp (IsCountedFrom es n from)) (ap (pick (λ (v : Vertex). v.name) is_counted n) (sym between) ∙ sym so_far ∙ found) (first_is_least n from es up)
 
--- ---- the root
-
--- a root is the least vertex of its name
-least_vertex_le : (n : Name) (v : Vertex) → v.name ≡ n → is_le (vertex_cmp (record { name = n; ctor = Root }) v) ≡ true
-least_vertex_le n v named =
-    le_then (name_cmp n v.name) (ctor_cmp Root v.ctor) (ap is_le (ap (name_cmp n) named ∙ tied_itself name_cmp_total n)) (root_ctor_le v.ctor)
-
 not_less_back : (a b : Vertex) → is_le (vertex_cmp a b) ≡ true → is_lt (vertex_cmp b a) ≡ false
 not_less_back a b le = ap is_lt (vertex_cmp_total.antisymm b a) ∙ by_order (vertex_cmp a b) le where
   by_order : (o : Ordering) → is_le o ≡ true → is_lt (ordering_reverse o) ≡ false
   by_order Less h = refl
   by_order Equal h = refl
   by_order Greater h = absurd cc
-
-pub root_is_least : (n : Name) (es : List (Vertex × ℕ)) → n ≡ root.name → IsLeast vertex_cmp (IsCountedNamed es n) (Some root)
-root_is_least n es named = ((sym named, inl refl), λ v counted. not_less_back root v (root_le v))
-
-pub counted_is_least : (n : Name) (es : List (Vertex × ℕ)) (r : Option Vertex) → (n ≡ root.name → ⊥) → IsLeast vertex_cmp (IsCountedFrom es n (Included (record { name = n; ctor = Root }))) r → IsLeast vertex_cmp (IsCountedNamed es n) r
-counted_is_least n es r other least =
-    least_same vertex_cmp (IsCountedFrom es n (Included (record { name = n; ctor = Root }))) (IsCountedNamed es n) r
-    (λ v h. (h.0, inr h.1)) (λ v h. (h.0, above v h.0 h.1, least_vertex_le n v h.0)) least
-  where
-    above : (v : Vertex) → v.name ≡ n → (v ≡ root) ⊎ (0 < count_of es v) → 0 < count_of es v
-    above v named (inl is) = absurd (other (sym named ∙ ap (λ (w : Vertex). w.name) is))
-    above v named (inr h) = h
 
 -- ---- what the counts say of the graph
 

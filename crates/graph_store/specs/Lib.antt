@@ -8,4 +8,3 @@ pub mod Named
 pub mod Counts
 pub mod Vertices
 pub mod Greatest
-pub mod Restored

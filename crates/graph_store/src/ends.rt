@@ -1,7 +1,7 @@
-ghost use Rattle.std.specs.Prelude.{◌≡◌, ◌+◌, ◌<◌, ◌≤◌, ◌^◌, IsSome, OnOk, OnErr};
+ghost use Rattle.std.specs.Prelude.{◌≡◌, ◌+◌, ◌<◌, ◌≤◌, ◌^◌, IsSome, OnOk};
 ghost use Rattle.grove_edits.specs.declared.vertex.Vertex.{Vertex};
 ghost use Rattle.grove_edits.specs.Vertex.{is_same_vertex};
-ghost use Rattle.graph_store.specs.Counts.{count_at, count_of, ends_at, once, weight, KeepsCounts};
+ghost use Rattle.graph_store.specs.Counts.{count_at, count_of, once, weight, KeepsCounts};
 
 use crate::named::is_present;
 use crate::no_memory::NoMemory;
@@ -29,56 +29,6 @@ fn make_room_at(ends: &mut RoomMap<Vertex, u64>, vertex: &Vertex) -> Result<(), 
     ensures kept { KeepsCounts ends.old.entries.entries ends.new.entries.entries }
 {
     ends.make_room(vertex, 0)
-}
-
-// Counts the ends of an edge once more. Where memory runs out, the numbers are as before.
-pub(crate) fn count_ends(ends: &mut RoomMap<Vertex, u64>, edge: &Edge) -> Result<(), NoMemory>
-    ensures counts { OnOk result ((v : Vertex) → count_of ends.new.entries.entries v ≡ count_of ends.old.entries.entries v + ends_at edge.now v) }
-    ensures source { OnOk result (IsSome (count_at ends.new.entries.entries edge.now.source)) }
-    ensures target { OnOk result (IsSome (count_at ends.new.entries.entries edge.now.target)) }
-    ensures unchanged { OnErr result ((v : Vertex) → count_of ends.new.entries.entries v ≡ count_of ends.old.entries.entries v) }
-    ensures kept { KeepsCounts ends.old.entries.entries ends.new.entries.entries }
-{
-    count_in(ends, &edge.source)?;
-    let counted = count_in(ends, &edge.target);
-    match counted {
-        Ok(()) => Ok(()),
-        Err(fault) => {
-            count_down(ends, &edge.source);
-            Err(fault)
-        }
-    }
-}
-
-// Counts them once less.
-pub(crate) fn uncount_ends(ends: &mut RoomMap<Vertex, u64>, edge: &Edge)
-    requires source { IsSome (count_at ends.old.entries.entries edge.now.source) }
-    requires target { IsSome (count_at ends.old.entries.entries edge.now.target) }
-    requires counted { (v : Vertex) → ends_at edge.now v ≤ count_of ends.old.entries.entries v }
-    ensures counts { (v : Vertex) → count_of ends.new.entries.entries v + ends_at edge.now v ≡ count_of ends.old.entries.entries v }
-    ensures kept { KeepsCounts ends.old.entries.entries ends.new.entries.entries }
-{
-    count_down(ends, &edge.source);
-    count_down(ends, &edge.target);
-}
-
-// Counts a vertex once more, for which there may be no number yet.
-fn count_in(ends: &mut RoomMap<Vertex, u64>, vertex: &Vertex) -> Result<(), NoMemory>
-    ensures counts { OnOk result ((v : Vertex) → count_of ends.new.entries.entries v ≡ count_of ends.old.entries.entries v + once (is_same_vertex vertex.now v)) }
-    ensures room { OnOk result (IsSome (count_at ends.new.entries.entries vertex.now)) }
-    ensures unchanged { OnErr result ((v : Vertex) → count_of ends.new.entries.entries v ≡ count_of ends.old.entries.entries v) }
-    ensures kept { KeepsCounts ends.old.entries.entries ends.new.entries.entries }
-{
-    if let Some(count) = ends.entries.get_mut(vertex) {
-        // No memory holds more edges than a number counts.
-        let Some(more) = count.checked_add(1) else {
-            return Err(NoMemory);
-        };
-        *count = more;
-        return Ok(());
-    }
-    ends.entries.insert(*vertex, 1)?;
-    Ok(())
 }
 
 // What the state of an edge counts for at its ends, where it changes.

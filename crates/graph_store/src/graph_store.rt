@@ -1,4 +1,4 @@
-ghost use Rattle.std.specs.Prelude.{◌≡◌, ◌<◌, true, [], ◌∷◌, List, length, slice_index_or, OnOk, OnErr, IfOk};
+ghost use Rattle.std.specs.Prelude.{◌≡◌, [], ◌∷◌, OnOk, OnErr, IfOk};
 ghost use Rattle.std.specs.List.{All};
 ghost use Rattle.std.specs.Map.{set_value};
 ghost use Rattle.std.specs.Option.{option_copied};
@@ -7,18 +7,17 @@ ghost use Rattle.grove_edits.specs.declared.edit.Edit.{Edit};
 ghost use Rattle.grove_edits.specs.Edge.{edge_cmp};
 ghost use Rattle.grove_edits.specs.Edit.{edit_edge, edit_kind};
 ghost use Rattle.grove_edits.specs.Graph.{IsSame, IsCanonical, graph, graph_join, is_same_edge, state_of};
-ghost use Rattle.walks.specs.Whole.{AreVertices, AreLive};
+ghost use Rattle.walks.specs.Whole.{AreVertices};
 ghost use Rattle.graph_store.specs.Change.{change_from};
 ghost use Rattle.graph_store.specs.Greatest.{IsGreatest, IsNameOf};
 ghost use Rattle.graph_store.specs.Least.{IsLeast};
 ghost use Rattle.graph_store.specs.Listed.{IsEditOf};
-ghost use Rattle.graph_store.specs.Named.{IsNamed, is_present};
-ghost use Rattle.graph_store.specs.Restored.{HaveRoom, restored};
+ghost use Rattle.graph_store.specs.Named.{IsNamed};
 ghost use Rattle.graph_store.specs.Vertices.{AreLeastTwo, IsVertexNamed};
 ghost use Rattle.graph_store.specs.Store.{state_in, HasRoom, KeepsRoom, only, with_state, well_formed};
 
 use crate::change::Change;
-use crate::ends::{count_ends, make_room_at_ends, recount, uncount_ends};
+use crate::ends::{make_room_at_ends, recount};
 use crate::greatest::{greatest_of_edges, greatest_of_vertices};
 use crate::named::{ROOT, bound_after, first_named};
 use crate::no_memory::NoMemory;
@@ -104,22 +103,6 @@ impl GraphStore {
         self.raise_to(&edit.edge(), asked_by(edit.kind()))
     }
 
-    /// Joins what each of these edits asks to the graph.
-    pub fn raise_each(&mut self, edits: EditList) -> Result<(), NoMemory>
-        ensures joined { OnOk result (IsSame (state_in self.new) (graph_join (state_in self.old) (graph edits))) }
-        ensures unchanged { OnErr result (IsSame (state_in self.new) (state_in self.old)) }
-        ensures room_stays { KeepsRoom self.old self.new }
-    {
-        // In edge order, since the entries of neighbouring edges lie close to each other.
-        let sorted = edits.into_canonical(self.alloc)?;
-        let mut olds = Vec::new(self.alloc);
-        let raised = self.raise_listed(sorted.as_slice(), &mut olds);
-        if raised.is_err() {
-            self.take_back(sorted.as_slice(), &mut olds);
-        }
-        raised
-    }
-
     /// Joins another graph to this one.
     pub fn merge(&mut self, other: &GraphStore) -> Result<(), NoMemory>
         ensures joined { OnOk result (IsSame (state_in self.new) (graph_join (state_in self.old) (state_in other.now))) }
@@ -185,19 +168,6 @@ impl GraphStore {
         Ok(vertices)
     }
 
-    /// All live edges of the graph, in edge order.
-    pub fn live_edges(&self, alloc: Global) -> Result<Vec<Edge>, NoMemory>
-        ensures live { IfOk result (λ list. AreLive (state_in self.now) list.items) }
-    {
-        let mut edges = Vec::new(alloc);
-        for (edge, state) in self.states.entries() {
-            if *state == State::Live {
-                edges.push(*edge)?;
-            }
-        }
-        Ok(edges)
-    }
-
     /// The greatest counter of this author in any name of the graph, be it of a vertex or of an edge, deleted or not.
     /// It is 0 where no name is by this author.
     pub fn greatest(&self, author: u32) -> u64
@@ -217,30 +187,6 @@ impl GraphStore {
         self.states.make_room(edge, State::Absent)
     }
 
-    // Joins a state of one edge, which need not have room yet, and answers the state that it had.
-    fn enter(&mut self, edge: &Edge, asked: State) -> Result<State, NoMemory>
-        requires { is_present asked ≡ true }
-        ensures joined { OnOk result (IsSame (state_in self.new) (graph_join (state_in self.old) (only edge.now asked))) }
-        ensures old { IfOk result (λ old. old ≡ state_in self.old edge.now) }
-        ensures room { OnOk result (HasRoom self.new edge.now) }
-        ensures unchanged { OnErr result (IsSame (state_in self.new) (state_in self.old)) }
-        ensures room_stays { KeepsRoom self.old self.new }
-    {
-        if let Some(old) = self.states.get(edge) {
-            self.raise_to(edge, asked);
-            return Ok(old);
-        }
-        count_ends(&mut self.ends, edge)?;
-        let entered = self.states.enter(edge, asked);
-        match entered {
-            Ok(()) => Ok(State::Absent),
-            Err(fault) => {
-                uncount_ends(&mut self.ends, edge);
-                Err(fault)
-            }
-        }
-    }
-
     // Joins a state of one edge.
     fn raise_to(&mut self, edge: &Edge, asked: State) -> Change
         requires { HasRoom self.old edge.now }
@@ -256,34 +202,6 @@ impl GraphStore {
             Change::Same
         } else {
             Change::Raised { old }
-        }
-    }
-
-    // Joins what each of these edits asks, one after the other, and lists the states that their edges had. Where memory runs out, the
-    // list has those of the edits so far.
-    fn raise_listed(&mut self, edits: &[Edit], olds: &mut Vec<State>) -> Result<(), NoMemory>
-        requires { olds.old.items ≡ [] }
-        ensures joined { OnOk result (IsSame (state_in self.new) (graph_join (state_in self.old) (graph edits.now))) }
-        ensures room { HaveRoom self.new edits.now olds.new.items }
-        ensures so_far { IsSame (restored edits.now olds.new.items (state_in self.new)) (state_in self.old) }
-        ensures room_stays { KeepsRoom self.old self.new }
-    {
-        for edit in edits {
-            olds.reserve(1)?;
-            let old = self.enter(&edit.edge(), asked_by(edit.kind()))?;
-            olds.push_reserved(old);
-        }
-        Ok(())
-    }
-
-    // Gives the edges of the first edits the listed states, that of the first edit at last.
-    fn take_back(&mut self, edits: &[Edit], olds: &mut Vec<State>)
-        requires { HaveRoom self.old edits.now olds.old.items }
-        ensures restored { IsSame (state_in self.new) (restored edits.now olds.old.items (state_in self.old)) }
-        ensures room_stays { KeepsRoom self.old self.new }
-    {
-        while let Some(old) = olds.pop() {
-            self.put_back(&edit_at(edits, olds.len()).edge(), old);
         }
     }
 
@@ -307,13 +225,6 @@ impl GraphStore {
             self.raise_to(edge, *state);
         }
     }
-}
-
-fn edit_at(edits: &[Edit], index: usize) -> Edit
-    requires { index < length edits.now }
-    ensures { result ≡ slice_index_or edits.now index result }
-{
-    edits[index]
 }
 
 // Joins a state to that of an edge that has room, and answers the old one.

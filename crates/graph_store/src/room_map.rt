@@ -1,5 +1,5 @@
-ghost use Rattle.std.specs.Prelude.{◌≡◌, ◌<◌, ◌^◌, [], None, Some, IsSome, OnOk, OnErr, length, if◌then◌else◌};
-ghost use Rattle.std.specs.BTreeMap.{get, insert_entry, is_at, IsOrdered};
+ghost use Rattle.std.specs.Prelude.{◌≡◌, ◌<◌, ◌^◌, [], IsSome, OnOk, length};
+ghost use Rattle.std.specs.BTreeMap.{get, is_at, IsOrdered};
 ghost use Rattle.std.specs.Map.{set_value};
 ghost use Rattle.graph_store.specs.Room.{GetsRoom, GetsEntry};
 
@@ -53,17 +53,6 @@ impl<K: Ord + Copy, V: Copy> RoomMap<K, V> {
         if let Some(old) = self.entries.insert(*key, value)? {
             self.replace(key, old);
         }
-        Ok(())
-    }
-
-    // An entry with this value for a key that has none.
-    pub(crate) fn enter(&mut self, key: &K, value: V) -> Result<(), NoMemory>
-        requires { get K.cmp self.old.entries key.now ≡ None }
-        ensures entered { OnOk result ((other : K) → get K.cmp self.new.entries other ≡ (if is_at (K.cmp key.now) other then Some value else get K.cmp self.old.entries other)) }
-        ensures entries { OnOk result (self.new.entries.entries ≡ insert_entry K.cmp self.old.entries.entries key.now value) }
-        ensures unchanged { OnErr result (self.new.entries.entries ≡ self.old.entries.entries) }
-    {
-        self.entries.insert(*key, value)?;
         Ok(())
     }
 
