@@ -1,7 +1,7 @@
-ghost use Rattle.std.specs.Prelude.{◌≡◌, ◌+◌, ◌<◌, ◌≤◌, [], true, false, if◌then◌else◌, count_by, length, IfOk, OnOk};
+ghost use Rattle.std.specs.Prelude.{◌≡◌, ◌+◌, ◌<◌, ◌≤◌, [], true, false, if◌then◌else◌, count_by, length, OnOk};
 ghost use Rattle.grove_sorts.specs.declared.position.Position.{Position};
 ghost use Rattle.grove_edits.specs.declared.vertex.Vertex.{Vertex};
-ghost use Rattle.walks.specs.Live.{IsInEdgeOrder, children_of, holds_edge};
+ghost use Rattle.walks.specs.Live.{children_of, holds_edge};
 ghost use Rattle.edge_index.specs.Ordered.{with_edge, without_edge};
 ghost use Rattle.edge_index.specs.Lists.{live};
 ghost use Rattle.child_index.specs.Place.{room_at_place, is_from};
@@ -38,16 +38,6 @@ impl ChildIndex {
         ChildIndex {
             edges: EdgeIndex::new(alloc),
         }
-    }
-
-    /// The index of some live edges that are in edge order.
-    pub fn of(alloc: Global, edges: &[Edge]) -> Result<ChildIndex, NoMemory>
-        requires { IsInEdgeOrder edges.now }
-        ensures live { IfOk result (λ index. live index ≡ edges.now) }
-    {
-        Ok(ChildIndex {
-            edges: EdgeIndex::of(alloc, edges)?,
-        })
     }
 
     /// Makes room for adding each of these edges once. They are to be few: its time grows with the square of their number.

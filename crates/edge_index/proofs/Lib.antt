@@ -2,4 +2,3 @@ pub mod Ordered
 pub mod Places
 pub mod Ties
 pub mod Lookups
-pub mod Appended

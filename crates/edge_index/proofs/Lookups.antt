@@ -21,11 +21,6 @@ use Rattle.edge_index.proofs.Ties.{IsPut}
 use Rattle.edge_index.proofs.Ordered.{same_edge_exact, holds-with_edge, holds-with_edges, holds-filter, in_order-with_edge, in_order-with_edges, in_order-filter, same_lists}
 use Rattle.grove_sorts.proofs.Orders.{equal_from_test}
 
--- nothing is by key
-pub none_by_key : {K : Type 0} (cmp : K → K → Ordering) (key : Edge → K) → IsByKey cmp key []
-unfolding IsDistinct
-none_by_key cmp key = record { keyed = λ k e held. absurd cc; apart = tt }
-
 pub in_order-live : {K : Type 0} (lists : Lists K) → IsInEdgeOrder (live lists)
 in_order-live [] = tt
 in_order-live (entry ∷ lists) = in_order-with_edges entry.1.edges (live lists) (in_order-live lists)

@@ -25,9 +25,6 @@ same_edge_exact a b h = edge_cmp_exact a b (equal_from_test (edge_cmp a b) h)
 pub same_edge_itself : (a : Edge) → is_same_edge a a ≡ true
 same_edge_itself a = ap is_eq (tied_itself edge_cmp_total a)
 
-same_from_equal : (a b : Edge) → edge_cmp a b ≡ Equal → is_same_edge a b ≡ true
-same_from_equal a b e = ap is_eq e
-
 pub less_from_greater : (a b : Edge) → edge_cmp a b ≡ Greater → edge_cmp b a ≡ Less
 less_from_greater a b e = edge_cmp_total.antisymm b a ∙ ap ordering_reverse e
 
@@ -84,12 +81,6 @@ pub holds-with_edges : (e : Edge) (es xs : List Edge) → holds_edge e (with_edg
 holds-with_edges e [] xs = refl
 holds-with_edges e (x ∷ es) xs =
     holds-with_edge e x (with_edges es xs) ∙ ap (λ b. is_same_edge x e || b) (holds-with_edges e es xs) ∙ or_group (is_same_edge x e) (holds_edge e es) (holds_edge e xs)
-
-and_of_true : (a b : Bool) → a ≡ true → true ≡ (a && (true || b))
-and_of_true a b is = sym (ap (λ z. z && (true || b)) is)
-
-and_of_false : (a b : Bool) → a ≡ false → (a && (false || b)) ≡ (a && b)
-and_of_false a b is = refl
 
 pub holds-filter : (p : Edge → Bool) (e : Edge) (xs : List Edge) → holds_edge e (filter p xs) ≡ (p e && holds_edge e xs)
 holds-filter p e [] = elim (p e) as (λ b. false ≡ (b && false)) [ true ↦ refl | false ↦ refl ]

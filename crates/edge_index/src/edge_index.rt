@@ -3,7 +3,7 @@ ghost use Rattle.std.specs.Map.{lookup};
 ghost use Rattle.std.specs.BTreeMap.{is_at};
 ghost use Rattle.std.specs.Ordering.{is_eq};
 ghost use Rattle.edge_index.specs.Ordered.{with_edge, without_edge};
-ghost use Rattle.walks.specs.Live.{IsInEdgeOrder, holds_edge};
+ghost use Rattle.walks.specs.Live.{holds_edge};
 ghost use Rattle.edge_index.specs.Lists.{live, room_at, with_key, edges_at, used_keys, IsByKey};
 
 use crate::no_memory::NoMemory;
@@ -59,44 +59,6 @@ impl<K: Keyed> EdgeIndex<K> {
             alloc,
             lists: IndexMap::new(alloc),
         }
-    }
-
-    /// An index without edges, and room for the lists of so many keys.
-    fn with_capacity(alloc: Global, keys: usize) -> Result<EdgeIndex<K>, NoMemory>
-        ensures empty { IfOk result (λ index. index ≡ []) }
-    {
-        Ok(EdgeIndex {
-            alloc,
-            lists: IndexMap::with_capacity(alloc, keys)?,
-        })
-    }
-
-    /// The index of some edges that are in edge order.
-    pub fn of(alloc: Global, edges: &[Edge]) -> Result<EdgeIndex<K>, NoMemory>
-        requires { IsInEdgeOrder edges.now }
-        ensures live { IfOk result (λ index. live index ≡ edges.now) }
-    {
-        let mut index = EdgeIndex::with_capacity(alloc, edges.len())?;
-        for edge in edges {
-            index.append(edge)?;
-        }
-        Ok(index)
-    }
-
-    /// Adds an edge, and takes memory where there is no room.
-    fn append(&mut self, edge: &Edge) -> Result<(), NoMemory>
-        requires { holds_edge edge.now (live self.old) ≡ false }
-        ensures added { OnOk result (live self.new ≡ with_edge edge.now (live self.old)) }
-    {
-        let key = K::of(edge);
-        if let Some(held) = self.lists.get_mut(&key) {
-            held.reserve(1)?;
-            held.put(edge);
-            return Ok(());
-        }
-        let list = ShortList::with_first(self.alloc, edge)?;
-        self.lists.insert(key, list)?;
-        Ok(())
     }
 
     /// The edges with a key, in edge order.

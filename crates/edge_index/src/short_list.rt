@@ -1,4 +1,4 @@
-ghost use Rattle.std.specs.Prelude.{◌≡◌, ◌+◌, ◌<◌, ◌≤◌, ◌==◌, [], ◌∷◌, true, false, length, IfOk, OnOk, OnErr};
+ghost use Rattle.std.specs.Prelude.{◌≡◌, ◌+◌, ◌<◌, ◌≤◌, ◌==◌, [], true, false, length, OnOk};
 ghost use Rattle.walks.specs.Live.{IsInEdgeOrder, holds_edge};
 ghost use Rattle.grove_edits.specs.Edge.{edge_cmp};
 ghost use Rattle.edge_index.specs.Ordered.{place, with_edge, without_edge};
@@ -47,15 +47,6 @@ impl ShortList {
         ShortList {
             edges: Vec::new(alloc),
         }
-    }
-
-    /// A list of one edge, which takes no room for further ones.
-    pub(crate) fn with_first(alloc: Global, edge: &Edge) -> Result<ShortList, NoMemory>
-        ensures edges { IfOk result (λ list. list.edges ≡ edge.now ∷ []) }
-    {
-        let mut edges = Vec::with_capacity(alloc, 1)?;
-        edges.push(*edge)?;
-        Ok(ShortList { edges })
     }
 
     pub(crate) fn as_slice(&self) -> &[Edge]

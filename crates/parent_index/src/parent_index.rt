@@ -1,6 +1,6 @@
-ghost use Rattle.std.specs.Prelude.{◌≡◌, ◌+◌, ◌<◌, ◌≤◌, [], true, false, if◌then◌else◌, count_by, length, IfOk, OnOk};
+ghost use Rattle.std.specs.Prelude.{◌≡◌, ◌+◌, ◌<◌, ◌≤◌, [], true, false, if◌then◌else◌, count_by, length, OnOk};
 ghost use Rattle.grove_edits.specs.declared.vertex.Vertex.{Vertex};
-ghost use Rattle.walks.specs.Live.{IsInEdgeOrder, parents_of, holds_edge};
+ghost use Rattle.walks.specs.Live.{parents_of, holds_edge};
 ghost use Rattle.grove_edits.specs.Vertex.{is_same_vertex};
 ghost use Rattle.edge_index.specs.Ordered.{with_edge, without_edge};
 ghost use Rattle.edge_index.specs.Lists.{live};
@@ -37,16 +37,6 @@ impl ParentIndex {
         ParentIndex {
             edges: EdgeIndex::new(alloc),
         }
-    }
-
-    /// The index of some live edges that are in edge order.
-    pub fn of(alloc: Global, edges: &[Edge]) -> Result<ParentIndex, NoMemory>
-        requires { IsInEdgeOrder edges.now }
-        ensures live { IfOk result (λ index. live index ≡ edges.now) }
-    {
-        Ok(ParentIndex {
-            edges: EdgeIndex::of(alloc, edges)?,
-        })
     }
 
     /// Makes room for adding each of these edges once. They are to be few: its time grows with the square of their number.

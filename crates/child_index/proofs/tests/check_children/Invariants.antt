@@ -1,4 +1,4 @@
 use Rattle.child_index.proofs.tests.check_children.Given as goal
 
-abbrev pub ghosts-compare : goal.ghosts-compare
-ghosts-compare g a = record { name = a.blank.name; parts = a.blank.parts }
+abbrev pub ghosts-check_left : goal.ghosts-check_left
+ghosts-check_left g a = record { name = a.blank.name; parts = a.blank.parts }
