@@ -8,7 +8,7 @@ ghost use Rattle.grove_edits.specs.Edge.{edge_cmp};
 ghost use Rattle.grove_edits.specs.Edit.{edit_edge, edit_kind};
 ghost use Rattle.grove_edits.specs.Graph.{IsSame, IsCanonical, graph, graph_join, is_same_edge, state_of};
 ghost use Rattle.walks.specs.Whole.{AreVertices};
-ghost use Rattle.graph_store.specs.Change.{change_from};
+ghost use Rattle.graph_store.specs.Change.{IsChange};
 ghost use Rattle.graph_store.specs.Greatest.{IsGreatest, IsNameOf};
 ghost use Rattle.graph_store.specs.Least.{IsLeast};
 ghost use Rattle.graph_store.specs.Listed.{IsEditOf};
@@ -19,7 +19,7 @@ ghost use Rattle.graph_store.specs.Store.{state_in, HasRoom, KeepsRoom, only, wi
 use crate::change::Change;
 use crate::ends::{make_room_at_ends, recount};
 use crate::greatest::{greatest_of_edges, greatest_of_vertices};
-use crate::named::{ROOT, bound_after, first_named};
+use crate::named::{bound_after, first_named};
 use crate::no_memory::NoMemory;
 use crate::room_map::RoomMap;
 use crate::vertices::{Named, first_counted, first_vertex};
@@ -97,7 +97,7 @@ impl GraphStore {
     pub fn raise(&mut self, edit: &Edit) -> Change
         requires { HasRoom self.old (edit_edge edit.now) }
         ensures joined { IsSame (state_in self.new) (graph_join (state_in self.old) (graph (edit.now ∷ []))) }
-        ensures change { result ≡ change_from (state_in self.old (edit_edge edit.now)) (state_of (edit_kind edit.now)) }
+        ensures change { IsChange (state_in self.old (edit_edge edit.now)) (state_of (edit_kind edit.now)) result }
         ensures room_stays { KeepsRoom self.old self.new }
     {
         self.raise_to(&edit.edge(), asked_by(edit.kind()))
@@ -158,8 +158,8 @@ impl GraphStore {
         let _edges = self.states.len();
         let mut vertices = Vec::new(alloc);
         // The root is the least vertex, whatever its count.
-        vertices.push(ROOT)?;
-        let others = (Bound::Excluded(ROOT), Bound::Unbounded);
+        vertices.push(Vertex::ROOT)?;
+        let others = (Bound::Excluded(Vertex::ROOT), Bound::Unbounded);
         for (vertex, count) in self.ends.entries().range(others) {
             if *count > 0 {
                 vertices.push(*vertex)?;
@@ -191,7 +191,7 @@ impl GraphStore {
     fn raise_to(&mut self, edge: &Edge, asked: State) -> Change
         requires { HasRoom self.old edge.now }
         ensures joined { IsSame (state_in self.new) (graph_join (state_in self.old) (only edge.now asked)) }
-        ensures change { result ≡ change_from (state_in self.old edge.now) asked }
+        ensures change { IsChange (state_in self.old edge.now) asked result }
         ensures room_stays { KeepsRoom self.old self.new }
     {
         let old = join_state(&mut self.states, edge, asked);
@@ -251,7 +251,7 @@ fn asked_by(kind: EditKind) -> State
     }
 }
 
-// The edit that asks a state of an edge, where there is one.
+// The edit that asks a state of an edge, where there is one. A store takes edges too, so whether they are well formed is tested here.
 fn edit_of(edge: &Edge, state: State) -> Option<Edit>
     ensures { IsEditOf edge.now state result }
 {

@@ -6,7 +6,7 @@ ghost use Rattle.grove_edits.specs.Vertex.{vertex_cmp};
 ghost use Rattle.grove_edits.specs.Edge.{edge_cmp};
 ghost use Rattle.graph_store.specs.Greatest.{IsGreatest, IsNameOfEdge, IsNameOfCounted, first_name};
 
-use crate::named::{ROOT, is_present};
+use crate::named::is_present;
 use crate::room_map::RoomMap;
 use edge_lattice::State;
 use grove_edits::{Edge, Vertex};
@@ -62,9 +62,9 @@ fn end_of_edges(author: u32) -> Bound<Edge>
         None => Bound::Unbounded,
         Some(next) => Bound::Excluded(Edge {
             name: first_name(next),
-            source: ROOT,
+            source: Vertex::ROOT,
             position: Position::Main,
-            target: ROOT,
+            target: Vertex::ROOT,
         }),
     }
 }

@@ -10,18 +10,9 @@ use crate::room_map::RoomMap;
 use edge_lattice::State;
 use grove_edits::{Edge, Vertex};
 use grove_names::Name;
-use grove_sorts::{Ctor, Position};
+use grove_sorts::Position;
 use std::cmp::Ordering;
 use std::ops::Bound;
-
-/// The vertex `0.0 root`, which each graph has.
-pub(crate) const ROOT: Vertex = Vertex {
-    name: Name {
-        author: 0,
-        counter: 0,
-    },
-    ctor: Ctor::Root,
-};
 
 // The least edge that is not Absent and has this name, from the bound on.
 pub(crate) fn first_named(
@@ -61,9 +52,9 @@ pub(crate) fn bound_after(name: Name, after: Option<&Edge>) -> Bound<Edge>
     // No edge of the name is less.
     let least = Edge {
         name,
-        source: ROOT,
+        source: Vertex::ROOT,
         position: Position::Main,
-        target: ROOT,
+        target: Vertex::ROOT,
     };
     match after {
         None => Bound::Included(least),

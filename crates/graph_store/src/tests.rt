@@ -5,18 +5,10 @@ use grove_names::Name;
 use grove_sorts::{Ctor, Position};
 use std::test::Fail;
 
-const ROOT: Vertex = Vertex {
-    name: Name {
-        author: 0,
-        counter: 0,
-    },
-    ctor: Ctor::Root,
-};
-
 fn below_root(author: u32, ctor: Ctor) -> Edge {
     Edge {
         name: Name { author, counter: 2 },
-        source: ROOT,
+        source: Vertex::ROOT,
         position: Position::Main,
         target: Vertex {
             name: Name { author, counter: 1 },
@@ -45,7 +37,7 @@ fn stores_merge(rt: HostRuntime) -> Result<(), Fail> {
         first.in_order(alloc)?.as_slice(),
         [seven, truth].as_slice()
     );
-    let vertices = [ROOT, seven.edge().target, truth.edge().target];
+    let vertices = [Vertex::ROOT, seven.edge().target, truth.edge().target];
     assert_eq!(rt; first.vertices(alloc)?.as_slice(), vertices.as_slice());
     assert_eq!(rt; first.state(&seven.edge()), State::Deleted);
     assert_eq!(rt; first.greatest(1), 2);

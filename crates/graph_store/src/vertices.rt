@@ -4,7 +4,6 @@ ghost use Rattle.grove_edits.specs.Vertex.{vertex_cmp};
 ghost use Rattle.graph_store.specs.Least.{IsLeast};
 ghost use Rattle.graph_store.specs.Vertices.{IsCountedFrom, IsCountedNamed};
 
-use crate::named::ROOT;
 use crate::room_map::RoomMap;
 use grove_edits::Vertex;
 use grove_names::Name;
@@ -47,8 +46,8 @@ pub(crate) fn first_counted(
 pub(crate) fn first_vertex(ends: &RoomMap<Vertex, u64>, name: Name) -> Option<Vertex>
     ensures { IsLeast vertex_cmp (IsCountedNamed ends.now.entries.entries name) result }
 {
-    if name == ROOT.name {
-        return Some(ROOT);
+    if name == Vertex::ROOT.name {
+        return Some(Vertex::ROOT);
     }
     let least = Vertex {
         name,
