@@ -1,13 +1,13 @@
 ghost use Rattle.std.specs.Prelude.{◌≡◌, ◌+◌, ◌<◌, ◌≤◌, [], true, false, if◌then◌else◌, count_by, length, OnOk};
 ghost use Rattle.grove_sorts.specs.declared.position.Position.{Position};
 ghost use Rattle.grove_edits.specs.declared.vertex.Vertex.{Vertex};
-ghost use Rattle.walks.specs.Live.{children_of, holds_edge};
+ghost use Rattle.walks.specs.Live.{IsInEdgeOrder, children_of, holds_edge};
 ghost use Rattle.edge_index.specs.Ordered.{with_edge, without_edge};
 ghost use Rattle.edge_index.specs.Lists.{live};
-ghost use Rattle.child_index.specs.Place.{room_at_place, is_from};
+ghost use Rattle.child_index.specs.Origin.{room_at_origin, is_from};
 
 use crate::no_memory::NoMemory;
-use crate::place::Place;
+use crate::origin::Origin;
 use edge_index::EdgeIndex;
 use grove_edits::{Edge, Vertex};
 use grove_sorts::Position;
@@ -19,14 +19,14 @@ use walks::Steps;
 /// Live edges by their source and position.
 #[derive(Drop)]
 pub struct ChildIndex {
-    edges: EdgeIndex<Place>,
+    edges: EdgeIndex<Origin>,
 }
 
 impl Model for ChildIndex {
-    ghost use Rattle.edge_index.specs.Lists.{Lists};
-    ghost use Rattle.child_index.specs.declared.place.Place.{Place};
+    ghost use Rattle.edge_index.specs.Lists.{Indexed};
+    ghost use Rattle.child_index.specs.declared.origin.Origin.{Origin};
 
-    ghost Value = { Lists Place };
+    ghost Value = { Indexed Origin };
 
     ghost view = { λ index. index.edges };
 }
@@ -42,9 +42,9 @@ impl ChildIndex {
 
     /// Makes room for adding each of these edges once. They are to be few: its time grows with the square of their number.
     pub fn reserve_for(&mut self, edges: &[Edge]) -> Result<(), NoMemory>
-        ensures room { OnOk result ((v : Vertex) (p : Position) → length (children_of v p edges.now) ≤ room_at_place self.new v p) }
+        ensures room { OnOk result ((v : Vertex) (p : Position) → length (children_of v p edges.now) ≤ room_at_origin self.new v p) }
         ensures unchanged { live self.new ≡ live self.old }
-        ensures room_stays { (v : Vertex) (p : Position) → room_at_place self.old v p ≤ room_at_place self.new v p }
+        ensures room_stays { (v : Vertex) (p : Position) → room_at_origin self.old v p ≤ room_at_origin self.new v p }
     {
         self.edges.reserve_for(edges)?;
         Ok(())
@@ -52,10 +52,10 @@ impl ChildIndex {
 
     /// Adds an edge that is not held, and for which there is room.
     pub fn add(&mut self, edge: &Edge)
-        requires room { 0 < room_at_place self.old edge.now.source edge.now.position }
+        requires room { 0 < room_at_origin self.old edge.now.source edge.now.position }
         requires new { holds_edge edge.now (live self.old) ≡ false }
         ensures added { live self.new ≡ with_edge edge.now (live self.old) }
-        ensures room { (v : Vertex) (p : Position) → room_at_place self.new v p + (if is_from edge.now v p then 1 else 0) ≡ room_at_place self.old v p }
+        ensures room { (v : Vertex) (p : Position) → room_at_origin self.new v p + (if is_from edge.now v p then 1 else 0) ≡ room_at_origin self.old v p }
     {
         self.edges.add(edge)
     }
@@ -64,7 +64,7 @@ impl ChildIndex {
     pub fn remove(&mut self, edge: &Edge)
         requires { holds_edge edge.now (live self.old) ≡ true }
         ensures removed { live self.new ≡ without_edge edge.now (live self.old) }
-        ensures room { (v : Vertex) (p : Position) → room_at_place self.new v p ≡ room_at_place self.old v p + (if is_from edge.now v p then 1 else 0) }
+        ensures room { (v : Vertex) (p : Position) → room_at_origin self.new v p ≡ room_at_origin self.old v p + (if is_from edge.now v p then 1 else 0) }
     {
         self.edges.remove(edge)
     }
@@ -77,6 +77,7 @@ impl ChildIndex {
         steps: &mut Steps<L>,
     ) -> &[Edge]
         ensures children { result.now ≡ children_of vertex.now position (live self.now) }
+        ensures in_order { IsInEdgeOrder (live self.now) }
         ensures ticks { steps.new ≡ steps.old + 1 + length result.now }
     {
         let children = self.children_at(vertex, position);
@@ -88,9 +89,10 @@ impl ChildIndex {
     }
 
     fn children_at(&self, vertex: &Vertex, position: Position) -> &[Edge]
-        ensures { result.now ≡ children_of vertex.now position (live self.now) }
+        ensures children { result.now ≡ children_of vertex.now position (live self.now) }
+        ensures in_order { IsInEdgeOrder (live self.now) }
     {
-        self.edges.edges(&Place {
+        self.edges.edges(&Origin {
             vertex: *vertex,
             position,
         })

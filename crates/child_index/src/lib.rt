@@ -4,11 +4,11 @@
 
 mod child_index;
 mod no_memory;
-mod place;
+mod origin;
 
 pub use child_index::ChildIndex;
 pub use no_memory::NoMemory;
-pub use place::Place;
+pub use origin::Origin;
 
 #[cfg(test)]
 mod tests;

@@ -2,3 +2,4 @@ pub mod Ordered
 pub mod Places
 pub mod Ties
 pub mod Lookups
+pub mod Keys

@@ -2,28 +2,16 @@
 use Rattle.std.proofs.Common.{◌≡◌, Bool, true, false, cond, List, [], ◌∷◌, refl, sym, ap, subst, ◌∙◌}
 use Rattle.std.specs.Prelude.{◌&&◌, ◌||◌, not, filter}
 use Rattle.std.specs.List.{AllByRecursion}
-use Rattle.std.specs.declared.cmp.Ordering.{Ordering}
 use Rattle.std.specs.declared.cmp.Ordering.TheVariants.{Less, Equal, Greater}
-use Rattle.std.specs.Ordering.{is_eq, ordering_reverse}
+use Rattle.std.specs.Ordering.{ordering_reverse}
 use Rattle.std.proofs.lemmas.Cmp.{tied_itself}
 use Rattle.grove_edits.specs.declared.edge.Edge.{Edge}
 use Rattle.grove_edits.specs.Edge.{edge_cmp}
 use Rattle.grove_edits.specs.Graph.{is_same_edge}
-use Rattle.grove_edits.proofs.Orders.{edge_cmp_total, edge_cmp_exact}
+use Rattle.grove_edits.proofs.Orders.{edge_cmp_total, edge_cmp_exact, one_edge, same_edge_laws}
 use Rattle.walks.specs.Live.{IsInEdgeOrder, holds_edge}
 use Rattle.edge_index.specs.Ordered.{put_before, with_edge, without_edge}
-use Rattle.edge_index.specs.Lists.{with_edges}
-
-pub equal_from_test : (o : Ordering) → is_eq o ≡ true → o ≡ Equal
-equal_from_test Less e = absurd cc
-equal_from_test Equal e = refl
-equal_from_test Greater e = absurd cc
-
-pub same_edge_exact : (a b : Edge) → is_same_edge a b ≡ true → a ≡ b
-same_edge_exact a b h = edge_cmp_exact a b (equal_from_test (edge_cmp a b) h)
-
-pub same_edge_itself : (a : Edge) → is_same_edge a a ≡ true
-same_edge_itself a = ap is_eq (tied_itself edge_cmp_total a)
+use Rattle.edge_index.specs.ByKey.{with_edges}
 
 pub less_from_greater : (a b : Edge) → edge_cmp a b ≡ Greater → edge_cmp b a ≡ Less
 less_from_greater a b e = edge_cmp_total.antisymm b a ∙ ap ordering_reverse e
@@ -32,7 +20,7 @@ pub not_same_from_less : (a b : Edge) → edge_cmp a b ≡ Less → is_same_edge
 not_same_from_less a b e =
     elim (is_same_edge b a) as (λ t. is_same_edge b a ≡ t → t ≡ false) [
       | true ↦ λ same.
-          let one = same_edge_exact b a same in
+          let one = one_edge b a same in
           let itself : edge_cmp a a ≡ Less = ap (edge_cmp a) (sym one) ∙ e in
           let equal = tied_itself edge_cmp_total a in
           absurd cc
@@ -43,7 +31,7 @@ pub not_same_from_greater : (x e : Edge) → edge_cmp e x ≡ Greater → is_sam
 not_same_from_greater x e gt =
     elim (is_same_edge x e) as (λ t. is_same_edge x e ≡ t → t ≡ false) [
       | true ↦ λ same.
-          let one = same_edge_exact x e same in
+          let one = one_edge x e same in
           let itself : edge_cmp x x ≡ Greater = ap (λ z. edge_cmp z x) one ∙ gt in
           let equal = tied_itself edge_cmp_total x in
           absurd cc
@@ -87,7 +75,7 @@ holds-filter p e [] = elim (p e) as (λ b. false ≡ (b && false)) [ true ↦ re
 holds-filter p e (x ∷ xs) =
     elim (is_same_edge x e) as (λ s. is_same_edge x e ≡ s → holds_edge e (cond (p x) (x ∷ filter p xs) (filter p xs)) ≡ (p e && (s || holds_edge e xs))) [
       | true ↦ λ same.
-          let one = same_edge_exact x e same in
+          let one = one_edge x e same in
           elim (p x) as (λ b. p x ≡ b → holds_edge e (cond b (x ∷ filter p xs) (filter p xs)) ≡ (p e && true)) [
             | true ↦ λ passes. ap (λ s. s || holds_edge e (filter p xs)) same ∙ sym (ap (λ b. b && true) (ap p (sym one) ∙ passes))
             | false ↦ λ fails. let no : p e ≡ false = ap p (sym one) ∙ fails in holds-filter p e xs ∙ ap (λ b. b && holds_edge e xs) no ∙ sym (ap (λ b. b && true) no)
@@ -152,17 +140,17 @@ not_held_before x (y ∷ ys) all = ap (λ b. b || holds_edge x ys) (not_same_fro
 first_less : (x y : Edge) (xs ys : List Edge) → edge_cmp x y ≡ Less → AllByRecursion (λ later. edge_cmp y later ≡ Less) ys → holds_edge x (x ∷ xs) ≡ holds_edge x (y ∷ ys) → ⊥
 first_less x y xs ys lt all same =
     let none : holds_edge x (y ∷ ys) ≡ false = not_held_before x (y ∷ ys) (lt, all_after x y ys lt all) in
-    let one : holds_edge x (x ∷ xs) ≡ true = ap (λ b. b || holds_edge x xs) (same_edge_itself x) in
+    let one : holds_edge x (x ∷ xs) ≡ true = ap (λ b. b || holds_edge x xs) (same_edge_laws.refl x) in
     cc
 
 pub same_lists : (xs ys : List Edge) → IsInEdgeOrder xs → IsInEdgeOrder ys → ((e : Edge) → holds_edge e xs ≡ holds_edge e ys) → xs ≡ ys
 same_lists [] [] xo yo same = refl
 same_lists [] (y ∷ ys) xo yo same =
-    let one : holds_edge y (y ∷ ys) ≡ true = ap (λ b. b || holds_edge y ys) (same_edge_itself y) in
+    let one : holds_edge y (y ∷ ys) ≡ true = ap (λ b. b || holds_edge y ys) (same_edge_laws.refl y) in
     let none = same y in
     absurd cc
 same_lists (x ∷ xs) [] xo yo same =
-    let one : holds_edge x (x ∷ xs) ≡ true = ap (λ b. b || holds_edge x xs) (same_edge_itself x) in
+    let one : holds_edge x (x ∷ xs) ≡ true = ap (λ b. b || holds_edge x xs) (same_edge_laws.refl x) in
     let none = same x in
     absurd cc
 same_lists (x ∷ xs) (y ∷ ys) xo yo same =
@@ -176,7 +164,7 @@ same_lists (x ∷ xs) (y ∷ ys) xo yo same =
           let rest : (e : Edge) → holds_edge e xs ≡ holds_edge e ys = λ e.
           elim (is_same_edge x e) as (λ b. is_same_edge x e ≡ b → (b || holds_edge e xs) ≡ (b || holds_edge e ys) → holds_edge e xs ≡ holds_edge e ys) [
             | true ↦ λ is _.
-                let z = same_edge_exact x e is in
+                let z = one_edge x e is in
                 subst (λ d. holds_edge d xs ≡ holds_edge d ys) z (not_held_before x xs xo.0 ∙ sym (not_held_before x ys yo_x))
             | false ↦ λ _ h. h
           ] refl (moved e) in

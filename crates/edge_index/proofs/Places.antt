@@ -9,10 +9,11 @@ use Rattle.std.specs.Ordering.{is_lt, ordering_reverse}
 use Rattle.grove_edits.specs.declared.edge.Edge.{Edge}
 use Rattle.grove_edits.specs.Edge.{edge_cmp}
 use Rattle.grove_edits.specs.Graph.{is_same_edge}
-use Rattle.grove_edits.proofs.Orders.{edge_cmp_total, edge_cmp_exact}
+use Rattle.grove_edits.proofs.Orders.{edge_cmp_total, edge_cmp_exact, same_edge_laws}
 use Rattle.walks.specs.Live.{IsInEdgeOrder, holds_edge}
-use Rattle.edge_index.specs.Ordered.{put_before, with_edge, without_edge, place, place_by}
-use Rattle.edge_index.proofs.Ordered.{same_edge_itself, not_held_before, without_none, not_same_from_greater, all_after}
+use Rattle.edge_index.specs.Ordered.{put_before, with_edge, without_edge}
+use Rattle.edge_index.specs.Places.{place, place_by}
+use Rattle.edge_index.proofs.Ordered.{not_held_before, without_none, not_same_from_greater, all_after}
 
 less_from_test : (o : Ordering) → is_lt o ≡ true → o ≡ Less
 less_from_test Less is = refl
@@ -60,7 +61,7 @@ insert-place e (x ∷ xs) new =
       | Less ↦ λ _. refl
       | Equal ↦ λ tie.
           let one = edge_cmp_exact e x tie in
-          let held : holds_edge e (x ∷ xs) ≡ true = ap (λ b. b || holds_edge e xs) (ap (λ z. is_same_edge z e) (sym one) ∙ same_edge_itself e) in
+          let held : holds_edge e (x ∷ xs) ≡ true = ap (λ b. b || holds_edge e xs) (ap (λ z. is_same_edge z e) (sym one) ∙ same_edge_laws.refl e) in
           absurd cc
       | Greater ↦ λ _.
           elim (is_same_edge x e) as (λ b. (b || holds_edge e xs) ≡ false → insert (x ∷ xs) (suc (place e xs)) e ≡ x ∷ with_edge e xs) [
@@ -89,7 +90,7 @@ remove-place e (x ∷ xs) order held =
       | Less ↦ λ lt. let none = not_held_before e (x ∷ xs) (lt, all_after e x xs lt order.0) in absurd cc
       | Equal ↦ λ tie.
           let one : e ≡ x = edge_cmp_exact e x tie in
-          let same : is_same_edge x e ≡ true = ap (λ z. is_same_edge z e) (sym one) ∙ same_edge_itself e in
+          let same : is_same_edge x e ≡ true = ap (λ z. is_same_edge z e) (sym one) ∙ same_edge_laws.refl e in
           let later : AllByRecursion (λ later. edge_cmp e later ≡ Less) xs = subst (λ z. AllByRecursion (λ later. edge_cmp z later ≡ Less) xs) (sym one) order.0 in
           sym (ap (λ b. cond (not b) (x ∷ without_edge e xs) (without_edge e xs)) same ∙ without_none e xs later)
       | Greater ↦ λ gt.

@@ -1,2 +1,4 @@
-pub mod Ordered
 pub mod Lists
+pub mod Ordered
+pub mod ByKey
+pub mod Places

@@ -1,5 +1,5 @@
 -- Lists of edges in edge order, with one more edge, and with one fewer.
-use Rattle.std.specs.Prelude.{ℕ, suc, not, List, [], ◌∷◌, filter}
+use Rattle.std.specs.Prelude.{not, List, [], ◌∷◌, filter}
 use Rattle.std.specs.declared.cmp.Ordering.{Ordering}
 use Rattle.std.specs.declared.cmp.Ordering.TheVariants.{Less, Equal, Greater}
 use Rattle.grove_edits.specs.declared.edge.Edge.{Edge}
@@ -19,13 +19,3 @@ with_edge e (x ∷ xs) = put_before (edge_cmp e x) e x xs (with_edge e xs)
 -- the list without the edge
 abbrev pub without_edge : Edge → List Edge → List Edge
 without_edge e xs = filter (λ x. not (is_same_edge x e)) xs
-
-abbrev pub place_by : Ordering → ℕ → ℕ
-place_by Less n = 0
-place_by Equal n = 0
-place_by Greater n = suc n
-
--- how many first edges of the list come before the edge
-abbrev pub place : Edge → List Edge → ℕ
-place e [] = 0
-place e (x ∷ xs) = place_by (edge_cmp e x) (place e xs)

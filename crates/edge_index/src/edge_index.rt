@@ -1,15 +1,14 @@
-ghost use Rattle.std.specs.Prelude.{◌≡◌, ◌+◌, ◌<◌, ◌≤◌, [], true, false, if◌then◌else◌, count_by, IfOk, OnOk, IsSome};
-ghost use Rattle.std.specs.Map.{lookup};
-ghost use Rattle.std.specs.BTreeMap.{is_at};
+ghost use Rattle.std.specs.Prelude.{◌≡◌, ◌+◌, ◌<◌, ◌≤◌, [], true, false, if◌then◌else◌, count_by, length, OnOk};
 ghost use Rattle.std.specs.Ordering.{is_eq};
+ghost use Rattle.walks.specs.Live.{IsInEdgeOrder, holds_edge};
+ghost use Rattle.edge_index.specs.Lists.{live, room_at, with_key, keys_of_edges};
 ghost use Rattle.edge_index.specs.Ordered.{with_edge, without_edge};
-ghost use Rattle.walks.specs.Live.{holds_edge};
-ghost use Rattle.edge_index.specs.Lists.{live, room_at, with_key, edges_at, used_keys, IsByKey};
 
+use crate::in_order::{EdgesInOrder, make_room, put, take_out};
 use crate::no_memory::NoMemory;
-use crate::short_list::ShortList;
 use grove_edits::Edge;
 use indexmap::IndexMap;
+use smallvec::SmallVec;
 use std::alloc::Global;
 use std::cmp::Ordering;
 use std::hash::Hash;
@@ -29,15 +28,16 @@ pub trait Keyed: Ord + Hash + Copy + Sized {
 #[derive(Drop)]
 pub struct EdgeIndex<K: Keyed> {
     alloc: Global,
-    lists: IndexMap<K, ShortList>,
+    lists: IndexMap<K, EdgesInOrder>,
 }
 
 impl<K: Keyed> Model for EdgeIndex<K> {
-    ghost use Rattle.edge_index.specs.Lists.{Lists, IsByKey};
+    ghost use Rattle.edge_index.specs.Lists.{Indexed};
+    ghost use Rattle.edge_index.specs.ByKey.{indexed, IsByKey};
 
-    ghost Value = { Lists K };
+    ghost Value = { Indexed K };
 
-    ghost view = { λ index. index.lists.entries };
+    ghost view = { λ index. indexed index.lists.entries };
 
     ghost invariant = { λ index. IsByKey K.cmp K.key index.lists.entries };
 }
@@ -53,7 +53,7 @@ fn count_with_key<K: Keyed>(edges: &[Edge], key: &K) -> usize
 
 impl<K: Keyed> EdgeIndex<K> {
     pub fn new(alloc: Global) -> EdgeIndex<K>
-        ensures empty { result ≡ [] }
+        ensures empty { live result ≡ [] }
     {
         EdgeIndex {
             alloc,
@@ -63,7 +63,8 @@ impl<K: Keyed> EdgeIndex<K> {
 
     /// The edges with a key, in edge order.
     pub fn edges(&self, key: &K) -> &[Edge]
-        ensures { result.now ≡ with_key K.cmp K.key key.now (live self.now) }
+        ensures edges { result.now ≡ with_key K.cmp K.key key.now (live self.now) }
+        ensures in_order { IsInEdgeOrder (live self.now) }
     {
         match self.lists.get(key) {
             Some(list) => list.as_slice(),
@@ -73,36 +74,10 @@ impl<K: Keyed> EdgeIndex<K> {
 
     /// How many keys have an edge.
     pub fn key_count(&self) -> usize
-        ensures count { result ≡ used_keys self.now }
-        ensures by_key { IsByKey K.cmp K.key self.now }
+        ensures count { result ≡ length (keys_of_edges K.cmp K.key (live self.now)) }
+        ensures in_order { IsInEdgeOrder (live self.now) }
     {
         self.lists.values().filter(|list| !list.is_empty()).count()
-    }
-
-    /// Keeps a list, perhaps an empty one, for a key.
-    fn keep_list(&mut self, key: &K) -> Result<(), NoMemory>
-        ensures listed { OnOk result (IsSome (lookup (is_at (K.cmp key.now)) self.new)) }
-        ensures unchanged { live self.new ≡ live self.old }
-        ensures room_stays { (k : K) → room_at K.cmp self.old k ≤ room_at K.cmp self.new k }
-    {
-        if self.lists.contains_key(key) {
-            return Ok(());
-        }
-        self.lists.insert(*key, ShortList::new(self.alloc))?;
-        Ok(())
-    }
-
-    /// Makes room for so many further edges with a key that has a list.
-    fn widen(&mut self, key: &K, count: usize) -> Result<(), NoMemory>
-        requires { IsSome (lookup (is_at (K.cmp key.now)) self.old) }
-        ensures room { OnOk result (count ≤ room_at K.cmp self.new key.now) }
-        ensures unchanged { live self.new ≡ live self.old }
-        ensures room_stays { (k : K) → room_at K.cmp self.old k ≤ room_at K.cmp self.new k }
-    {
-        if let Some(list) = self.lists.get_mut(key) {
-            list.reserve(count)?;
-        }
-        Ok(())
     }
 
     /// Makes room for so many further edges with a key.
@@ -111,8 +86,13 @@ impl<K: Keyed> EdgeIndex<K> {
         ensures unchanged { live self.new ≡ live self.old }
         ensures room_stays { (k : K) → room_at K.cmp self.old k ≤ room_at K.cmp self.new k }
     {
-        self.keep_list(key)?;
-        self.widen(key, count)
+        if let Some(list) = self.lists.get_mut(key) {
+            return make_room(list, count);
+        }
+        let mut list = SmallVec::new(self.alloc);
+        make_room(&mut list, count)?;
+        self.lists.insert(*key, list)?;
+        Ok(())
     }
 
     /// Makes room for adding each of these edges once. They are to be few: its time grows with the square of their number.
@@ -138,7 +118,7 @@ impl<K: Keyed> EdgeIndex<K> {
     {
         let key = K::of(edge);
         if let Some(list) = self.lists.get_mut(&key) {
-            list.put(edge);
+            put(list, edge);
         }
     }
 
@@ -150,7 +130,7 @@ impl<K: Keyed> EdgeIndex<K> {
     {
         let key = K::of(edge);
         if let Some(list) = self.lists.get_mut(&key) {
-            list.take_out(edge);
+            take_out(list, edge);
         }
     }
 }

@@ -3,8 +3,8 @@
 #![tactic(auto)]
 
 mod edge_index;
+mod in_order;
 mod no_memory;
-mod short_list;
 
 pub use edge_index::{EdgeIndex, Keyed};
 pub use no_memory::NoMemory;

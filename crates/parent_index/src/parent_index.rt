@@ -1,6 +1,6 @@
 ghost use Rattle.std.specs.Prelude.{◌≡◌, ◌+◌, ◌<◌, ◌≤◌, [], true, false, if◌then◌else◌, count_by, length, OnOk};
 ghost use Rattle.grove_edits.specs.declared.vertex.Vertex.{Vertex};
-ghost use Rattle.walks.specs.Live.{parents_of, holds_edge};
+ghost use Rattle.walks.specs.Live.{IsInEdgeOrder, parents_of, holds_edge};
 ghost use Rattle.grove_edits.specs.Vertex.{is_same_vertex};
 ghost use Rattle.edge_index.specs.Ordered.{with_edge, without_edge};
 ghost use Rattle.edge_index.specs.Lists.{live};
@@ -22,10 +22,10 @@ pub struct ParentIndex {
 }
 
 impl Model for ParentIndex {
-    ghost use Rattle.edge_index.specs.Lists.{Lists};
+    ghost use Rattle.edge_index.specs.Lists.{Indexed};
     ghost use Rattle.parent_index.specs.declared.target.Target.{Target};
 
-    ghost Value = { Lists Target };
+    ghost Value = { Indexed Target };
 
     ghost view = { λ index. index.edges };
 }
@@ -69,7 +69,8 @@ impl ParentIndex {
     }
 
     fn parents_at(&self, vertex: &Vertex) -> &[Edge]
-        ensures { result.now ≡ parents_of vertex.now (live self.now) }
+        ensures parents { result.now ≡ parents_of vertex.now (live self.now) }
+        ensures in_order { IsInEdgeOrder (live self.now) }
     {
         self.edges.edges(&Target { vertex: *vertex })
     }
@@ -77,6 +78,7 @@ impl ParentIndex {
     /// The live parent edges of a vertex, in edge order. It ticks once for the call, and once for each edge.
     pub fn parents<L: Ledger>(&self, vertex: &Vertex, steps: &mut Steps<L>) -> &[Edge]
         ensures parents { result.now ≡ parents_of vertex.now (live self.now) }
+        ensures in_order { IsInEdgeOrder (live self.now) }
         ensures ticks { steps.new ≡ steps.old + 1 + length result.now }
     {
         let parents = self.parents_at(vertex);

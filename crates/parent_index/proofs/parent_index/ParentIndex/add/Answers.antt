@@ -9,7 +9,7 @@ use Rattle.parent_index.proofs.parent_index.ParentIndex.add.Goals as goal
 
 pub add-requires-clause-room : goal.add-requires-clause-room
 add-requires-clause-room c =
-    subst (λ n. 0 < n) (sym (room_is c.self.inside.edges c.args.edge.now.target ∙ ap (λ lists. room_at_vertex lists c.args.edge.now.target) c.self.view_is)) c.requires.room
+    subst (λ n. 0 < n) (sym (room_is c.self.inside.edges c.args.edge.now.target ∙ ap (λ index. room_at_vertex index c.args.edge.now.target) c.self.view_is)) c.requires.room
 
 pub returns-clause-room : goal.returns-clause-room
 returns-clause-room c =
@@ -17,4 +17,4 @@ returns-clause-room c =
     ∙ ap (λ o. room_at impl.ghosts.cmp c.add.new.self (record { vertex = v }) + cond (is_eq o) 1 0) (sym (cmp_is (target c.args.edge.now) (record { vertex = v })))
     ∙ c.add.ensures.room (record { vertex = v })
     ∙ room_is c.self.inside.edges v
-    ∙ ap (λ lists. room_at_vertex lists v) c.self.view_is
+    ∙ ap (λ index. room_at_vertex index v) c.self.view_is

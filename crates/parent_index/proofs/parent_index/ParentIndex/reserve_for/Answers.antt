@@ -5,7 +5,7 @@ use Rattle.parent_index.proofs.parent_index.ParentIndex.reserve_for.Goals as goa
 
 pub returns-in_err-reserve_for-clause-room_stays : goal.returns-in_err-reserve_for-clause-room_stays
 returns-in_err-reserve_for-clause-room_stays c =
-    λ v. omega (arith, c.reserve_for.ensures.room_stays (record { vertex = v }), room_is c.self.inside.edges v, room_is c.reserve_for.new.self v, ap (λ lists. room_at_vertex lists v) c.self.view_is)
+    λ v. omega (arith, c.reserve_for.ensures.room_stays (record { vertex = v }), room_is c.self.inside.edges v, room_is c.reserve_for.new.self v, ap (λ index. room_at_vertex index v) c.self.view_is)
 
 pub returns-clause-room : goal.returns-clause-room
 returns-clause-room c =
@@ -13,4 +13,4 @@ returns-clause-room c =
 
 pub returns-clause-room_stays : goal.returns-clause-room_stays
 returns-clause-room_stays c =
-    λ v. omega (arith, c.reserve_for.ensures.room_stays (record { vertex = v }), room_is c.self.inside.edges v, room_is c.reserve_for.new.self v, ap (λ lists. room_at_vertex lists v) c.self.view_is)
+    λ v. omega (arith, c.reserve_for.ensures.room_stays (record { vertex = v }), room_is c.self.inside.edges v, room_is c.reserve_for.new.self v, ap (λ index. room_at_vertex index v) c.self.view_is)

@@ -7,15 +7,15 @@ use Rattle.grove_sorts.specs.Position.{position_cmp, is_same_position}
 use Rattle.grove_edits.specs.declared.vertex.Vertex.{Vertex}
 use Rattle.grove_edits.specs.declared.edge.Edge.{Edge}
 use Rattle.grove_edits.specs.Vertex.{vertex_cmp, is_same_vertex}
-use Rattle.edge_index.specs.Lists.{Lists, room_at}
-use Rattle.child_index.specs.declared.place.Place.{Place}
+use Rattle.edge_index.specs.Lists.{Indexed, room_at}
+use Rattle.child_index.specs.declared.origin.Origin.{Origin}
 
-abbrev pub place_cmp : Place → Place → Ordering
-place_cmp a b = ordering_then (vertex_cmp a.vertex b.vertex) (position_cmp a.position b.position)
+abbrev pub origin_cmp : Origin → Origin → Ordering
+origin_cmp a b = ordering_then (vertex_cmp a.vertex b.vertex) (position_cmp a.position b.position)
 
 -- for how many further edges from a position of a vertex there is room
-abbrev pub room_at_place : Lists Place → Vertex → Position → ℕ
-room_at_place lists v p = room_at place_cmp lists (record { vertex = v; position = p })
+abbrev pub room_at_origin : Indexed Origin → Vertex → Position → ℕ
+room_at_origin index v p = room_at origin_cmp index (record { vertex = v; position = p })
 
 -- the edge leads from the position of the vertex
 abbrev pub is_from : Edge → Vertex → Position → Bool

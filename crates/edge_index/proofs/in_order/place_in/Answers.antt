@@ -4,7 +4,7 @@ use Rattle.std.proofs.lemmas.List.Sorted.{IsPartitionPoint-from_clause}
 use Rattle.std.proofs.lemmas.List.Sums.{prefix_len_is}
 use Rattle.grove_edits.specs.Edge.{edge_cmp}
 use Rattle.edge_index.proofs.Places.{parted, place_is}
-use Rattle.edge_index.proofs.short_list.place_in.Goals as goal
+use Rattle.edge_index.proofs.in_order.place_in.Goals as goal
 
 pub returns : goal.returns
 returns c =
