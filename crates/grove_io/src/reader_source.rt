@@ -3,9 +3,10 @@ ghost use Rattle.std.specs.Prelude.{◌≡◌, ◌≤◌, None, length, IfOk, On
 ghost use Rattle.std.specs.Io.KnownBytes.{ReadConsumes};
 ghost use Rattle.grove_io.specs.Outside.{HasRisen};
 ghost use Rattle.grove_io.specs.ReaderSource.{errors_of, reader_of};
+ghost use Rattle.grove_io.specs.Tries.{Tries};
 
-use crate::{Failed, Source};
-use std::io::{ErrorKind, Read};
+use crate::tries::ends_call;
+use crate::{Failed, Reader, Source};
 
 /// Reads through a reader of std, as standard input. It tells no bytes. Its count of faults is how often the
 /// reader has answered an error.
@@ -18,7 +19,7 @@ pub struct ReaderSource<R> {
     faults: u64,
 }
 
-impl<R: Read> ReaderSource<R> {
+impl<R: Reader> ReaderSource<R> {
     /// The count of faults begins at 0.
     pub fn new(reader: R) -> Self
         ensures reader { reader_of result ≡ reader }
@@ -28,7 +29,7 @@ impl<R: Read> ReaderSource<R> {
     }
 }
 
-impl<R: Read> Source for ReaderSource<R> {
+impl<R: Reader> Source for ReaderSource<R> {
     ghost left = { λ _. None };
 
     ghost faults = { errors_of };
@@ -38,21 +39,21 @@ impl<R: Read> Source for ReaderSource<R> {
         ensures within { IfOk result (λ count. count ≤ length out.new) }
         ensures bytes { ReadConsumes (R.remaining (reader_of self.old)) (R.remaining (reader_of self.new))
             result out.new }
+        ensures tries { Tries R.answers (λ _. ⊥) (reader_of self.old) (errors_of self.old) result
+            (reader_of self.new) (errors_of self.new) }
         ensures never_falls { errors_of self.old ≤ errors_of self.new }
         ensures cause { OnErr result (HasRisen (errors_of self.old) (errors_of self.new)) }
     {
-        for _tries in 0..u64::MAX {
-            match self.reader.read(out) {
+        loop {
+            match self.reader.read_once(out) {
                 Ok(count) => return Ok(count),
                 Err(error) => {
-                    self.faults = self.faults.saturating_add(1);
-                    if error.kind() != ErrorKind::Interrupted {
+                    if ends_call(&error, &mut self.faults) {
                         return Err(Failed);
                     }
                 }
             }
         }
-        Err(Failed)
     }
 }
 
@@ -61,6 +62,7 @@ mod tests {
     use super::*;
     use crate::{InputFault, read_all};
     use std::io;
+    use std::io::{ErrorKind, Read};
     use std::test::Fail;
 
     // Gives a byte at each odd call. The second call is interrupted, and the fourth fails.

@@ -1,11 +1,12 @@
 // A sink over a writer of std.
-ghost use Rattle.std.specs.Prelude.{◌≡◌, ◌<◌, ◌≤◌, None, length, IfOk, OnErr};
+ghost use Rattle.std.specs.Prelude.{◌≡◌, ◌<◌, ◌≤◌, None, length, IfOk, OnErr, IsTrue, IsFalse};
 ghost use Rattle.std.specs.Io.KnownBytes.{WriteAppends};
 ghost use Rattle.grove_io.specs.Outside.{HasRisen};
+ghost use Rattle.grove_io.specs.Tries.{Tries, TakesNothing};
 ghost use Rattle.grove_io.specs.WriterSink.{errors_of, writer_of};
 
-use crate::{Failed, Sink};
-use std::io::{ErrorKind, Write};
+use crate::tries::ends_call;
+use crate::{Failed, Sink, Writer};
 
 /// Writes through a writer of std, as standard output. It tells no bytes. Its count of faults is how often the
 /// writer has answered an error, or has taken nothing of a piece that was not empty.
@@ -18,7 +19,7 @@ pub struct WriterSink<W> {
     faults: u64,
 }
 
-impl<W: Write> WriterSink<W> {
+impl<W: Writer> WriterSink<W> {
     /// The count of faults begins at 0.
     pub fn new(writer: W) -> Self
         ensures writer { writer_of result ≡ writer }
@@ -28,7 +29,7 @@ impl<W: Write> WriterSink<W> {
     }
 }
 
-impl<W: Write> Sink for WriterSink<W> {
+impl<W: Writer> Sink for WriterSink<W> {
     ghost taken = { λ _. None };
 
     ghost faults = { errors_of };
@@ -39,26 +40,34 @@ impl<W: Write> Sink for WriterSink<W> {
         ensures bytes { WriteAppends (W.contents (writer_of self.old)) (W.contents (writer_of self.new))
             result piece.now }
         ensures progress { IfOk result (λ count. 0 < length piece.now → 0 < count) }
+        ensures tries { Tries W.answers (TakesNothing piece.now) (writer_of self.old) (errors_of self.old) result
+            (writer_of self.new) (errors_of self.new) }
         ensures never_falls { errors_of self.old ≤ errors_of self.new }
         ensures cause { OnErr result (HasRisen (errors_of self.old) (errors_of self.new)) }
     {
-        for _tries in 0..u64::MAX {
-            match self.writer.write(piece) {
-                Ok(count) if count > 0 || piece.is_empty() => return Ok(count),
-                Ok(_) => {
+        loop {
+            match self.writer.write_once(piece) {
+                Ok(count) if takes_nothing(piece, count) => {
                     self.faults = self.faults.saturating_add(1);
                     return Err(Failed);
                 }
+                Ok(count) => return Ok(count),
                 Err(error) => {
-                    self.faults = self.faults.saturating_add(1);
-                    if error.kind() != ErrorKind::Interrupted {
+                    if ends_call(&error, &mut self.faults) {
                         return Err(Failed);
                     }
                 }
             }
         }
-        Err(Failed)
     }
+}
+
+// A write that took 0 bytes of a piece that is not empty is a fault: tried again it might never end.
+fn takes_nothing(piece: &[u8], count: usize) -> bool
+    ensures nothing { IsTrue result → TakesNothing piece.now count }
+    ensures something { IsFalse result → ¬ TakesNothing piece.now count }
+{
+    count == 0 && !piece.is_empty()
 }
 
 #[cfg(test)]
@@ -66,6 +75,7 @@ mod tests {
     use super::*;
     use crate::write_out;
     use std::io;
+    use std::io::{ErrorKind, Write};
 
     // Takes two bytes at each odd call. The second call is interrupted, the fourth takes none, and the sixth fails.
     #[derive(Drop)]

@@ -1,13 +1,17 @@
--- The writer keeps its bytes, the count of faults does not fall, and it has risen after a try that failed.
-use Rattle.std.proofs.Common.{◌≤◌, ◌<◌}
+-- The writer keeps its bytes, the count of faults does not fall, and what the tries from here on come to, all of them come to.
+use Rattle.std.proofs.Common.{◌≤◌, ◌-◌, ◌^◌}
 use Rattle.std.specs.Io.KnownBytes.{Keeps}
-use Rattle.grove_io.specs.Outside.{HasRisen}
+use Rattle.grove_io.specs.Tries.{TakesNothing}
+use Rattle.grove_io.proofs.Tried.{LeadsTo}
 use Rattle.grove_io.proofs.writer_sink.WriterSinkSink.write.Given as goal
 
-abbrev pub invariant-loop-tries : goal.invariant-loop-tries
-invariant-loop-tries g l =
+abbrev pub invariant-loop-count : goal.invariant-loop-count
+invariant-loop-count g l =
     record {
       keeps : Keeps (g.W.Write.contents l.initial.self.writer) (g.W.Write.contents l.self.writer);
       never_falls : l.initial.self.faults ≤ l.self.faults;
-      risen : 0 < l._tries → HasRisen l.initial.self.faults l.self.faults;
+      tries : LeadsTo g.W.Writer.answers (TakesNothing l.piece) l.initial.self.writer l.initial.self.faults l.self.writer l.self.faults;
     }
+
+abbrev pub decreases-loop-count : goal.decreases-loop-count
+decreases-loop-count g l = 2 ^ 64 - l.self.faults

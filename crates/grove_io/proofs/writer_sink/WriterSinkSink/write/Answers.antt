@@ -1,0 +1,32 @@
+-- What the tries up to the last one come to.
+use Rattle.std.proofs.Common.{refl, rules}
+use Rattle.grove_io.specs.Tries.{TakesNothing}
+use Rattle.grove_io.proofs.Tried.{one_more, then_succeeds, then_stalls, then_fails}
+use Rattle.grove_io.proofs.writer_sink.WriterSinkSink.write.Goals as goal
+
+pub returns-then-ends_call-clause-tries : goal.returns-then-ends_call-clause-tries
+returns-then-ends_call-clause-tries g c =
+    rw c.ends_call.ensures.counted
+    (then_fails g.W.Writer.answers (TakesNothing c.args.piece.now) c.args.self.now.writer c.loop-count.self.writer c.write_once.new.self c.args.self.now.faults c.loop-count.self.faults c.in-Err.error (record {})
+    c.loop-count.invariant.tries c.in-Err.ensures.answers (c.if-ends_call.ensures.last refl))
+
+pub loop-count-preserved : goal.loop-count-preserved
+loop-count-preserved g c =
+    record {
+      keeps = search rules;
+      never_falls = search rules;
+      tries = rw c.ends_call.ensures.counted
+          (one_more g.W.Writer.answers (TakesNothing c.args.piece.now) c.args.self.now.writer c.loop-count.self.writer c.write_once.new.self c.args.self.now.faults c.loop-count.self.faults c.in-Err.error
+          c.loop-count.invariant.tries c.in-Err.ensures.answers (c.if-ends_call.ensures.again refl));
+    }
+
+pub returns-in-Ok-clause-tries : goal.returns-in-Ok-clause-tries
+returns-in-Ok-clause-tries g c =
+    rw c.saturating_add-self.ensures
+    (then_stalls g.W.Writer.answers (TakesNothing c.args.piece.now) c.args.self.now.writer c.loop-count.self.writer c.write_once.new.self c.args.self.now.faults c.loop-count.self.faults c.in-Ok.count (record {})
+    c.loop-count.invariant.tries c.in-Ok.ensures.answers (c.if-takes_nothing.ensures.nothing refl))
+
+pub returns-in-Ok-2-clause-tries : goal.returns-in-Ok-2-clause-tries
+returns-in-Ok-2-clause-tries g c =
+    then_succeeds g.W.Writer.answers (TakesNothing c.args.piece.now) c.args.self.now.writer c.loop-count.self.writer c.write_once.new.self c.args.self.now.faults c.loop-count.self.faults c.in-Ok.count
+    c.loop-count.invariant.tries c.in-Ok.ensures.answers (c.if-takes_nothing.ensures.something refl)
