@@ -12,7 +12,7 @@ use Rattle.grove_edits.specs.declared.edit.Edit.{Edit}
 use Rattle.edit_text.specs.Text.{text_of}
 use Rattle.grove_top.specs.Due.{IsDue, IsCommandDue, IsFirstFault, usage_text, too_long_text}
 use Rattle.grove_top.proofs.OneDue.{no_fault}
-use Rattle.grove_top.specs.Meets.{Outside, Meets}
+use Rattle.grove_top.specs.Meets.{Outside, Meets, IsReadFor}
 
 -- a text was written whole and its status answered, or the sink failed on the way
 abbrev pub Wrote : Status → List ℕ → Outside → Outside → Status → Type 0
@@ -20,12 +20,12 @@ Wrote status due before after result =
     ((result ≡ status) × Took before.taken due after.taken)
     ⊎ ((result ≡ WriteFault) × HasRisen before.write_faults after.write_faults × ((count : ℕ) × (count < length due) × Took before.taken (take count due) after.taken))
 
-wrote_meets : (words : List (String Global)) (before after : Outside) (status result : Status) (text due : List ℕ) → Gave before.left text after.left → IsDue words text status due
+wrote_meets : (words : List (String Global)) (before after : Outside) (status result : Status) (text due : List ℕ) → Gave before.left text after.left → IsDue words text status due → IsReadFor status text after.left
     → (Took before.taken due after.taken → Meets words before after status) → Wrote status due before after result → Meets words before after result
-wrote_meets words before after status result text due gave is_due whole (inl wrote) = subst (Meets words before after) (sym wrote.0) (whole wrote.1)
-wrote_meets words before after status result text due gave is_due whole (inr failed) =
+wrote_meets words before after status result text due gave is_due read whole (inl wrote) = subst (Meets words before after) (sym wrote.0) (whole wrote.1)
+wrote_meets words before after status result text due gave is_due read whole (inr failed) =
     subst (Meets words before after) (sym failed.0)
-    (record { status = status; text = text; due = due; count = failed.2.0; failed = failed.1; gave = gave; is_due = is_due; short = failed.2.1; took = failed.2.2 })
+    (record { status = status; text = text; due = due; count = failed.2.0; failed = failed.1; gave = gave; is_due = is_due; read = read; short = failed.2.1; took = failed.2.2 })
 
 pub gave_nothing : (left : Option (List ℕ)) → Gave left [] left
 gave_nothing None = refl
@@ -34,14 +34,14 @@ gave_nothing (Some bytes) = refl
 pub usage_meets : (words : List (String Global)) (before after : Outside) (result : Status) → AreOfNone words → before.left ≡ after.left → Wrote Usage usage_text before after result → Meets words before after result
 usage_meets words before after result none same wrote =
     let gave : Gave before.left [] after.left = subst (Gave before.left []) same (gave_nothing before.left) in
-    wrote_meets words before after Usage result [] usage_text gave (none, refl)
+    wrote_meets words before after Usage result [] usage_text gave (none, refl) refl
     (λ took. (record { text = []; due = usage_text; gave = gave; is_due = (none, refl); took = took }, refl)) wrote
 
 pub too_long_meets : (words : List (String Global)) (before after : Outside) (result : Status) (text : List ℕ) (command : Command) → AreOf command words → length text ≡ MOST_BYTES + 1 → Gave before.left text after.left
     → Wrote TooLong too_long_text before after result → Meets words before after result
 too_long_meets words before after result text command are long gave wrote =
     let more : MOST_BYTES < length text = omega arith in
-    wrote_meets words before after TooLong result text too_long_text gave (command, are, (more, refl))
+    wrote_meets words before after TooLong result text too_long_text gave (command, are, (more, refl)) long
     (λ took. (record { text = text; due = too_long_text; gave = gave; is_due = (command, are, (more, refl)); took = took }, long)) wrote
 
 pub command_due : (words : List (String Global)) (text due : List ℕ) (status : Status) (command : Command) → AreOf command words → IsCommandDue command text status due → IsDue words text status due
@@ -65,10 +65,19 @@ whole_meets words before after text due ReadFault command are short gave at_end 
 whole_meets words before after text due WriteFault command are short gave at_end is_due took = absurd is_due
 whole_meets words before after text due NoMemory command are short gave at_end is_due took = absurd is_due
 
+read_whole : (text due : List ℕ) (left : Option (List ℕ)) (status : Status) (command : Command) → length text ≤ MOST_BYTES → IsAtEnd left → IsCommandDue command text status due → IsReadFor status text left
+read_whole text due left Done command short at_end is_due = at_end
+read_whole text due left Usage command short at_end is_due = absurd is_due
+read_whole text due left (Malformed line fault) command short at_end is_due = at_end
+read_whole text due left TooLong command short at_end is_due = let more = is_due.0 in absurd (omega arith)
+read_whole text due left ReadFault command short at_end is_due = at_end
+read_whole text due left WriteFault command short at_end is_due = at_end
+read_whole text due left NoMemory command short at_end is_due = at_end
+
 pub command_meets : (words : List (String Global)) (before after : Outside) (text due written : List ℕ) (status result : Status) (command : Command) → AreOf command words → length text ≤ MOST_BYTES
     → Gave before.left text after.left → IsAtEnd after.left → IsCommandDue command text status due → written ≡ due → Wrote status written before after result → Meets words before after result
 command_meets words before after text due written status result command are short gave at_end is_due same wrote =
-    wrote_meets words before after status result text due gave (command_due words text due status command are is_due)
+    wrote_meets words before after status result text due gave (command_due words text due status command are is_due) (read_whole text due after.left status command short at_end is_due)
     (whole_meets words before after text due status command are short gave at_end is_due)
     (subst (λ (t : List ℕ). Wrote status t before after result) same wrote)
 

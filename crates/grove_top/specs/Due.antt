@@ -10,7 +10,6 @@ use Rattle.plain_typing.specs.Typed.{AreTyped}
 use Rattle.grove_printer.specs.Print.{print_text}
 use Rattle.edit_text.specs.declared.line_fault.LineFault.TheVariants as lines
 use Rattle.edit_text.specs.Text.{text_of, IsMalformed, HasRest}
-use Rattle.grove_top.specs.declared.limit.TheConstants.{MOST_BYTES}
 use Rattle.grove_top.specs.declared.outcome.Fault.{Fault}
 use Rattle.grove_top.specs.declared.outcome.Fault.TheVariants.{Syntax, BadVertex, NoPosition, WrongSort, Rest}
 use Rattle.grove_top.specs.declared.outcome.Status.{Status}
@@ -83,11 +82,15 @@ IsAnswered Merge text answer = IsMerged text answer
 IsAnswered Show text answer = IsShown text answer
 IsAnswered Check text answer = IsChecked text answer
 
+-- how many bytes an input may have
+abbrev pub most_bytes : ℕ
+most_bytes = 16777216
+
 -- what is due for the words of a command
 abbrev pub IsCommandDue : Command → List ℕ → Status → List ℕ → Type 0
-IsCommandDue command text TooLong due = (MOST_BYTES < length text) × (due ≡ too_long_text)
-IsCommandDue command text (Malformed line fault) due = (length text ≤ MOST_BYTES) × IsFirstFault text line fault × (due ≡ malformed_text line fault)
-IsCommandDue command text Done due = (length text ≤ MOST_BYTES) × IsAnswered command text due
+IsCommandDue command text TooLong due = (most_bytes < length text) × (due ≡ too_long_text)
+IsCommandDue command text (Malformed line fault) due = (length text ≤ most_bytes) × IsFirstFault text line fault × (due ≡ malformed_text line fault)
+IsCommandDue command text Done due = (length text ≤ most_bytes) × IsAnswered command text due
 IsCommandDue command text Usage due = ⊥
 IsCommandDue command text ReadFault due = ⊥
 IsCommandDue command text WriteFault due = ⊥

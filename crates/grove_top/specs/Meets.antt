@@ -2,12 +2,11 @@
 use Rattle.std.specs.declared.alloc.Global.{Global}
 use Rattle.std.specs.Prelude.{String, ◌≡◌, ℕ, ◌+◌, ◌<◌, List, [], length, take, Option}
 use Rattle.grove_io.specs.Outside.{HasRisen, Gave, Took, IsAtEnd}
-use Rattle.grove_top.specs.declared.limit.TheConstants.{MOST_BYTES}
 use Rattle.grove_top.specs.declared.outcome.Status.{Status}
 use Rattle.grove_top.specs.declared.outcome.Status.TheVariants.{Done, Usage, Malformed, TooLong, ReadFault, WriteFault, NoMemory}
 use Rattle.grove_top.specs.declared.command.Command.{Command}
 use Rattle.grove_top.specs.Words.{AreOf}
-use Rattle.grove_top.specs.Due.{IsDue}
+use Rattle.grove_top.specs.Due.{IsDue, most_bytes}
 
 -- a source and a sink at one moment: the bytes left and taken, where they are told, and the counts of faults
 pub record Outside : Type 0 where
@@ -29,6 +28,12 @@ pub record AnswersWhole (words : List (String Global)) (before after : Outside) 
   pub answers : Answers words before after status
   pub at_end : IsAtEnd after.left
 
+-- how much of the input was read for a status: nothing for the usage line, no more than shows that it is too long, and else all
+abbrev pub IsReadFor : Status → List ℕ → Option (List ℕ) → Type 0
+IsReadFor Usage text left = text ≡ []
+IsReadFor TooLong text left = length text ≡ most_bytes + 1
+IsReadFor status text left = IsAtEnd left
+
 -- The sink failed, and what it took is a part of what was due, from its front and not all of it.
 pub record IsCutOff (words : List (String Global)) (before after : Outside) : Type 0 where
   pub status : Status
@@ -38,6 +43,7 @@ pub record IsCutOff (words : List (String Global)) (before after : Outside) : Ty
   pub failed : HasRisen before.write_faults after.write_faults
   pub gave : Gave before.left text after.left
   pub is_due : IsDue words text status due
+  pub read : IsReadFor status text after.left
   pub short : count < length due
   pub took : Took before.taken (take count due) after.taken
 
@@ -50,7 +56,7 @@ abbrev pub Meets : List (String Global) → Outside → Outside → Status → T
 Meets words before after Done = AnswersWhole words before after Done
 Meets words before after (Malformed line fault) = AnswersWhole words before after (Malformed line fault)
 -- of the input no more was read than shows that it is too long
-Meets words before after TooLong = (answers : Answers words before after TooLong) × (length answers.text ≡ MOST_BYTES + 1)
+Meets words before after TooLong = (answers : Answers words before after TooLong) × (length answers.text ≡ most_bytes + 1)
 -- nothing was read
 Meets words before after Usage = (answers : Answers words before after Usage) × (answers.text ≡ [])
 Meets words before after ReadFault = HasRisen before.read_faults after.read_faults × IsSilent words before after

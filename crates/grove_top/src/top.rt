@@ -2,10 +2,9 @@ ghost use Rattle.std.specs.Prelude.{◌≡◌, ◌≢◌, ◌⊎◌, ◌<◌, �
 ghost use Rattle.grove_io.specs.Outside.{HasRisen, Gave, Took};
 ghost use Rattle.grove_edits.specs.declared.edit.Edit.{Edit};
 ghost use Rattle.edit_text.specs.Text.{text_of};
-ghost use Rattle.grove_top.specs.declared.limit.TheConstants.{MOST_BYTES};
 ghost use Rattle.grove_top.specs.declared.command.Command.{Command};
 ghost use Rattle.grove_top.specs.Words.{AreOf, AreOfNone};
-ghost use Rattle.grove_top.specs.Due.{IsDue, usage_text, too_long_text};
+ghost use Rattle.grove_top.specs.Due.{IsDue, most_bytes, usage_text, too_long_text};
 ghost use Rattle.grove_top.specs.Meets.{Meets};
 
 use crate::command::Command;
@@ -33,10 +32,10 @@ pub fn run<S: Source, K: Sink>(
         (record { left = S.left source.old; read_faults = S.faults source.old; taken = K.taken sink.old; write_faults = K.faults sink.old })
         (record { left = S.left source.new; read_faults = S.faults source.new; taken = K.taken sink.new; write_faults = K.faults sink.new })
         result.status }
-    ensures reads_nothing { result.status ≡ Status.Usage → source.new ≡ source.old }
+    ensures reads_nothing { AreOfNone words.now → source.new ≡ source.old }
 
     // A good input is answered, unless the outside fails or memory runs out.
-    ensures complete { (command : Command) (edits : List Edit) → AreOf command words.now → S.left source.old ≡ Some (text_of edits) → length (text_of edits) ≤ MOST_BYTES
+    ensures complete { (command : Command) (edits : List Edit) → AreOf command words.now → S.left source.old ≡ Some (text_of edits) → length (text_of edits) ≤ most_bytes
         → ¬ HasRisen (S.faults source.old) (S.faults source.new) → ¬ HasRisen (K.faults sink.old) (K.faults sink.new)
         → (result.status ≡ Status.Done) ⊎ (result.status ≡ Status.NoMemory) }
 
@@ -60,7 +59,7 @@ fn answer<S: Source, K: Sink>(
         (record { left = S.left source.old; read_faults = S.faults source.old; taken = K.taken sink.old; write_faults = K.faults sink.old })
         (record { left = S.left source.new; read_faults = S.faults source.new; taken = K.taken sink.new; write_faults = K.faults sink.new })
         result }
-    ensures reads_nothing { result ≡ Status.Usage → source.new ≡ source.old }
+    ensures reads_nothing { AreOfNone words.now → source.new ≡ source.old }
     ensures no_read_fault { S.never_fails source.old → S.faults source.new ≡ S.faults source.old }
     ensures no_write_fault { (room : ℕ) → K.never_fails sink.old room
         → ((text due : List ℕ) (status : Status) → Gave (S.left source.old) text (S.left source.new) → IsDue words.now text status due → length due ≤ room)
