@@ -2,7 +2,7 @@
 #![tactic(auto)]
 
 use grove_io::{ReaderSource, WriterSink};
-use grove_top::{Status, run};
+use grove_top::{exit_status, run};
 use std::alloc::Global;
 use std::env;
 use std::process::ExitCode;
@@ -24,17 +24,5 @@ fn words<R: Env + AllocGlobal>(rt: &R, alloc: Global) -> Vec<String> {
             Err(_) => Vec::new(alloc),
         },
         Err(_) => Vec::new(alloc),
-    }
-}
-
-fn exit_status(status: Status) -> u8 {
-    match status {
-        Status::Done => 0,
-        Status::Usage => 2,
-        Status::Malformed { .. } => 3,
-        Status::TooLong => 4,
-        Status::ReadFault => 5,
-        Status::WriteFault => 6,
-        Status::NoMemory => 7,
     }
 }

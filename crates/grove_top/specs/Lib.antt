@@ -8,3 +8,4 @@ pub mod Whole
 pub mod Due
 pub mod Graph
 pub mod Meets
+pub mod Exit

@@ -5,6 +5,7 @@
 mod check;
 mod command;
 mod commands;
+mod exit;
 mod laws;
 mod limit;
 mod no_memory;
@@ -16,6 +17,7 @@ mod top;
 mod walk;
 
 pub use command::Command;
+pub use exit::exit_status;
 pub use laws::{one_text_is_due, same_edits_same_text};
 pub use limit::MOST_BYTES;
 pub use outcome::{Fault, Outcome, Status};
