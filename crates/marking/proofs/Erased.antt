@@ -24,13 +24,13 @@ nodes_of-append : (xs ys : List MarkedNode) → nodes_of (xs ++ ys) ≡ nodes_of
 nodes_of-append [] ys = refl
 nodes_of-append (x ∷ xs) ys = ap (λ ns. x.node ∷ ns) (nodes_of-append xs ys)
 
-node-plain : (s : Sort) (w : Wanted) (n : Node) → (marked_plain s w n).node ≡ n
+pub node-plain : (s : Sort) (w : Wanted) (n : Node) → (marked_plain s w n).node ≡ n
 node-plain Top w n = refl
 node-plain Exp w n = refl
 node-plain Pat w n = refl
 node-plain TypeSort w n = refl
 
-node-vertex : (s : Sort) (e : Expression) (f : Forest) (n : Node) → (marked_vertex s e f n).node ≡ n
+pub node-vertex : (s : Sort) (e : Expression) (f : Forest) (n : Node) → (marked_vertex s e f n).node ≡ n
 node-vertex Top e f n = refl
 node-vertex Exp e f n = refl
 node-vertex Pat e f n = refl

@@ -28,12 +28,12 @@ use Rattle.marking.specs.Rules.{OfSole, Whether, FirstIsJudged, AreJudged, HasBy
 
 -- ---- the types of the expressions at some positions, one after the other
 
-abbrev new_types : Expression → (Position → Demanded → Typ) → List (Position × Sort) → List Typ → List Typ
+abbrev pub new_types : Expression → (Position → Demanded → Typ) → List (Position × Sort) → List Typ → List Typ
 new_types e judge [] before = []
 new_types e judge (p ∷ ps) before =
     if is_exp p.1 then (judge p.0 (demand e before) ∷ new_types e judge ps (before ++ judge p.0 (demand e before) ∷ [])) else new_types e judge ps before
 
-types_at-new : (e : Expression) (judge : Position → Demanded → Typ) (ps : List (Position × Sort)) (before : List Typ) → types_at e judge ps before ≡ before ++ new_types e judge ps before
+pub types_at-new : (e : Expression) (judge : Position → Demanded → Typ) (ps : List (Position × Sort)) (before : List Typ) → types_at e judge ps before ≡ before ++ new_types e judge ps before
 types_at-new e judge [] before = sym (append-nil before)
 types_at-new e judge (p ∷ ps) before =
     by_test (is_exp p.1) (types_at-new e judge ps (before ++ judge p.0 (demand e before) ∷ [])) (types_at-new e judge ps before) where
@@ -46,7 +46,7 @@ types_at-new e judge (p ∷ ps) before =
       by_test false one other = other
 
 -- there are as many as expressions among the positions
-length-new : (c : Ctor) (e : Expression) (judge : Position → Demanded → Typ) → length (new_types e judge (positions c) []) ≡ expression_count c
+pub length-new : (c : Ctor) (e : Expression) (judge : Position → Demanded → Typ) → length (new_types e judge (positions c) []) ≡ expression_count c
 length-new Root e judge = refl
 length-new (Var x) e judge = refl
 length-new Lam e judge = refl
@@ -113,11 +113,12 @@ both_true : (a b : Bool) → (a && b) ≡ true → (a ≡ true) × (b ≡ true)
 both_true true b h = (refl, h)
 both_true false b h = absurd cc
 
-sort_from_test : (s : Sort) → is_sort (Some Exp) s ≡ true → s ≡ Exp
-sort_from_test Top h = absurd cc
-sort_from_test Exp h = refl
-sort_from_test Pat h = absurd cc
-sort_from_test TypeSort h = absurd cc
+sort_from_test : (wanted s : Sort) → is_sort (Some wanted) s ≡ true → s ≡ wanted
+sort_from_test Top Top h = refl
+sort_from_test Exp Exp h = refl
+sort_from_test Pat Pat h = refl
+sort_from_test TypeSort TypeSort h = refl
+sort_from_test wanted s h = absurd cc
 
 has_sort_by : (good place sort : Bool) → IsTrue (is_none (if good then (if place then (if sort then None else Some WrongSort) else Some NoPosition) else Some BadVertex)) → sort ≡ true
 has_sort_by true true true h = refl
@@ -125,11 +126,23 @@ has_sort_by true true false h = absurd (false≢true h)
 has_sort_by true false sort h = absurd (false≢true h)
 has_sort_by false place sort h = absurd (false≢true h)
 
-child_is_exp : (v : Vertex) (e : Edge) (others : List Edge) (p : Position) → IsChildOf v e others → is_same_position e.position p ≡ true → sort_at v.ctor p ≡ Some Exp → sort_of_ctor e.target.ctor ≡ Exp
-child_is_exp v e others p is same wants =
-    let at : sort_at e.source.ctor e.position ≡ Some Exp = ap (λ (w : Vertex). sort_at w.ctor e.position) is.source ∙ ap (sort_at v.ctor) (position_cmp_exact e.position p (equal_from_test (position_cmp e.position p) same)) ∙ wants in
+pub child_has_sort : (v : Vertex) (e : Edge) (others : List Edge) (p : Position) (s : Sort) → IsChildOf v e others → is_same_position e.position p ≡ true → sort_at v.ctor p ≡ Some s → sort_of_ctor e.target.ctor ≡ s
+child_has_sort v e others p s is same wants =
+    let at : sort_at e.source.ctor e.position ≡ Some s = ap (λ (w : Vertex). sort_at w.ctor e.position) is.source ∙ ap (sort_at v.ctor) (position_cmp_exact e.position p (equal_from_test (position_cmp e.position p) same)) ∙ wants in
     let sorted = has_sort_by (has_good_vertices e) (has_position e) (has_sort e) is.well_formed in
-    sort_from_test (sort_of_ctor e.target.ctor) (ap (λ (s : Option Sort). is_sort s (sort_of_ctor e.target.ctor)) (sym at) ∙ sorted)
+    sort_from_test s (sort_of_ctor e.target.ctor) (ap (λ (found : Option Sort). is_sort found (sort_of_ctor e.target.ctor)) (sym at) ∙ sorted)
+
+-- no well-formed edge stands at a position that its source does not have
+pub has_sort_there : (v : Vertex) (e : Edge) (others : List Edge) (p : Position) → IsChildOf v e others → is_same_position e.position p ≡ true → sort_at v.ctor p ≡ None → ⊥
+has_sort_there v e others p is same lacks =
+    let at : sort_at e.source.ctor e.position ≡ None = ap (λ (w : Vertex). sort_at w.ctor e.position) is.source ∙ ap (sort_at v.ctor) (position_cmp_exact e.position p (equal_from_test (position_cmp e.position p) same)) ∙ lacks in
+    let sorted = has_sort_by (has_good_vertices e) (has_position e) (has_sort e) is.well_formed in
+    not_none (sort_of_ctor e.target.ctor) (ap (λ (found : Option Sort). is_sort found (sort_of_ctor e.target.ctor)) (sym at) ∙ sorted) where
+      not_none : (s : Sort) → is_sort None s ≡ true → ⊥
+      not_none Top h = absurd cc
+      not_none Exp h = absurd cc
+      not_none Pat h = absurd cc
+      not_none TypeSort h = absurd cc
 
 wants_exp : (c : Ctor) → AllByRecursion (λ p. is_exp p.1 ≡ true → sort_at c p.0 ≡ Some Exp) (positions c)
 wants_exp Root = (λ _. refl, tt)
@@ -215,7 +228,7 @@ child_has v (tree e below rest) p d sorted wants =
           → Whether b (HasByRule (expression e.target.ctor d.scope d.wanted below) (SoleHas below)
           (cond b (settled (expression e.target.ctor d.scope d.wanted below) (children_types (expression e.target.ctor d.scope d.wanted below) below)).typ (judged_child rest p d)))
           (ChildHas rest p d (cond b (settled (expression e.target.ctor d.scope d.wanted below) (children_types (expression e.target.ctor d.scope d.wanted below) below)).typ (judged_child rest p d)))
-      by_test true same rule later = rule (child_is_exp v e (child_edges rest) p sorted.0 same wants)
+      by_test true same rule later = rule (child_has_sort v e (child_edges rest) p Exp sorted.0 same wants)
       by_test false same rule later = later
 
 pub child_has_only : (v : Vertex) (f : Forest) (p : Position) (d : Demanded) (t : Typ) → IsWellSorted v f → sort_at v.ctor p ≡ Some Exp → ChildHas f p d t → t ≡ judged_child f p d
