@@ -1,210 +1,112 @@
 -- A position is filled.
-use Rattle.std.proofs.Common.{◌≡◌, ℕ, zero, suc, ◌+◌, ◌<◌, ◌≤◌, ◌⊎◌, inl, inr, Bool, true, false, cond, List, [], ◌∷◌, ◌++◌, length, set, take, drop, Option, Some, None, IsSome, IfSome, refl, sym, ap, subst, ◌∙◌, arith, length-take, length-set}
+use Rattle.std.proofs.Common.{◌≡◌, ℕ, zero, suc, ◌+◌, ◌<◌, ◌≤◌, ◌⊎◌, inl, inr, List, [], ◌∷◌, ◌++◌, length, set, take, map, Option, Some, None, IfSome, refl, sym, ap, subst, ◌∙◌, arith, length-set}
 use Rattle.std.specs.Prelude.{slice_get}
 use Rattle.std.specs.Option.{option_map}
 use Rattle.std.specs.List.{slice_index_or}
-use Rattle.std.proofs.lemmas.List.{get_or-set_same, get_or-set_other}
-use Rattle.std.proofs.lemmas.Bool.{cases_lt, cases_eq}
-use Rattle.grove_sorts.specs.declared.position.Position.{Position}
-use Rattle.grove_sorts.specs.declared.ctor.Ctor.{Ctor}
-use Rattle.grove_sorts.specs.declared.ctor.Ctor.TheVariants as ctor
-use Rattle.grove_sorts.specs.declared.sort.Sort.{Sort}
-use Rattle.grove_sorts.specs.declared.sort.Sort.TheVariants.{Top, Exp, Pat, Typ as TypeSort}
+use Rattle.std.proofs.lemmas.Bool.{cases_eq}
+use Rattle.std.proofs.lemmas.List.{map-append, get_or-set_same, get_or-set_other}
+use Rattle.std.proofs.lemmas.Option.{slice_get-get_or}
 use Rattle.grove_sorts.specs.Ctor.{positions}
+use Rattle.grove_sorts.proofs.Rows.{row_short}
 use Rattle.type_core.specs.declared.type_id.TypeId.{TypeId}
 use Rattle.type_core.specs.Typ.{Typ}
-use Rattle.type_core.specs.TypeTable.{IsTypeOf, type_at}
 use Rattle.ctx_table.specs.Context.{Context}
-use Rattle.mark_step.specs.Rows.{is_exp}
-use Rattle.mark_step.specs.Node.{AreNumbers, sort_at_index, type_or_unknown, types_from}
+use Rattle.mark_step.specs.Node.{demanded_at}
 use Rattle.judging.specs.declared.frame.Given.{Given}
 use Rattle.judging.specs.declared.frame.OpenVertex.{OpenVertex}
-use Rattle.judging.specs.Frames.{given_at, opened_at, left_of, filled_with, IsGivenOf, IsOpenOf}
+use Rattle.judging.specs.Frames.{given_at, given_before, opened_at, filled_with, IsGivenOf, IsFilledOf, IsOpenOf}
 use Rattle.judging.specs.Machine as machine
 
-pub record Split (xs : List (Position × Sort)) (i : ℕ) (p : Position × Sort) (ps : List (Position × Sort)) : Type 0 where
-  pub here : slice_get xs i ≡ Some p
-  pub taken : take (suc i) xs ≡ take i xs ++ p ∷ []
-  pub left : drop (suc i) xs ≡ ps
-  pub long : length xs ≡ suc i + length ps
+-- ---- what a list has at its places once one is set
 
-pub split : (xs : List (Position × Sort)) (i : ℕ) (p : Position × Sort) (ps : List (Position × Sort)) → drop i xs ≡ p ∷ ps → Split xs i p ps
-split [] zero p ps e = absurd cc
-split [] (suc i) p ps e = absurd cc
-split (x ∷ xs) zero p ps e = record { here = cc; taken = cc; left = cc; long = omega (arith, ap (λ (ys : List (Position × Sort)). length ys) e) }
-split (x ∷ xs) (suc i) p ps e =
-    let below : Split xs i p ps = split xs i p ps e in
-    let long = below.long in
-    record { here = below.here; taken = ap (λ ys. x ∷ ys) below.taken; left = below.left; long = omega arith }
+take-set : (gs : List Given) (n : ℕ) (g : Given) → n < length gs → take (suc n) (set gs n g) ≡ take n gs ++ g ∷ []
+take-set [] n g lt = absurd (omega (arith, lt))
+take-set (x ∷ gs) zero g lt = refl
+take-set (x ∷ gs) (suc n) g lt = ap (λ (xs : List Given). x ∷ xs) (take-set gs n g (omega (arith, lt)))
 
-types_from-set : (types : List Typ) (done : List (Option TypeId)) (j : ℕ) (v : Option TypeId) (i : ℕ) (ps : List (Position × Sort)) → i + length ps ≤ j → types_from types (set done j v) i ps ≡ types_from types done i ps
-types_from-set types done j v i [] below = refl
-types_from-set types done j v i (p ∷ ps) below =
-    ap (λ o. cond (is_exp p.1) (type_or_unknown types o ∷ types_from types (set done j v) (i + 1) ps) (types_from types (set done j v) (i + 1) ps)) (get_or-set_other done j i v None (λ e. absurd (omega (arith, e))))
-    ∙ ap (λ ts. cond (is_exp p.1) (type_or_unknown types (slice_index_or done i None) ∷ ts) ts) (types_from-set types done j v (i + 1) ps (omega arith))
+set-all : (P : Given → Type 0) (gs : List Given) (n : ℕ) (g : Given) → P g → ((i : ℕ) → IfSome (slice_get gs i) P) → (i : ℕ) → IfSome (slice_get (set gs n g) i) P
+set-all P [] n g is all i = all i
+set-all P (x ∷ gs) zero g is all zero = is
+set-all P (x ∷ gs) zero g is all (suc i) = all (suc i)
+set-all P (x ∷ gs) (suc n) g is all zero = all 0
+set-all P (x ∷ gs) (suc n) g is all (suc i) = set-all P gs n g is (λ j. all (suc j)) i
 
-types_from-exp : (types : List Typ) (done : List (Option TypeId)) (i : ℕ) (ps : List (Position × Sort)) (p : Position × Sort) → p.1 ≡ Exp
-    → types_from types done i (ps ++ p ∷ []) ≡ types_from types done i ps ++ type_or_unknown types (slice_index_or done (i + length ps) None) ∷ []
-types_from-exp types done i [] p exp =
-    let first : i ≡ i + 0 = omega arith in
-    ap (λ s. cond (is_exp s) (type_or_unknown types (slice_index_or done i None) ∷ []) []) exp ∙ ap (λ k. type_or_unknown types (slice_index_or done k None) ∷ []) first
-types_from-exp types done i (q ∷ ps) p exp =
-    let later : i + 1 + length ps ≡ i + suc (length ps) = omega arith in
-    by_sort (is_exp q.1) (types_from-exp types done (i + 1) ps p exp ∙ ap (λ k. types_from types done (i + 1) ps ++ type_or_unknown types (slice_index_or done k None) ∷ []) later) where
-      by_sort : (b : Bool) → types_from types done (i + 1) (ps ++ p ∷ []) ≡ types_from types done (i + 1) ps ++ type_or_unknown types (slice_index_or done (i + suc (length ps)) None) ∷ []
-          → cond b (type_or_unknown types (slice_index_or done i None) ∷ types_from types done (i + 1) (ps ++ p ∷ [])) (types_from types done (i + 1) (ps ++ p ∷ []))
-          ≡ cond b (type_or_unknown types (slice_index_or done i None) ∷ types_from types done (i + 1) ps) (types_from types done (i + 1) ps) ++ type_or_unknown types (slice_index_or done (i + suc (length ps)) None) ∷ []
-      by_sort true same = ap (λ ts. type_or_unknown types (slice_index_or done i None) ∷ ts) same
-      by_sort false same = same
+set-rest : (P : Given → Type 0) (gs : List Given) (n : ℕ) (g : Given) → ((i : ℕ) → n ≤ i → IfSome (slice_get gs i) P) → (i : ℕ) → n + 1 ≤ i → IfSome (slice_get (set gs n g) i) P
+set-rest P [] n g all i le = all i (omega (arith, le))
+set-rest P (x ∷ gs) zero g all zero le = absurd (omega (arith, le))
+set-rest P (x ∷ gs) zero g all (suc i) le = all (suc i) (omega arith)
+set-rest P (x ∷ gs) (suc n) g all zero le = absurd (omega (arith, le))
+set-rest P (x ∷ gs) (suc n) g all (suc i) le = set-rest P gs n g (λ j more. all (suc j) (omega (arith, more))) i (omega (arith, le))
 
-types_from-other : (types : List Typ) (done : List (Option TypeId)) (i : ℕ) (ps : List (Position × Sort)) (p : Position × Sort) → is_exp p.1 ≡ false
-    → types_from types done i (ps ++ p ∷ []) ≡ types_from types done i ps
-types_from-other types done i [] p other = ap (λ b. cond b (type_or_unknown types (slice_index_or done i None) ∷ []) []) other
-types_from-other types done i (q ∷ ps) p other =
-    ap (λ ts. cond (is_exp q.1) (type_or_unknown types (slice_index_or done i None) ∷ ts) ts) (types_from-other types done (i + 1) ps p other)
+-- ---- the vertex after its next position gave something
 
--- no constructor has more than three positions
-pub widest : (c : Ctor) → length (positions c) ≤ 3
-widest ctor.Root = omega arith
-widest (ctor.Var x) = omega arith
-widest ctor.Lam = omega arith
-widest ctor.Ap = omega arith
-widest (ctor.Num n) = omega arith
-widest ctor.Plus = omega arith
-widest ctor.LitTrue = omega arith
-widest ctor.LitFalse = omega arith
-widest ctor.Choose = omega arith
-widest ctor.Pair = omega arith
-widest ctor.Fst = omega arith
-widest ctor.Snd = omega arith
-widest (ctor.PVar x) = omega arith
-widest ctor.TNum = omega arith
-widest ctor.TBool = omega arith
-widest ctor.TArrow = omega arith
-widest ctor.TProd = omega arith
-
-module _ (types : List Typ) (ctxs : List Context) (g : Given) (given : IsGivenOf types g) (o : OpenVertex) (is : IsOpenOf types ctxs o) (p : Position × Sort) (ps : List (Position × Sort)) (left : left_of o ≡ p ∷ ps) where
-  at : Split (positions o.view.ctor) o.next p ps
-  at = split (positions o.view.ctor) o.next p ps left
-
-  sort_here : sort_at_index o.view.ctor o.next ≡ Some p.1
-  sort_here = ap (option_map (λ q. q.1)) at.here
+module _ (types : List Typ) (ctxs : List Context) (g : Given) (o : OpenVertex) (is : IsOpenOf types ctxs o) (some : o.next < length (positions o.ctor)) where
+  short : o.next < length o.given
+  short = omega (arith, some, row_short o.ctor, is.filled.wide)
 
   next_one : o.next + 1 ≡ suc o.next
   next_one = omega arith
 
-  so_many : 0 + length (take o.next (positions o.view.ctor)) ≡ o.next
-  so_many = omega (arith, length-take o.next (positions o.view.ctor), is.within)
+  pub opened_filled : opened_at types ctxs (filled_with g o) ≡ machine.filled (given_at types g) (opened_at types ctxs o)
+  opened_filled =
+      ap (λ (gs : List machine.Given). record { ctor = o.ctor; demanded = demanded_at types ctxs o.demand; given = gs })
+      (ap (λ n. map (given_at types) (take n (set o.given o.next g))) next_one ∙ ap (map (given_at types)) (take-set o.given o.next g short) ∙ map-append (given_at types) (given_before o) (g ∷ []))
 
-  short : o.next < length o.view.done
-  short = omega (arith, at.long, widest o.view.ctor, is.wide)
-
-  taken_more : (done : List (Option TypeId)) → types_from types done 0 (take (o.next + 1) (positions o.view.ctor)) ≡ types_from types done 0 (take o.next (positions o.view.ctor) ++ p ∷ [])
-  taken_more done = ap (λ n. types_from types done 0 (take n (positions o.view.ctor))) next_one ∙ ap (types_from types done 0) at.taken
-
-  before_exp : p.1 ≡ Exp → types_from types (set o.view.done o.next (Some g.typ)) 0 (take (o.next + 1) (positions o.view.ctor)) ≡ types_from types o.view.done 0 (take o.next (positions o.view.ctor)) ++ type_at types g.typ ∷ []
-  before_exp exp =
-      taken_more (set o.view.done o.next (Some g.typ))
-      ∙ types_from-exp types (set o.view.done o.next (Some g.typ)) 0 (take o.next (positions o.view.ctor)) p exp
-      ∙ ap (λ ts. ts ++ type_or_unknown types (slice_index_or (set o.view.done o.next (Some g.typ)) (0 + length (take o.next (positions o.view.ctor))) None) ∷ [])
-      (types_from-set types o.view.done o.next (Some g.typ) 0 (take o.next (positions o.view.ctor)) (omega (arith, so_many)))
-      ∙ ap (λ k. types_from types o.view.done 0 (take o.next (positions o.view.ctor)) ++ type_or_unknown types (slice_index_or (set o.view.done o.next (Some g.typ)) k None) ∷ []) so_many
-      ∙ ap (λ t. types_from types o.view.done 0 (take o.next (positions o.view.ctor)) ++ type_or_unknown types t ∷ []) (get_or-set_same o.view.done o.next (Some g.typ) None short)
-
-  before_other : is_exp p.1 ≡ false → types_from types o.view.done 0 (take (o.next + 1) (positions o.view.ctor)) ≡ types_from types o.view.done 0 (take o.next (positions o.view.ctor))
-  before_other other = taken_more o.view.done ∙ types_from-other types o.view.done 0 (take o.next (positions o.view.ctor)) p other
-
-  filled_at : (s : Sort) → p.1 ≡ s → opened_at types ctxs (filled_with (Some s) g o) ≡ machine.filled s (given_at types g) (opened_at types ctxs o)
-  filled_at Exp s = ap (λ (ts : List Typ). before_is ts) (before_exp s) where
-    before_is : List Typ → machine.Opened
-    before_is ts = record { place = o.place; node = o.node.now; ctor = o.view.ctor; demanded = (opened_at types ctxs o).demanded; bound = (opened_at types ctxs o).bound; earlier = type_at types o.earlier; before = ts }
-  filled_at TypeSort s = ap (λ (ts : List Typ). before_is ts) (before_other (ap is_exp s)) where
-    before_is : List Typ → machine.Opened
-    before_is ts = record { place = o.place; node = o.node.now; ctor = o.view.ctor; demanded = (opened_at types ctxs o).demanded; bound = record { name = o.view.binder.name; typ = type_at types g.typ }; earlier = type_at types o.view.binder.typ; before = ts }
-  filled_at Pat s = ap (λ (ts : List Typ). before_is ts) (before_other (ap is_exp s)) where
-    before_is : List Typ → machine.Opened
-    before_is ts = record { place = o.place; node = o.node.now; ctor = o.view.ctor; demanded = (opened_at types ctxs o).demanded; bound = record { name = g.name; typ = type_at types o.view.binder.typ }; earlier = type_at types o.earlier; before = ts }
-  filled_at Top s = ap (λ (ts : List Typ). before_is ts) (before_other (ap is_exp s)) where
-    before_is : List Typ → machine.Opened
-    before_is ts = record { place = o.place; node = o.node.now; ctor = o.view.ctor; demanded = (opened_at types ctxs o).demanded; bound = (opened_at types ctxs o).bound; earlier = type_at types o.earlier; before = ts }
-
-  pub opened_filled : opened_at types ctxs (filled_with (sort_at_index o.view.ctor o.next) g o) ≡ machine.filled p.1 (given_at types g) (opened_at types ctxs o)
-  opened_filled = ap (λ (s : Option Sort). opened_at types ctxs (filled_with s g o)) sort_here ∙ filled_at p.1 refl
-
-  left_by : (s : Sort) → left_of (filled_with (Some s) g o) ≡ ps
-  left_by Exp = ap (λ n. drop n (positions o.view.ctor)) next_one ∙ at.left
-  left_by TypeSort = ap (λ n. drop n (positions o.view.ctor)) next_one ∙ at.left
-  left_by Pat = ap (λ n. drop n (positions o.view.ctor)) next_one ∙ at.left
-  left_by Top = ap (λ n. drop n (positions o.view.ctor)) next_one ∙ at.left
-
-  pub left_filled : left_of (filled_with (sort_at_index o.view.ctor o.next) g o) ≡ ps
-  left_filled = ap (λ (s : Option Sort). left_of (filled_with s g o)) sort_here ∙ left_by p.1
-
-  -- ---- the numbers stay those of the tables
-
-  some_same : (s t : Sort) → Some s ≡ Some t → s ≡ t
-  some_same s t e = cc
-
-  done_before : (done : List (Option TypeId)) → ((i : ℕ) → i < o.next → slice_index_or done i None ≡ slice_index_or o.view.done i None) → (p.1 ≡ Exp → IsSome (slice_index_or done o.next None))
-      → (i : ℕ) → i < o.next + 1 → sort_at_index o.view.ctor i ≡ Some Exp → IsSome (slice_index_or done i None)
-  done_before done earlier here i below exp = by_place (nat_cases i) where
-    nat_cases : (i : ℕ) → (i < o.next) ⊎ (o.next ≤ i)
-    nat_cases i = cases_lt i o.next
-
-    by_place : (i < o.next) ⊎ (o.next ≤ i) → IsSome (slice_index_or done i None)
-    by_place (inl lt) = subst (λ (x : Option TypeId). IsSome x) (sym (earlier i lt)) (is.done i lt exp)
-    by_place (inr ge) =
-        let same : o.next ≡ i = omega arith in
-        subst (λ k. IsSome (slice_index_or done k None)) same (here (some_same p.1 Exp (sym sort_here ∙ ap (sort_at_index o.view.ctor) same ∙ exp)))
-
-  some_is : (t : TypeId) (x : Option TypeId) → x ≡ Some t → IsSome x
-  some_is t x e = subst (λ (y : Option TypeId). IsSome y) (sym e) refl
-
-  some_of : (t : TypeId) (x : Option TypeId) → x ≡ Some t → IsTypeOf types t → IfSome x (IsTypeOf types)
-  some_of t x e h = subst (λ (y : Option TypeId). IfSome y (IsTypeOf types)) (sym e) h
-
-  numbers_set : AreNumbers types (set o.view.done o.next (Some g.typ))
-  numbers_set i = by_place (cases_eq i o.next) where
-    by_place : (i ≡ o.next) ⊎ (i ≡ o.next → ⊥) → IfSome (slice_index_or (set o.view.done o.next (Some g.typ)) i None) (IsTypeOf types)
-    by_place (inl same) = some_of g.typ (slice_index_or (set o.view.done o.next (Some g.typ)) i None) (ap (λ k. slice_index_or (set o.view.done o.next (Some g.typ)) k None) same ∙ get_or-set_same o.view.done o.next (Some g.typ) None short) given
-    by_place (inr other) = subst (λ (y : Option TypeId). IfSome y (IsTypeOf types)) (sym (get_or-set_other o.view.done o.next i (Some g.typ) None other)) (is.view.done i)
-
-  within_one : o.next + 1 ≤ length (positions o.view.ctor)
-  within_one = omega (arith, at.long)
-
-  exp_not : (s : Sort) → p.1 ≡ s → (s ≡ Exp → ⊥) → p.1 ≡ Exp → IsSome (slice_index_or o.view.done o.next None)
-  exp_not s e other exp = absurd (other (sym e ∙ exp))
-
-  is_by : (s : Sort) → p.1 ≡ s → IsOpenOf types ctxs (filled_with (Some s) g o)
-  is_by Exp s = record {
-    view = record { ctx = is.view.ctx; mode = is.view.mode; binder = is.view.binder; done = numbers_set };
-    earlier = is.earlier;
-    done = done_before (set o.view.done o.next (Some g.typ)) (λ i lt. get_or-set_other o.view.done o.next i (Some g.typ) None (λ e. absurd (omega (arith, e, lt))))
-        (λ exp. some_is g.typ (slice_index_or (set o.view.done o.next (Some g.typ)) o.next None) (get_or-set_same o.view.done o.next (Some g.typ) None short));
-    within = within_one;
-    wide = length-set o.view.done o.next (Some g.typ) ∙ is.wide;
-  }
-  is_by TypeSort s = record {
-    view = record { ctx = is.view.ctx; mode = is.view.mode; binder = given; done = is.view.done };
-    earlier = is.view.binder;
-    done = done_before o.view.done (λ i lt. refl) (exp_not TypeSort s (λ e. absurd cc));
-    within = within_one;
-    wide = is.wide;
-  }
-  is_by Pat s = record {
-    view = record { ctx = is.view.ctx; mode = is.view.mode; binder = is.view.binder; done = is.view.done };
-    earlier = is.earlier;
-    done = done_before o.view.done (λ i lt. refl) (exp_not Pat s (λ e. absurd cc));
-    within = within_one;
-    wide = is.wide;
-  }
-  is_by Top s = record {
-    view = record { ctx = is.view.ctx; mode = is.view.mode; binder = is.view.binder; done = is.view.done };
-    earlier = is.earlier;
-    done = done_before o.view.done (λ i lt. refl) (exp_not Top s (λ e. absurd cc));
-    within = within_one;
-    wide = is.wide;
+  pub is_filled : IsGivenOf types g → IsOpenOf types ctxs (filled_with g o)
+  is_filled given = record {
+    demand = is.demand;
+    filled = record {
+      numbers = set-all (IsGivenOf types) o.given o.next g given is.filled.numbers;
+      rest = set-rest (λ x. given_at types x ≡ machine.nothing) o.given o.next g is.filled.rest;
+      within = omega (arith, some);
+      wide = length-set o.given o.next g ∙ is.filled.wide;
+    };
   }
 
-  pub is_filled : IsOpenOf types ctxs (filled_with (sort_at_index o.view.ctor o.next) g o)
-  is_filled = subst (λ (s : Option Sort). IsOpenOf types ctxs (filled_with s g o)) (sym sort_here) (is_by p.1 refl)
+-- ---- what a position gave, and where it is read
+
+-- an index of the vertex is read for what the position gave, or for nothing where it has not yet
+gave_before : (types : List Typ) (gs : List Given) (n i : ℕ) (d : Given) → i < length gs → ((j : ℕ) → n ≤ j → IfSome (slice_get gs j) (λ g. given_at types g ≡ machine.nothing))
+    → machine.gave (map (given_at types) (take n gs)) i ≡ given_at types (slice_index_or gs i d)
+gave_before types [] n i d lt rest = absurd (omega (arith, lt))
+gave_before types (x ∷ gs) zero i d lt rest =
+    sym (subst (λ (o : Option Given). IfSome o (λ g. given_at types g ≡ machine.nothing)) (slice_get-get_or (x ∷ gs) i d lt) (rest i (omega arith)))
+gave_before types (x ∷ gs) (suc n) zero d lt rest = refl
+gave_before types (x ∷ gs) (suc n) (suc i) d lt rest = gave_before types gs n i d (omega (arith, lt)) (λ j le. rest (suc j) (omega (arith, le)))
+
+pub gave_is : (types : List Typ) (o : OpenVertex) (i : ℕ) (d : Given) → IsFilledOf types o → i < 3 → machine.gave (map (given_at types) (given_before o)) i ≡ given_at types (slice_index_or o.given i d)
+gave_is types o i d is lt = gave_before types o.given o.next i d (omega (arith, lt, is.wide)) is.rest
+
+pub gave_number : (types : List Typ) (o : OpenVertex) (i : ℕ) (d : Given) → IsFilledOf types o → i < 3 → IsGivenOf types (slice_index_or o.given i d)
+gave_number types o i d is lt = subst (λ (x : Option Given). IfSome x (IsGivenOf types)) (slice_get-get_or o.given i d (omega (arith, lt, is.wide))) (is.numbers i)
+
+-- ---- the types so far, by index
+
+take_here : (gs : List Given) (n : ℕ) → slice_get (take (suc n) gs) n ≡ slice_get gs n
+take_here [] zero = refl
+take_here [] (suc n) = refl
+take_here (x ∷ gs) zero = refl
+take_here (x ∷ gs) (suc n) = take_here gs n
+
+take_other : (gs : List Given) (n i : ℕ) → (i ≡ n → ⊥) → slice_get (take (suc n) gs) i ≡ slice_get (take n gs) i
+take_other [] zero i other = refl
+take_other [] (suc n) i other = refl
+take_other (x ∷ gs) zero zero other = absurd (other refl)
+take_other (x ∷ gs) zero (suc i) other = none i where
+  none : (i : ℕ) → slice_get (take 0 gs) i ≡ None
+  none zero = refl
+  none (suc i) = refl
+take_other (x ∷ gs) (suc n) zero other = refl
+take_other (x ∷ gs) (suc n) (suc i) other = take_other gs n i (λ e. other (ap suc e))
+
+-- a list has the types of the first of these
+abbrev pub HasTypesOf : List Given → List (Option TypeId) → Type 0
+HasTypesOf gs types = (i : ℕ) → slice_index_or types i None ≡ option_map (λ g. g.typ) (slice_get gs i)
+
+pub one_more_type : (types : List (Option TypeId)) (gs : List Given) (n : ℕ) (g : Given) → n < length types → slice_get gs n ≡ Some g → HasTypesOf (take n gs) types → HasTypesOf (take (suc n) gs) (set types n (Some g.typ))
+one_more_type types gs n g short here so_far i = by (cases_eq i n) where
+  by : (i ≡ n) ⊎ (i ≡ n → ⊥) → slice_index_or (set types n (Some g.typ)) i None ≡ option_map (λ x. x.typ) (slice_get (take (suc n) gs) i)
+  by (inl same) =
+      ap (λ k. slice_index_or (set types n (Some g.typ)) k None) same ∙ get_or-set_same types n (Some g.typ) None short
+      ∙ ap (option_map (λ (x : Given). x.typ)) (sym (take_here gs n ∙ here)) ∙ ap (λ k. option_map (λ (x : Given). x.typ) (slice_get (take (suc n) gs) k)) (sym same)
+  by (inr other) = get_or-set_other types n i (Some g.typ) None other ∙ so_far i ∙ ap (option_map (λ (x : Given). x.typ)) (sym (take_other gs n i other))

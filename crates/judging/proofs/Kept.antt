@@ -1,10 +1,8 @@
 -- What is open stands for the same over tables that keep the meaning of their numbers.
-use Rattle.std.proofs.Common.{◌≡◌, ℕ, ◌+◌, Bool, true, false, cond, List, [], ◌∷◌, ◌++◌, take, Option, Some, None, IfSome, refl, sym, ap, subst, ◌∙◌, arith}
-use Rattle.std.specs.List.{slice_index_or}
+use Rattle.std.proofs.Common.{◌≡◌, ℕ, zero, suc, List, [], ◌∷◌, ◌++◌, map, take, Option, Some, None, IfSome, refl, sym, ap, subst, ◌∙◌, arith}
+use Rattle.std.specs.Prelude.{slice_get}
+use Rattle.std.proofs.lemmas.List.{map-append}
 use Rattle.std.proofs.lemmas.List.Elements.{All-nil, All-cons, All-head, All-tail}
-use Rattle.grove_sorts.specs.declared.position.Position.{Position}
-use Rattle.grove_sorts.specs.declared.sort.Sort.{Sort}
-use Rattle.grove_sorts.specs.Ctor.{positions}
 use Rattle.type_core.specs.declared.type_id.TypeId.{TypeId}
 use Rattle.type_core.specs.Typ.{Typ}
 use Rattle.type_core.specs.TypeTable.{IsTypeOf, type_at, KeepsTypes}
@@ -13,17 +11,24 @@ use Rattle.ctx_table.specs.Context.{Context}
 use Rattle.ctx_table.specs.CtxTable.{IsContextOf, context_at, KeepsContexts}
 use Rattle.mark_step.specs.declared.node.Mode.{Mode}
 use Rattle.mark_step.specs.declared.node.Mode.TheVariants.{Syn, Ana}
-use Rattle.mark_step.specs.declared.node.NodeView.{NodeView}
 use Rattle.mark_step.specs.declared.node.Demand.{Demand}
 use Rattle.mark_step.specs.Scope.{Scope, scope_of, scope_at, IsTyped}
 use Rattle.mark_step.specs.Expression.{Wanted, Analyse, Demanded}
-use Rattle.mark_step.specs.Rows.{is_exp}
-use Rattle.mark_step.specs.Node.{wanted_at, demanded_at, IsModeOf, IsScopeOf, AreNumbers, IsNodeOf, IsDemandOf, type_or_unknown, types_from}
+use Rattle.mark_step.specs.Node.{wanted_at, demanded_at, IsModeOf, IsScopeOf, IsDemandOf}
+use Rattle.judging.specs.declared.frame.Given.{Given}
 use Rattle.judging.specs.declared.frame.OpenVertex.{OpenVertex}
 use Rattle.judging.specs.declared.frame.Frame.{Frame}
 use Rattle.judging.specs.declared.frame.Frame.TheVariants.{Open, Several}
-use Rattle.judging.specs.Frames.{opened_at, left_of, frame_of, frame_at, frames_at, IsOpenOf, IsFrameOf, AreFramesOf}
+use Rattle.judging.specs.Frames.{given_at, given_before, opened_at, left_of, frame_of, frame_at, frames_at, frames_in, IsGivenOf, IsFilledOf, IsOpenOf, IsFrameOf, AreFramesOf}
 use Rattle.judging.specs.Machine as machine
+
+-- what holds of each element holds of each before a place
+pub some_before : (P : Given → Type 0) (gs : List Given) (n : ℕ) → ((i : ℕ) → IfSome (slice_get gs i) P) → (i : ℕ) → IfSome (slice_get (take n gs) i) P
+some_before P [] zero all i = all i
+some_before P [] (suc n) all i = all i
+some_before P (g ∷ gs) zero all i = tt
+some_before P (g ∷ gs) (suc n) all zero = all 0
+some_before P (g ∷ gs) (suc n) all (suc i) = some_before P gs n (λ j. all (suc j)) i
 
 -- ---- tables
 
@@ -76,18 +81,28 @@ module _ (old new : List Typ) (keeps : KeepsTypes old new) where
   some_number_kept None h = tt
   some_number_kept (Some t) h = number_kept t h
 
-  type_or_unknown-kept : (o : Option TypeId) → IfSome o (IsTypeOf old) → type_or_unknown new o ≡ type_or_unknown old o
-  type_or_unknown-kept None h = refl
-  type_or_unknown-kept (Some t) h = keeps.types t h
+  pub given_kept : (g : Given) → IsGivenOf old g → given_at new g ≡ given_at old g
+  given_kept g h = ap (λ t. record { typ = t; name = g.name }) (keeps.types g.typ h)
 
-  pub types_from-kept : (done : List (Option TypeId)) (i : ℕ) (ps : List (Position × Sort)) → AreNumbers old done → types_from new done i ps ≡ types_from old done i ps
-  types_from-kept done i [] are = refl
-  types_from-kept done i (p ∷ ps) are = by_sort (is_exp p.1) (types_from-kept done (i + 1) ps are) where
-    by_sort : (b : Bool) → types_from new done (i + 1) ps ≡ types_from old done (i + 1) ps
-        → cond b (type_or_unknown new (slice_index_or done i None) ∷ types_from new done (i + 1) ps) (types_from new done (i + 1) ps)
-        ≡ cond b (type_or_unknown old (slice_index_or done i None) ∷ types_from old done (i + 1) ps) (types_from old done (i + 1) ps)
-    by_sort true same = ap (λ t. t ∷ types_from new done (i + 1) ps) (type_or_unknown-kept (slice_index_or done i None) (are i)) ∙ ap (λ ts. type_or_unknown old (slice_index_or done i None) ∷ ts) same
-    by_sort false same = same
+  some_given_kept : (o : Option Given) → IfSome o (IsGivenOf old) → IfSome o (IsGivenOf new)
+  some_given_kept None h = tt
+  some_given_kept (Some g) h = number_kept g.typ h
+
+  nothing_kept : (o : Option Given) → IfSome o (IsGivenOf old) → IfSome o (λ g. given_at old g ≡ machine.nothing) → IfSome o (λ g. given_at new g ≡ machine.nothing)
+  nothing_kept None number none = tt
+  nothing_kept (Some g) number none = given_kept g number ∙ none
+
+  pub filled_kept : (o : OpenVertex) → IsFilledOf old o → IsFilledOf new o
+  filled_kept o h = record {
+    numbers = λ i. some_given_kept (slice_get o.given i) (h.numbers i);
+    rest = λ i le. nothing_kept (slice_get o.given i) (h.numbers i) (h.rest i le);
+    within = h.within;
+    wide = h.wide;
+  }
+
+  givens_kept : (gs : List Given) → ((i : ℕ) → IfSome (slice_get gs i) (IsGivenOf old)) → map (given_at new) gs ≡ map (given_at old) gs
+  givens_kept [] all = refl
+  givens_kept (g ∷ gs) all = ap (λ x. x ∷ map (given_at new) gs) (given_kept g (all 0)) ∙ ap (λ xs. given_at old g ∷ xs) (givens_kept gs (λ i. all (suc i)))
 
 module _ (old new : List Typ) (oldc newc : List Context) (keeps : KeepsTypes old new) (keepsc : KeepsContexts oldc newc) where
   pub scope_kept : (id : CtxId) → IsScopeOf old oldc id → IsScopeOf new newc id
@@ -99,28 +114,6 @@ module _ (old new : List Typ) (oldc newc : List Context) (keeps : KeepsTypes old
   pub scope_at-kept : (id : CtxId) → IsScopeOf old oldc id → scope_at new newc id ≡ scope_at old oldc id
   scope_at-kept id h = ap (scope_of new) (keepsc.contexts id h.context) ∙ scope_of-kept old new keeps (context_at oldc id) h.typed
 
-  pub view_kept : (v : NodeView) → IsNodeOf old oldc v → IsNodeOf new newc v
-  view_kept v h = record {
-    ctx = scope_kept v.ctx h.ctx;
-    mode = mode_kept old new keeps v.mode h.mode;
-    binder = number_kept old new keeps v.binder.typ h.binder;
-    done = λ i. some_number_kept old new keeps (slice_index_or v.done i None) (h.done i);
-  }
-
-  pub open_kept : (o : OpenVertex) → IsOpenOf old oldc o → IsOpenOf new newc o
-  open_kept o h = record { view = view_kept o.view h.view; earlier = number_kept old new keeps o.earlier h.earlier; done = h.done; within = h.within; wide = h.wide }
-
-  same_opened : (o : OpenVertex) (s s2 : Scope) (w w2 : Wanted) (t t2 e e2 : Typ) (b b2 : List Typ) → s ≡ s2 → w ≡ w2 → t ≡ t2 → e ≡ e2 → b ≡ b2
-      → ◌≡◌ {A = machine.Opened}
-      (record { place = o.place; node = o.node.now; ctor = o.view.ctor; demanded = record { scope = s; wanted = w }; bound = record { name = o.view.binder.name; typ = t }; earlier = e; before = b })
-      (record { place = o.place; node = o.node.now; ctor = o.view.ctor; demanded = record { scope = s2; wanted = w2 }; bound = record { name = o.view.binder.name; typ = t2 }; earlier = e2; before = b2 })
-  same_opened o s s2 w w2 t t2 e e2 b b2 p q r u v = cc
-
-  pub opened_at-kept : (o : OpenVertex) → IsOpenOf old oldc o → opened_at new newc o ≡ opened_at old oldc o
-  opened_at-kept o h =
-      same_opened o _ _ _ _ _ _ _ _ _ _ (scope_at-kept o.view.ctx h.view.ctx) (wanted_kept old new keeps o.view.mode h.view.mode) (keeps.types o.view.binder.typ h.view.binder) (keeps.types o.earlier h.earlier)
-      (types_from-kept old new keeps o.view.done 0 (take o.next (positions o.view.ctor)) h.view.done)
-
   pub demand_kept : (d : Demand) → IsDemandOf old oldc d → IsDemandOf new newc d
   demand_kept d h = record { ctx = scope_kept d.ctx h.ctx; mode = mode_kept old new keeps d.mode h.mode }
 
@@ -129,28 +122,37 @@ module _ (old new : List Typ) (oldc newc : List Context) (keeps : KeepsTypes old
       ap (λ (s : Scope). record { scope = s; wanted = wanted_at new d.mode }) (scope_at-kept d.ctx h.ctx)
       ∙ ap (λ (w : Wanted). record { scope = scope_at old oldc d.ctx; wanted = w }) (wanted_kept old new keeps d.mode h.mode)
 
+  pub open_kept : (o : OpenVertex) → IsOpenOf old oldc o → IsOpenOf new newc o
+  open_kept o h = record { demand = demand_kept o.demand h.demand; filled = filled_kept old new keeps o h.filled }
+
+  pub opened_at-kept : (o : OpenVertex) → IsOpenOf old oldc o → opened_at new newc o ≡ opened_at old oldc o
+  opened_at-kept o h =
+      ap (λ (d : Demanded). record { ctor = o.ctor; demanded = d; given = map (given_at new) (given_before o) }) (demanded_at-kept o.demand h.demand)
+      ∙ ap (λ (gs : List machine.Given). record { ctor = o.ctor; demanded = demanded_at old oldc o.demand; given = gs })
+      (givens_kept old new keeps (given_before o) (some_before (IsGivenOf old) o.given o.next h.filled.numbers))
+
   pub frame_kept : (f : Frame) → IsFrameOf old oldc f → IsFrameOf new newc f
   frame_kept (Open o) h = (open_kept o h.0, h.1)
   frame_kept (Several d n) h = demand_kept d h
 
-  pub frame_at-kept : (f : Frame) → IsFrameOf old oldc f → frame_at new newc f ≡ frame_at old oldc f
-  frame_at-kept (Open o) h = ap (λ (v : machine.Opened). frame_of v (left_of o)) (opened_at-kept o h.0)
-  frame_at-kept (Several d n) h = ap (λ (x : Demanded). machine.Several x n) (demanded_at-kept d h)
+  pub frame_at-kept : (place : ℕ) (f : Frame) → IsFrameOf old oldc f → frame_at new newc place f ≡ frame_at old oldc place f
+  frame_at-kept place (Open o) h = ap (λ (v : machine.Opened). frame_of place v (left_of o)) (opened_at-kept o h.0)
+  frame_at-kept place (Several d n) h = ap (λ (x : Demanded). machine.Several x n) (demanded_at-kept d h)
 
   pub frames_kept : (fs : List Frame) → AreFramesOf old oldc fs → AreFramesOf new newc fs
   frames_kept [] all = tt
   frames_kept (f ∷ fs) all = (frame_kept f all.0, frames_kept fs all.1)
 
-  pub frames_at-kept : (fs : List Frame) → AreFramesOf old oldc fs → frames_at new newc fs ≡ frames_at old oldc fs
+  pub frames_at-kept : (fs : List (ℕ × Frame)) → AreFramesOf old oldc (frames_in fs) → frames_at new newc fs ≡ frames_at old oldc fs
   frames_at-kept [] all = refl
-  frames_at-kept (f ∷ fs) all = ap (λ xs. xs ++ frame_at new newc f ∷ []) (frames_at-kept fs all.1) ∙ ap (λ x. frames_at old oldc fs ++ x ∷ []) (frame_at-kept f all.0)
+  frames_at-kept (f ∷ fs) all = ap (λ xs. xs ++ frame_at new newc f.0 f.1 ∷ []) (frames_at-kept fs all.1) ∙ ap (λ x. frames_at old oldc fs ++ x ∷ []) (frame_at-kept f.0 f.1 all.0)
 
 -- ---- pushing and taking off
 
 module _ (types : List Typ) (ctxs : List Context) where
-  pub frames_at-push : (fs : List Frame) (f : Frame) → frames_at types ctxs (fs ++ f ∷ []) ≡ frame_at types ctxs f ∷ frames_at types ctxs fs
+  pub frames_at-push : (fs : List (ℕ × Frame)) (f : ℕ × Frame) → frames_at types ctxs (fs ++ f ∷ []) ≡ frame_at types ctxs f.0 f.1 ∷ frames_at types ctxs fs
   frames_at-push [] f = refl
-  frames_at-push (g ∷ fs) f = ap (λ xs. xs ++ frame_at types ctxs g ∷ []) (frames_at-push fs f)
+  frames_at-push (g ∷ fs) f = ap (λ xs. xs ++ frame_at types ctxs g.0 g.1 ∷ []) (frames_at-push fs f)
 
   pub are_frames-push : (fs : List Frame) (f : Frame) → AreFramesOf types ctxs fs → IsFrameOf types ctxs f → AreFramesOf types ctxs (fs ++ f ∷ [])
   are_frames-push [] f all is = (is, tt)
@@ -163,3 +165,6 @@ module _ (types : List Typ) (ctxs : List Context) where
   pub is_frame-pop : (fs : List Frame) (f : Frame) → AreFramesOf types ctxs (fs ++ f ∷ []) → IsFrameOf types ctxs f
   is_frame-pop [] f all = all.0
   is_frame-pop (g ∷ fs) f all = is_frame-pop fs f all.1
+
+pub frames_in-push : (fs : List (ℕ × Frame)) (f : ℕ × Frame) → frames_in (fs ++ f ∷ []) ≡ frames_in fs ++ f.1 ∷ []
+frames_in-push fs f = map-append (λ (x : ℕ × Frame). x.1) fs (f ∷ [])

@@ -1,31 +1,33 @@
 -- Taking the nodes of a tree one by one gives its marked nodes.
-use Rattle.std.proofs.Common.{◌≡◌, ℕ, zero, suc, ◌+◌, Bool, true, false, cond, List, [], ◌∷◌, ◌++◌, length, Some, None, refl, sym, ap, subst, ◌∙◌, append-nil, append_assoc, arith}
-use Rattle.std.specs.Prelude.{if◌then◌else◌, set, is_none}
-use Rattle.std.proofs.Math.Seq.{set-append_seam}
+use Rattle.std.proofs.Common.{◌≡◌, ℕ, zero, suc, ◌+◌, Bool, true, false, cond, List, [], ◌∷◌, ◌++◌, take, drop, length, Some, None, refl, sym, ap, subst, ◌∙◌, append-nil, append_assoc, arith}
+use Rattle.std.specs.Prelude.{if◌then◌else◌}
+use Rattle.std.specs.List.{AllByRecursion}
+use Rattle.std.proofs.lemmas.List.{take-append-drop}
+use Rattle.std.proofs.lemmas.Bool.{both_ways}
 use Rattle.grove_sorts.specs.declared.ctor.Ctor.{Ctor}
 use Rattle.grove_sorts.specs.declared.ctor.Ctor.TheVariants as ctor
 use Rattle.grove_sorts.specs.declared.position.Position.{Position}
 use Rattle.grove_sorts.specs.declared.sort.Sort.{Sort}
 use Rattle.grove_sorts.specs.declared.sort.Sort.TheVariants.{Top, Exp, Pat, Typ as TypeSort}
 use Rattle.grove_sorts.specs.Ctor.{positions, sort_of_ctor, sort_at}
+use Rattle.grove_sorts.specs.Position.{is_same_position}
+use Rattle.grove_sorts.proofs.Rows.{places_found}
 use Rattle.grove_edits.specs.declared.vertex.Vertex.{Vertex as VertexOf}
 use Rattle.grove_edits.specs.declared.edge.Edge.{Edge}
-use Rattle.grove_edits.specs.Edge.{IsWellFormed, is_sort, has_sort, has_position, has_good_vertices}
-use Rattle.grove_edits.specs.declared.edge.EdgeFault.TheVariants.{BadVertex, NoPosition, WrongSort}
-use Rattle.grove_sorts.specs.Position.{is_same_position}
-use Rattle.grove_sorts.proofs.Orders.{one_position}
 use Rattle.grove_terms.specs.declared.node.Node.{Node}
 use Rattle.grove_terms.specs.declared.node.What.TheVariants.{Vertex, Hole, Conflict, MultiRef, CycleRef}
-use Rattle.grove_terms.specs.Forest.{Forest, none, multi_ref, cycle_ref, tree, child_edges, IsChildOf, IsWellSorted}
+use Rattle.grove_terms.specs.Forest.{Forest, none, multi_ref, cycle_ref, tree, child_edges, IsWellSorted}
 use Rattle.grove_terms.specs.Nodes.{node_at, child_node, head_node, place_nodes, places_nodes, count_at, child_nodes, tree_nodes, nodes_under}
 use Rattle.type_core.specs.Typ.{Typ}
-use Rattle.mark_step.specs.Scope.{Scope}
-use Rattle.mark_step.specs.Expression.{Wanted, Synthesise, Analyse, Expression, Demanded}
-use Rattle.mark_step.specs.Step.{demand, settled}
+use Rattle.mark_step.specs.Scope.{Scope, bindings_inside}
+use Rattle.mark_step.specs.Expression.{Wanted, Synthesise, Analyse, Expression, Demanded, Marked}
+use Rattle.mark_step.specs.Step.{demand, wanted_next, settled, settled_as}
 use Rattle.mark_step.specs.Rows.{is_exp}
-use Rattle.marking.specs.Types.{if_sole, child_name, tree_type, child_type, pattern_name}
-use Rattle.marking.specs.Marking.{MarkedNode, expression, judged_in, judged_child, marked_plain, marked_vertex, marked_place, marked_places, marked_children, marked_tree, synthesised_in, children_types}
-use Rattle.judging.specs.Machine.{Given, nothing, of_type, of_name, Opened, Frame, Of, Several, State, at, given_of, head_of, unsettled, fresh, filled, demanded_by, demanded_next, deliver, opened, taken, step, run}
+use Rattle.marking.specs.Types.{if_sole, child_name, tree_type, child_type, pattern_name, bound_in}
+use Rattle.marking.specs.Marking.{MarkedNode, expression, types_at, judged_in, judged_child, marked_plain, marked_vertex, marked_place, marked_places, marked_children, marked_tree, synthesised_in, children_types}
+use Rattle.marking.proofs.Judged.{child_has_sort}
+use Rattle.marking.proofs.ByRows.{type_judges_none, pattern_judges_none, no_top_in}
+use Rattle.judging.specs.Machine.{Given, nothing, of_type, of_name, Opened, Frame, Of, Several, State, at, bound_by, made_of, types_given, before_of, expression_of, given_by_sort, given_of, Added, type_added, expression_added, added_by_sort, added_of, with_added, add_at, unsettled, fresh, filled, demanded_by, demanded_next, deliver, opened, taken, step, run}
 
 pub run-append : (s : State) (xs ys : List Node) → run s (xs ++ ys) ≡ run (run s xs) ys
 run-append s [] ys = refl
@@ -89,10 +91,10 @@ deliver-several : (g : Given) (n : ℕ) (d : Demanded) (frames : List Frame) (ou
 deliver-several g zero d frames out = refl
 deliver-several g (suc n) d frames out = refl
 
-pub deliver-of : (g : Given) (v : Opened) (p : Position × Sort) (ps : List (Position × Sort)) (frames : List Frame) (out : List MarkedNode)
-    → deliver g (Of v p ps ∷ frames) out ≡ opened (filled p.1 g v) ps frames out
-deliver-of g v p [] frames out = refl
-deliver-of g v p (q ∷ qs) frames out = refl
+pub deliver-of : (g : Given) (place : ℕ) (v : Opened) (p : Position × Sort) (ps : List (Position × Sort)) (frames : List Frame) (out : List MarkedNode)
+    → deliver g (Of place v p ps ∷ frames) out ≡ opened place (filled g v) ps frames out
+deliver-of g place v p [] frames out = refl
+deliver-of g place v p (q ∷ qs) frames out = refl
 
 -- ---- a position
 
@@ -139,89 +141,206 @@ place-runs (suc (suc n)) f p s count runs depth d e frames out same next =
 abbrev pub types_then : Sort → Forest → Position → Demanded → List Typ → List Typ
 types_then s f p d before = if is_exp s then (before ++ judged_in f p d ∷ []) else before
 
--- an open vertex knows what it has to know at each of these positions, and at the end gives this and has this marked node
-abbrev pub Knows : Ctor → Expression → Forest → Opened → List (Position × Sort) → List Typ → Given → MarkedNode → Type 0
-Knows c x f v [] before g m = (given_of v ≡ g) × (head_of v ≡ m)
-Knows c x f v (p ∷ ps) before g m =
-    (sort_at c p.0 ≡ Some p.1) × Agree p.1 (demanded_by v p.1) (demand x before)
-    × Knows c x f (filled p.1 (given_at p.1 (count_at f p.0) f p.0 (demand x before)) v) ps (types_then p.1 f p.0 (demand x before) before) g m
+-- what some positions give, one after the other
+abbrev pub places_give : Expression → Forest → List (Position × Sort) → List Typ → List Given
+places_give x f [] before = []
+places_give x f (p ∷ ps) before = given_at p.1 (count_at f p.0) f p.0 (demand x before) ∷ places_give x f ps (types_then p.1 f p.0 (demand x before) before)
+
+places_give-append : (x : Expression) (f : Forest) (ps qs : List (Position × Sort)) (before : List Typ)
+    → places_give x f (ps ++ qs) before ≡ places_give x f ps before ++ places_give x f qs (types_at x (judged_in f) ps before)
+places_give-append x f [] qs before = refl
+places_give-append x f (p ∷ ps) qs before =
+    ap (λ gs. given_at p.1 (count_at f p.0) f p.0 (demand x before) ∷ gs)
+    (places_give-append x f ps qs (types_then p.1 f p.0 (demand x before) before)
+    ∙ ap (λ now. places_give x f ps (types_then p.1 f p.0 (demand x before) before) ++ places_give x f qs now) (by_sort (is_exp p.1)))
+  where
+    by_sort : (b : Bool) → types_at x (judged_in f) ps (cond b (before ++ judged_in f p.0 (demand x before) ∷ []) before)
+        ≡ cond b (types_at x (judged_in f) ps (before ++ judged_in f p.0 (demand x before) ∷ [])) (types_at x (judged_in f) ps before)
+    by_sort true = refl
+    by_sort false = refl
+
+types_at-append : (x : Expression) (f : Forest) (ps qs : List (Position × Sort)) (before : List Typ)
+    → types_at x (judged_in f) (ps ++ qs) before ≡ types_at x (judged_in f) qs (types_at x (judged_in f) ps before)
+types_at-append x f [] qs before = refl
+types_at-append x f (p ∷ ps) qs before =
+    by_sort (is_exp p.1) (types_at-append x f ps qs (before ++ judged_in f p.0 (demand x before) ∷ [])) (types_at-append x f ps qs before) where
+      by_sort : (b : Bool)
+          → types_at x (judged_in f) (ps ++ qs) (before ++ judged_in f p.0 (demand x before) ∷ []) ≡ types_at x (judged_in f) qs (types_at x (judged_in f) ps (before ++ judged_in f p.0 (demand x before) ∷ []))
+          → types_at x (judged_in f) (ps ++ qs) before ≡ types_at x (judged_in f) qs (types_at x (judged_in f) ps before)
+          → cond b (types_at x (judged_in f) (ps ++ qs) (before ++ judged_in f p.0 (demand x before) ∷ [])) (types_at x (judged_in f) (ps ++ qs) before)
+          ≡ types_at x (judged_in f) qs (cond b (types_at x (judged_in f) ps (before ++ judged_in f p.0 (demand x before) ∷ [])) (types_at x (judged_in f) ps before))
+      by_sort true one other = one
+      by_sort false one other = other
+
+-- the type that an expression place gives is the one with which judging goes on
+given_types : (x : Expression) (f : Forest) (ps qs : List (Position × Sort)) (before : List Typ)
+    → before ++ types_given (ps ++ qs) (places_give x f ps before) ≡ types_at x (judged_in f) ps before
+given_types x f [] [] before = append-nil before
+given_types x f [] (q ∷ qs) before = append-nil before
+given_types x f ((q, Exp) ∷ ps) qs before =
+    sym (append_assoc before (judged_in f q (demand x before) ∷ []) (types_given (ps ++ qs) (places_give x f ps (before ++ judged_in f q (demand x before) ∷ []))))
+    ∙ given_types x f ps qs (before ++ judged_in f q (demand x before) ∷ [])
+given_types x f ((q, Top) ∷ ps) qs before = given_types x f ps qs before
+given_types x f ((q, Pat) ∷ ps) qs before = given_types x f ps qs before
+given_types x f ((q, TypeSort) ∷ ps) qs before = given_types x f ps qs before
 
 -- the children at each position of a constructor are run
 abbrev pub AllRun : Ctor → Forest → Type 0
 AllRun c f = (p : Position) (s : Sort) → sort_at c p ≡ Some s → Run f p s
 
-places-run : (c : Ctor) (x : Expression) (f : Forest) → AllRun c f → (ps : List (Position × Sort)) (v : Opened) (before : List Typ) (g : Given) (m : MarkedNode) (depth : ℕ) (frames : List Frame)
-    (out : List MarkedNode) → Knows c x f v ps before g m
-    → run (opened v ps frames out) (places_nodes ps (count_at f) (child_nodes f) depth)
-    ≡ deliver g frames (set (out ++ marked_places x (count_at f) (marked_children f) (judged_in f) depth ps before) v.place m)
-places-run c x f runs [] v before g m depth frames out knows =
-    ap (λ given. deliver given frames (set out v.place (head_of v))) knows.0
-    ∙ ap (λ head. deliver g frames (set out v.place head)) knows.1
-    ∙ ap (λ ms. deliver g frames (set ms v.place m)) (sym (append-nil out))
-places-run c x f runs (p ∷ ps) v before g m depth frames out knows =
-    let d : Demanded = demand x before in
-    let here : List MarkedNode = marked_place (count_at f p.0) (λ at y. marked_children f at p.0 y) depth p.0 p.1 d in
-    let given : Given = given_at p.1 (count_at f p.0) f p.0 d in
-    let later : List MarkedNode = marked_places x (count_at f) (marked_children f) (judged_in f) depth ps (types_then p.1 f p.0 d before) in
-    run-append (at (Of v p ps ∷ frames) out) (place_nodes (count_at f p.0) (λ at. child_nodes f at p.0) depth p.0 p.1) (places_nodes ps (count_at f) (child_nodes f) depth)
+-- the vertex of which this is demanded, once some positions gave what they give
+abbrev pub after : Ctor → Demanded → Expression → Forest → List (Position × Sort) → Opened
+after c d x f done = record { ctor = c; demanded = d; given = places_give x f done [] }
+
+-- at each of its positions the rule demands of the vertex what is demanded there
+abbrev pub Demands : Ctor → Demanded → Expression → Forest → Type 0
+Demands c d x f = (n : ℕ) (p : Position × Sort) (ps : List (Position × Sort)) → drop n (positions c) ≡ p ∷ ps
+    → Agree p.1 (demanded_by (after c d x f (take n (positions c))) p.1) (demand x (types_at x (judged_in f) (take n (positions c)) []))
+
+add-seam : (xs : List MarkedNode) (n : Node) (ys : List MarkedNode) (a : Added) → add_at a (xs ++ unsettled n ∷ ys) (length xs) ≡ xs ++ with_added a n ∷ ys
+add-seam [] n ys a = refl
+add-seam (x ∷ xs) n ys a = ap (λ ms. x ∷ ms) (add-seam xs n ys a)
+
+-- a row with one position more taken
+pub one_more : (row : List (Position × Sort)) (n : ℕ) (p : Position × Sort) (ps : List (Position × Sort)) → drop n row ≡ p ∷ ps → (take (suc n) row ≡ take n row ++ p ∷ []) × (drop (suc n) row ≡ ps)
+one_more [] zero p ps e = absurd cc
+one_more [] (suc n) p ps e = absurd cc
+one_more (q ∷ row) zero p ps e = (ap (λ (qs : List (Position × Sort)). take 1 qs) e, ap (λ (qs : List (Position × Sort)). drop 1 qs) e)
+one_more (q ∷ row) (suc n) p ps e = let more = one_more row n p ps e in (ap (λ qs. q ∷ qs) more.0, more.1)
+
+all_taken : (row : List (Position × Sort)) (n : ℕ) → drop n row ≡ [] → take n row ≡ row
+all_taken [] zero e = refl
+all_taken [] (suc n) e = refl
+all_taken (q ∷ row) zero e = absurd cc
+all_taken (q ∷ row) (suc n) e = ap (λ qs. q ∷ qs) (all_taken row n e)
+
+-- what holds of each entry of a row holds of each that comes next
+next_in : (P : Position × Sort → Type 0) (row : List (Position × Sort)) (n : ℕ) (p : Position × Sort) (ps : List (Position × Sort)) → AllByRecursion P row → drop n row ≡ p ∷ ps → P p
+next_in P [] zero p ps all e = absurd cc
+next_in P [] (suc n) p ps all e = absurd cc
+next_in P (q ∷ row) zero p ps all e = subst P (first_same q p row ps e) all.0 where
+  first_same : (q p : Position × Sort) (qs ps : List (Position × Sort)) → q ∷ qs ≡ p ∷ ps → q ≡ p
+  first_same q p qs ps e = cc
+next_in P (q ∷ row) (suc n) p ps all e = next_in P row n p ps all.1 e
+
+places-run : (c : Ctor) (d : Demanded) (x : Expression) (f : Forest) → AllRun c f → Demands c d x f → (n : ℕ) (ps : List (Position × Sort)) → drop n (positions c) ≡ ps
+    → (place depth : ℕ) (frames : List Frame) (out : List MarkedNode)
+    → run (opened place (after c d x f (take n (positions c))) ps frames out) (places_nodes ps (count_at f) (child_nodes f) depth)
+    ≡ deliver (given_of (after c d x f (positions c))) frames
+    (add_at (added_of (after c d x f (positions c))) (out ++ marked_places x (count_at f) (marked_children f) (judged_in f) depth ps (types_at x (judged_in f) (take n (positions c)) [])) place)
+places-run c d x f runs demands n [] row place depth frames out =
+    ap (λ qs. deliver (given_of (after c d x f qs)) frames (add_at (added_of (after c d x f qs)) out place)) (all_taken (positions c) n row)
+    ∙ ap (λ ms. deliver (given_of (after c d x f (positions c))) frames (add_at (added_of (after c d x f (positions c))) ms place)) (sym (append-nil out))
+places-run c d x f runs demands n (p ∷ ps) row place depth frames out =
+    let done : List (Position × Sort) = take n (positions c) in
+    let before : List Typ = types_at x (judged_in f) done [] in
+    let e : Demanded = demand x before in
+    let v : Opened = after c d x f done in
+    let whole : Opened = after c d x f (positions c) in
+    let here : List MarkedNode = marked_place (count_at f p.0) (λ at y. marked_children f at p.0 y) depth p.0 p.1 e in
+    let given : Given = given_at p.1 (count_at f p.0) f p.0 e in
+    let later : List MarkedNode = marked_places x (count_at f) (marked_children f) (judged_in f) depth ps (types_then p.1 f p.0 e before) in
+    let more = one_more (positions c) n p ps row in
+    run-append (at (Of place v p ps ∷ frames) out) (place_nodes (count_at f p.0) (λ at. child_nodes f at p.0) depth p.0 p.1) (places_nodes ps (count_at f) (child_nodes f) depth)
     ∙ ap (λ s. run s (places_nodes ps (count_at f) (child_nodes f) depth))
-    (place-runs (count_at f p.0) f p.0 p.1 refl (runs p.0 p.1 knows.0) depth (demanded_by v p.1) d (Of v p ps ∷ frames) out knows.1 refl ∙ deliver-of given v p ps frames (out ++ here))
-    ∙ places-run c x f runs ps (filled p.1 given v) (types_then p.1 f p.0 d before) g m depth frames (out ++ here) knows.2
-    ∙ ap (λ ms. deliver g frames (set ms v.place m)) (append_assoc out here later)
+    (place-runs (count_at f p.0) f p.0 p.1 refl (runs p.0 p.1 (next_in (λ q. sort_at c q.0 ≡ Some q.1) (positions c) n p ps (places_found c) row)) depth (demanded_by v p.1) e (Of place v p ps ∷ frames) out (demands n p ps row) refl
+    ∙ deliver-of given place v p ps frames (out ++ here)
+    ∙ ap (λ (gs : List Given). opened place (record { ctor = c; demanded = d; given = gs }) ps frames (out ++ here)) (sym (places_give-append x f done (p ∷ []) []))
+    ∙ ap (λ qs. opened place (after c d x f qs) ps frames (out ++ here)) (sym more.0))
+    ∙ places-run c d x f runs demands (suc n) ps more.1 place depth frames (out ++ here)
+    ∙ ap (λ ts. deliver (given_of whole) frames (add_at (added_of whole) ((out ++ here) ++ marked_places x (count_at f) (marked_children f) (judged_in f) depth ps ts) place))
+    (ap (λ qs. types_at x (judged_in f) qs []) more.0 ∙ types_at-append x f done (p ∷ []) [])
+    ∙ ap (λ ms. deliver (given_of whole) frames (add_at (added_of whole) ms place)) (append_assoc out here later)
 
 -- ---- what an open vertex knows
 
-knows-wanted : (c : Ctor) (place : ℕ) (n : Node) (scope : Scope) (w : Wanted) (f : Forest) → sort_of_ctor c ≡ Exp
-    → Knows c (expression c scope w f) f (fresh place n c (record { scope = scope; wanted = w })) (positions c) [] (given_tree Exp c (record { scope = scope; wanted = w }) f)
-    (marked_vertex Exp (expression c scope w f) f n)
-knows-wanted ctor.Root place n scope w f is = absurd cc
-knows-wanted (ctor.PVar x) place n scope w f is = absurd cc
-knows-wanted ctor.TNum place n scope w f is = absurd cc
-knows-wanted ctor.TBool place n scope w f is = absurd cc
-knows-wanted ctor.TArrow place n scope w f is = absurd cc
-knows-wanted ctor.TProd place n scope w f is = absurd cc
-knows-wanted (ctor.Var x) place n scope Synthesise f is = (refl, refl)
-knows-wanted (ctor.Var x) place n scope (Analyse t) f is = (refl, refl)
-knows-wanted ctor.Lam place n scope w f is = (refl, tt, (refl, tt, (refl, refl, (refl, refl))))
-knows-wanted ctor.Ap place n scope Synthesise f is = (refl, refl, (refl, refl, (refl, refl)))
-knows-wanted ctor.Ap place n scope (Analyse t) f is = (refl, refl, (refl, refl, (refl, refl)))
-knows-wanted (ctor.Num k) place n scope Synthesise f is = (refl, refl)
-knows-wanted (ctor.Num k) place n scope (Analyse t) f is = (refl, refl)
-knows-wanted ctor.Plus place n scope Synthesise f is = (refl, refl, (refl, refl, (refl, refl)))
-knows-wanted ctor.Plus place n scope (Analyse t) f is = (refl, refl, (refl, refl, (refl, refl)))
-knows-wanted ctor.LitTrue place n scope Synthesise f is = (refl, refl)
-knows-wanted ctor.LitTrue place n scope (Analyse t) f is = (refl, refl)
-knows-wanted ctor.LitFalse place n scope Synthesise f is = (refl, refl)
-knows-wanted ctor.LitFalse place n scope (Analyse t) f is = (refl, refl)
-knows-wanted ctor.Choose place n scope Synthesise f is = (refl, refl, (refl, refl, (refl, refl, (refl, refl))))
-knows-wanted ctor.Choose place n scope (Analyse t) f is = (refl, refl, (refl, refl, (refl, refl, (refl, refl))))
-knows-wanted ctor.Pair place n scope Synthesise f is = (refl, refl, (refl, refl, (refl, refl)))
-knows-wanted ctor.Pair place n scope (Analyse t) f is = (refl, refl, (refl, refl, (refl, refl)))
-knows-wanted ctor.Fst place n scope Synthesise f is = (refl, refl, (refl, refl))
-knows-wanted ctor.Fst place n scope (Analyse t) f is = (refl, refl, (refl, refl))
-knows-wanted ctor.Snd place n scope Synthesise f is = (refl, refl, (refl, refl))
-knows-wanted ctor.Snd place n scope (Analyse t) f is = (refl, refl, (refl, refl))
+-- what a function binds is known where its body is judged, and no other constructor binds
+inside_known : (c : Ctor) (x : Expression) (f : Forest) (scope : Scope) (n : ℕ) (p : Position × Sort) (ps : List (Position × Sort)) → drop n (positions c) ≡ p ∷ ps → p.1 ≡ Exp
+    → bindings_inside c (bound_by c (places_give x f (take n (positions c)) [])).name (bound_by c (places_give x f (take n (positions c)) [])).typ scope ≡ bindings_inside c (bound_in f).name (bound_in f).typ scope
+inside_known ctor.Lam x f scope zero p ps row exp = absurd cc
+inside_known ctor.Lam x f scope (suc zero) p ps row exp = absurd cc
+inside_known ctor.Lam x f scope (suc (suc zero)) p ps row exp = refl
+inside_known ctor.Lam x f scope (suc (suc (suc n))) p ps row exp = absurd (no_more n row) where
+  no_more : (n : ℕ) → drop (suc (suc (suc n))) (positions ctor.Lam) ≡ p ∷ ps → ⊥
+  no_more zero e = cc
+  no_more (suc n) e = cc
+inside_known _ x f scope n p ps row exp = refl
 
--- the vertex that begins so, where what is demanded matters for expressions alone
-knows : (c : Ctor) (place : ℕ) (n : Node) (d e : Demanded) (f : Forest) → Agree (sort_of_ctor c) d e
-    → Knows c (expression c e.scope e.wanted f) f (fresh place n c d) (positions c) [] (given_tree (sort_of_ctor c) c e f) (marked_vertex (sort_of_ctor c) (expression c e.scope e.wanted f) f n)
-knows (ctor.Var x) place n d e f same = subst (λ (y : Demanded). Knows (ctor.Var x) (expression (ctor.Var x) e.scope e.wanted f) f (fresh place n (ctor.Var x) y) (positions (ctor.Var x)) [] (given_tree Exp (ctor.Var x) e f) (marked_vertex Exp (expression (ctor.Var x) e.scope e.wanted f) f n)) (sym same) (knows-wanted (ctor.Var x) place n e.scope e.wanted f refl)
-knows ctor.Lam place n d e f same = subst (λ (x : Demanded). Knows ctor.Lam (expression ctor.Lam e.scope e.wanted f) f (fresh place n ctor.Lam x) (positions ctor.Lam) [] (given_tree Exp ctor.Lam e f) (marked_vertex Exp (expression ctor.Lam e.scope e.wanted f) f n)) (sym same) (knows-wanted ctor.Lam place n e.scope e.wanted f refl)
-knows ctor.Ap place n d e f same = subst (λ (x : Demanded). Knows ctor.Ap (expression ctor.Ap e.scope e.wanted f) f (fresh place n ctor.Ap x) (positions ctor.Ap) [] (given_tree Exp ctor.Ap e f) (marked_vertex Exp (expression ctor.Ap e.scope e.wanted f) f n)) (sym same) (knows-wanted ctor.Ap place n e.scope e.wanted f refl)
-knows (ctor.Num k) place n d e f same = subst (λ (x : Demanded). Knows (ctor.Num k) (expression (ctor.Num k) e.scope e.wanted f) f (fresh place n (ctor.Num k) x) (positions (ctor.Num k)) [] (given_tree Exp (ctor.Num k) e f) (marked_vertex Exp (expression (ctor.Num k) e.scope e.wanted f) f n)) (sym same) (knows-wanted (ctor.Num k) place n e.scope e.wanted f refl)
-knows ctor.Plus place n d e f same = subst (λ (x : Demanded). Knows ctor.Plus (expression ctor.Plus e.scope e.wanted f) f (fresh place n ctor.Plus x) (positions ctor.Plus) [] (given_tree Exp ctor.Plus e f) (marked_vertex Exp (expression ctor.Plus e.scope e.wanted f) f n)) (sym same) (knows-wanted ctor.Plus place n e.scope e.wanted f refl)
-knows ctor.LitTrue place n d e f same = subst (λ (x : Demanded). Knows ctor.LitTrue (expression ctor.LitTrue e.scope e.wanted f) f (fresh place n ctor.LitTrue x) (positions ctor.LitTrue) [] (given_tree Exp ctor.LitTrue e f) (marked_vertex Exp (expression ctor.LitTrue e.scope e.wanted f) f n)) (sym same) (knows-wanted ctor.LitTrue place n e.scope e.wanted f refl)
-knows ctor.LitFalse place n d e f same = subst (λ (x : Demanded). Knows ctor.LitFalse (expression ctor.LitFalse e.scope e.wanted f) f (fresh place n ctor.LitFalse x) (positions ctor.LitFalse) [] (given_tree Exp ctor.LitFalse e f) (marked_vertex Exp (expression ctor.LitFalse e.scope e.wanted f) f n)) (sym same) (knows-wanted ctor.LitFalse place n e.scope e.wanted f refl)
-knows ctor.Choose place n d e f same = subst (λ (x : Demanded). Knows ctor.Choose (expression ctor.Choose e.scope e.wanted f) f (fresh place n ctor.Choose x) (positions ctor.Choose) [] (given_tree Exp ctor.Choose e f) (marked_vertex Exp (expression ctor.Choose e.scope e.wanted f) f n)) (sym same) (knows-wanted ctor.Choose place n e.scope e.wanted f refl)
-knows ctor.Pair place n d e f same = subst (λ (x : Demanded). Knows ctor.Pair (expression ctor.Pair e.scope e.wanted f) f (fresh place n ctor.Pair x) (positions ctor.Pair) [] (given_tree Exp ctor.Pair e f) (marked_vertex Exp (expression ctor.Pair e.scope e.wanted f) f n)) (sym same) (knows-wanted ctor.Pair place n e.scope e.wanted f refl)
-knows ctor.Fst place n d e f same = subst (λ (x : Demanded). Knows ctor.Fst (expression ctor.Fst e.scope e.wanted f) f (fresh place n ctor.Fst x) (positions ctor.Fst) [] (given_tree Exp ctor.Fst e f) (marked_vertex Exp (expression ctor.Fst e.scope e.wanted f) f n)) (sym same) (knows-wanted ctor.Fst place n e.scope e.wanted f refl)
-knows ctor.Snd place n d e f same = subst (λ (x : Demanded). Knows ctor.Snd (expression ctor.Snd e.scope e.wanted f) f (fresh place n ctor.Snd x) (positions ctor.Snd) [] (given_tree Exp ctor.Snd e f) (marked_vertex Exp (expression ctor.Snd e.scope e.wanted f) f n)) (sym same) (knows-wanted ctor.Snd place n e.scope e.wanted f refl)
-knows (ctor.PVar x) place n d e f same = (refl, refl)
-knows ctor.TNum place n d e f same = (refl, refl)
-knows ctor.TBool place n d e f same = (refl, refl)
-knows ctor.TArrow place n d e f same = (refl, tt, (refl, tt, (refl, refl)))
-knows ctor.TProd place n d e f same = (refl, tt, (refl, tt, (refl, refl)))
-knows ctor.Root place n d e f same = (refl, ap (λ (x : Demanded). demand (expression ctor.Root x.scope x.wanted f) []) same, (refl, refl))
+-- at the end each vertex knows what it binds, as far as it counts
+settled_known : (c : Ctor) (x : Expression) (f : Forest) (scope : Scope) (w : Wanted) (ts : List Typ) → settled_as w c scope (bound_by c (places_give x f (positions c) [])) ts ≡ settled_as w c scope (bound_in f) ts
+settled_known ctor.Lam x f scope w ts = refl
+settled_known _ x f scope Synthesise ts = refl
+settled_known _ x f scope (Analyse t) ts = refl
+
+-- and the type that it is
+made_known : (c : Ctor) (x : Expression) (f : Forest) → made_of c (places_give x f (positions c) []) ≡ tree_type c f
+made_known ctor.TArrow x f = refl
+made_known ctor.TProd x f = refl
+made_known _ x f = refl
+
+-- the types of the expressions so far
+before_known : (c : Ctor) (d : Demanded) (x : Expression) (f : Forest) (n : ℕ) → before_of (after c d x f (take n (positions c))) ≡ types_at x (judged_in f) (take n (positions c)) []
+before_known c d x f n =
+    ap (λ qs. types_given qs (places_give x f (take n (positions c)) [])) (sym (take-append-drop n (positions c))) ∙ given_types x f (take n (positions c)) (drop n (positions c)) []
+
+all_known : (c : Ctor) (d : Demanded) (x : Expression) (f : Forest) → before_of (after c d x f (positions c)) ≡ types_at x (judged_in f) (positions c) []
+all_known c d x f = ap (λ qs. types_given qs (places_give x f (positions c) [])) (sym (append-nil (positions c))) ∙ given_types x f (positions c) [] []
+
+-- an expression, or the root, demands of its child what is demanded there
+demands_known : (c : Ctor) (e : Demanded) (f : Forest) (n : ℕ) (p : Position × Sort) (ps : List (Position × Sort)) → drop n (positions c) ≡ p ∷ ps → p.1 ≡ Exp
+    → demand (expression_of (after c e (expression c e.scope e.wanted f) f (take n (positions c)))) (before_of (after c e (expression c e.scope e.wanted f) f (take n (positions c))))
+    ≡ demand (expression c e.scope e.wanted f) (types_at (expression c e.scope e.wanted f) (judged_in f) (take n (positions c)) [])
+demands_known c e f n p ps row exp =
+    let x : Expression = expression c e.scope e.wanted f in
+    ap (demand (expression_of (after c e x f (take n (positions c))))) (before_known c e x f n)
+    ∙ ap (λ (scope : Scope). record { scope = scope; wanted = wanted_next c e.wanted (types_at x (judged_in f) (take n (positions c)) []) }) (inside_known c x f e.scope n p ps row exp)
+
+-- a vertex has a child that is an expression only where it is an expression or the root, so that what is demanded of it counts
+counts : (c : Ctor) (d e : Demanded) (n : ℕ) (p : Position × Sort) (ps : List (Position × Sort)) → Agree (sort_of_ctor c) d e → drop n (positions c) ≡ p ∷ ps → p.1 ≡ Exp → d ≡ e
+counts c d e n p ps same row exp = by_sort (sort_of_ctor c) refl same where
+  no_expression : AllByRecursion (λ q. is_exp q.1 ≡ false) (positions c) → d ≡ e
+  no_expression all = absurd (both_ways _ (next_in (λ q. is_exp q.1 ≡ false) (positions c) n p ps all row) (ap is_exp exp))
+
+  by_sort : (s : Sort) → sort_of_ctor c ≡ s → Agree s d e → d ≡ e
+  by_sort Exp is same = same
+  by_sort Top is same = same
+  by_sort Pat is same = no_expression (pattern_judges_none c is)
+  by_sort TypeSort is same = no_expression (type_judges_none c is)
+
+all_demand : (c : Ctor) (d e : Demanded) (f : Forest) → Agree (sort_of_ctor c) d e → Demands c d (expression c e.scope e.wanted f) f
+all_demand c d e f same n p ps row = by_sort p.1 refl where
+  x : Expression
+  x = expression c e.scope e.wanted f
+
+  by_sort : (s : Sort) → p.1 ≡ s → Agree s (demanded_by (after c d x f (take n (positions c))) s) (demand x (types_at x (judged_in f) (take n (positions c)) []))
+  by_sort Exp is =
+      ap (λ (y : Demanded). demand (expression_of (after c y x f (take n (positions c)))) (before_of (after c y x f (take n (positions c))))) (counts c d e n p ps same row is)
+      ∙ demands_known c e f n p ps row is
+  by_sort Top is = absurd (next_in (λ q. q.1 ≡ Top → ⊥) (positions c) n p ps (no_top_in c) row is)
+  by_sort Pat is = tt
+  by_sort TypeSort is = tt
+
+settled_whole : (c : Ctor) (e : Demanded) (f : Forest) → settled (expression_of (after c e (expression c e.scope e.wanted f) f (positions c))) (before_of (after c e (expression c e.scope e.wanted f) f (positions c)))
+    ≡ settled (expression c e.scope e.wanted f) (children_types (expression c e.scope e.wanted f) f)
+settled_whole c e f =
+    let x : Expression = expression c e.scope e.wanted f in
+    ap (settled (expression_of (after c e x f (positions c)))) (all_known c e x f) ∙ settled_known c x f e.scope e.wanted (types_at x (judged_in f) (positions c) [])
+
+-- so each vertex gives what its tree gives, and its node is marked as that of the tree
+gives_whole : (c : Ctor) (s : Sort) (d e : Demanded) (f : Forest) → Agree s d e → given_by_sort s (after c d (expression c e.scope e.wanted f) f (positions c)) ≡ given_tree s c e f
+gives_whole c Exp d e f same =
+    ap (λ (y : Demanded). given_by_sort Exp (after c y (expression c e.scope e.wanted f) f (positions c))) same ∙ ap (λ (m : Marked). of_type m.typ) (settled_whole c e f)
+gives_whole c TypeSort d e f same = ap of_type (made_known c (expression c e.scope e.wanted f) f)
+gives_whole c Pat d e f same = refl
+gives_whole c Top d e f same = refl
+
+adds_whole : (c : Ctor) (s : Sort) (d e : Demanded) (f : Forest) (n : Node) → Agree s d e
+    → with_added (added_by_sort s (after c d (expression c e.scope e.wanted f) f (positions c))) n ≡ marked_vertex s (expression c e.scope e.wanted f) f n
+adds_whole c Exp d e f n same =
+    ap (λ (y : Demanded). with_added (added_by_sort Exp (after c y (expression c e.scope e.wanted f) f (positions c))) n) same ∙ ap (λ (m : Marked). with_added (expression_added e.wanted m) n) (settled_whole c e f)
+adds_whole c TypeSort d e f n same = ap (λ t. with_added (type_added t) n) (made_known c (expression c e.scope e.wanted f) f)
+adds_whole c Pat d e f n same = refl
+adds_whole c Top d e f n same = refl
 
 -- ---- a tree
 
@@ -231,15 +350,17 @@ tree-runs : (u : VertexOf) (n : Node) (f : Forest) → n.what ≡ Vertex u → A
     ≡ deliver (given_tree (sort_of_ctor u.ctor) u.ctor e f) frames
     (out ++ (marked_vertex (sort_of_ctor u.ctor) (expression u.ctor e.scope e.wanted f) f n ∷ marked_places (expression u.ctor e.scope e.wanted f) (count_at f) (marked_children f) (judged_in f) depth (positions u.ctor) []))
 tree-runs u n f what runs depth d e frames out same next =
-    let x : Expression = expression u.ctor e.scope e.wanted f in
-    let m : MarkedNode = marked_vertex (sort_of_ctor u.ctor) x f n in
-    let g : Given = given_tree (sort_of_ctor u.ctor) u.ctor e f in
-    let later : List MarkedNode = marked_places x (count_at f) (marked_children f) (judged_in f) depth (positions u.ctor) [] in
+    let c : Ctor = u.ctor in
+    let x : Expression = expression c e.scope e.wanted f in
+    let whole : Opened = after c d x f (positions c) in
+    let later : List MarkedNode = marked_places x (count_at f) (marked_children f) (judged_in f) depth (positions c) [] in
     ap (λ w. run (taken w n (demanded_next frames) frames out) (nodes_under u f depth)) what
-    ∙ ap (λ (y : Demanded). run (opened (fresh (length out) n u.ctor y) (positions u.ctor) frames (out ++ unsettled n ∷ [])) (nodes_under u f depth)) next
-    ∙ places-run u.ctor x f runs (positions u.ctor) (fresh (length out) n u.ctor d) [] g m depth frames (out ++ unsettled n ∷ []) (knows u.ctor (length out) n d e f same)
-    ∙ ap (λ ms. deliver g frames (set ms (length out) m)) (append_assoc out (unsettled n ∷ []) later)
-    ∙ ap (λ ms. deliver g frames ms) (set-append_seam out (unsettled n) later m)
+    ∙ ap (λ (y : Demanded). run (opened (length out) (fresh c y) (positions c) frames (out ++ unsettled n ∷ [])) (nodes_under u f depth)) next
+    ∙ places-run c d x f runs (all_demand c d e f same) 0 (positions c) refl (length out) depth frames (out ++ unsettled n ∷ [])
+    ∙ ap (λ ms. deliver (given_of whole) frames (add_at (added_of whole) ms (length out))) (append_assoc out (unsettled n ∷ []) later)
+    ∙ ap (λ ms. deliver (given_of whole) frames ms) (add-seam out n later (added_of whole))
+    ∙ ap (λ g. deliver g frames (out ++ with_added (added_of whole) n ∷ later)) (gives_whole c (sort_of_ctor c) d e f same)
+    ∙ ap (λ m. deliver (given_tree (sort_of_ctor c) c e f) frames (out ++ m ∷ later)) (adds_whole c (sort_of_ctor c) d e f n same)
 
 -- ---- the children at a position, child by child
 
@@ -428,40 +549,6 @@ reference-runs s nodes steps depth d e frames out same next =
 tree-child : (p : Position) (e : Edge) (below : Forest) → AllRun e.target.ctor below → ChildRuns (sort_of_ctor e.target.ctor) (tree_list p e below) (tree_marks p e below) (λ s d. given_tree s e.target.ctor d below)
 tree-child p e below runs depth d x frames out same next = tree-runs e.target (child_node depth p e (Vertex e.target)) below refl runs (depth + 1) d x frames out same next
 
--- ---- the sort of a child
-
-sorted-from : (e : Edge) → IsWellFormed e → has_sort e ≡ true
-sorted-from e well = by_tests (has_good_vertices e) (has_position e) (has_sort e) well where
-  by_tests : (good placed sorted : Bool) → is_none (cond good (cond placed (cond sorted None (Some WrongSort)) (Some NoPosition)) (Some BadVertex)) ≡ true → sorted ≡ true
-  by_tests true true true h = refl
-  by_tests true true false h = absurd cc
-  by_tests true false sorted h = absurd cc
-  by_tests false placed sorted h = absurd cc
-
-one_sort : (s t : Sort) → is_sort (Some s) t ≡ true → t ≡ s
-one_sort Top Top h = refl
-one_sort Exp Exp h = refl
-one_sort Pat Pat h = refl
-one_sort TypeSort TypeSort h = refl
-one_sort Top Exp h = absurd cc
-one_sort Top Pat h = absurd cc
-one_sort Top TypeSort h = absurd cc
-one_sort Exp Top h = absurd cc
-one_sort Exp Pat h = absurd cc
-one_sort Exp TypeSort h = absurd cc
-one_sort Pat Top h = absurd cc
-one_sort Pat Exp h = absurd cc
-one_sort Pat TypeSort h = absurd cc
-one_sort TypeSort Top h = absurd cc
-one_sort TypeSort Exp h = absurd cc
-one_sort TypeSort Pat h = absurd cc
-
-child_sort : (v : VertexOf) (e : Edge) (others : List Edge) (p : Position) (s : Sort) → IsChildOf v e others → is_same_position e.position p ≡ true → sort_at v.ctor p ≡ Some s → sort_of_ctor e.target.ctor ≡ s
-child_sort v e others p s child here known =
-    one_sort s (sort_of_ctor e.target.ctor)
-    (ap (λ t. is_sort t (sort_of_ctor e.target.ctor)) (sym (ap (λ (u : VertexOf). sort_at u.ctor e.position) child.source ∙ ap (sort_at v.ctor) (one_position e.position p here) ∙ known))
-    ∙ sorted-from e child.well_formed)
-
 -- ---- all of them
 
 run-either : (f rest : Forest) (p : Position) (s : Sort) (b : Bool) → (b ≡ false → Skips f rest p) → (b ≡ true → Run f p s) → Run rest p s → Run f p s
@@ -482,7 +569,7 @@ children-run v (multi_ref e rest) sorted p s known =
     (λ here. run-begins (multi_ref e rest) rest p s (λ depth. child_node depth p e (MultiRef e.target) ∷ []) (λ depth d. marked_plain (sort_of_ctor e.target.ctor) d.wanted (child_node depth p e (MultiRef e.target)) ∷ []) (λ t d. nothing)
     (begins-multi e rest p here)
     (subst (λ (t : Sort). ChildRuns t (λ depth. child_node depth p e (MultiRef e.target) ∷ []) (λ depth d. marked_plain (sort_of_ctor e.target.ctor) d.wanted (child_node depth p e (MultiRef e.target)) ∷ []) (λ t d. nothing))
-    (child_sort v e (child_edges rest) p s sorted.0 here known)
+    (child_has_sort v e (child_edges rest) p s sorted.0 here known)
     (reference-runs (sort_of_ctor e.target.ctor) (λ depth. child_node depth p e (MultiRef e.target))
     (λ depth d frames out next. ap (λ (x : Demanded). deliver nothing frames (out ++ marked_plain (sort_of_ctor e.target.ctor) x.wanted (child_node depth p e (MultiRef e.target)) ∷ [])) next)))
     (children-run v rest sorted.1 p s known))
@@ -492,7 +579,7 @@ children-run v (cycle_ref e rest) sorted p s known =
     (λ here. run-begins (cycle_ref e rest) rest p s (λ depth. child_node depth p e (CycleRef e.target) ∷ []) (λ depth d. marked_plain (sort_of_ctor e.target.ctor) d.wanted (child_node depth p e (CycleRef e.target)) ∷ []) (λ t d. nothing)
     (begins-cycle e rest p here)
     (subst (λ (t : Sort). ChildRuns t (λ depth. child_node depth p e (CycleRef e.target) ∷ []) (λ depth d. marked_plain (sort_of_ctor e.target.ctor) d.wanted (child_node depth p e (CycleRef e.target)) ∷ []) (λ t d. nothing))
-    (child_sort v e (child_edges rest) p s sorted.0 here known)
+    (child_has_sort v e (child_edges rest) p s sorted.0 here known)
     (reference-runs (sort_of_ctor e.target.ctor) (λ depth. child_node depth p e (CycleRef e.target))
     (λ depth d frames out next. ap (λ (x : Demanded). deliver nothing frames (out ++ marked_plain (sort_of_ctor e.target.ctor) x.wanted (child_node depth p e (CycleRef e.target)) ∷ [])) next)))
     (children-run v rest sorted.1 p s known))
@@ -502,7 +589,7 @@ children-run v (tree e below rest) sorted p s known =
     (λ here. run-begins (tree e below rest) rest p s (tree_list p e below) (tree_marks p e below) (λ t d. given_tree t e.target.ctor d below)
     (begins-tree e below rest p here)
     (subst (λ (t : Sort). ChildRuns t (tree_list p e below) (tree_marks p e below) (λ t d. given_tree t e.target.ctor d below))
-    (child_sort v e (child_edges rest) p s sorted.0 here known)
+    (child_has_sort v e (child_edges rest) p s sorted.0 here known)
     (tree-child p e below (λ q t at. children-run e.target below sorted.1 q t at)))
     (children-run v rest sorted.2 p s known))
     (children-run v rest sorted.2 p s known)

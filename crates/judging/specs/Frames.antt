@@ -1,17 +1,16 @@
 -- What is open while the nodes of a tree are judged, by numbers, and what it stands for over the tables.
-use Rattle.std.specs.Prelude.{◌≡◌, ◌<◌, ◌≤◌, ◌+◌, List, [], ◌∷◌, ◌++◌, drop, length, set, Option, Some, IfSome}
+use Rattle.std.specs.Prelude.{◌≡◌, ℕ, ◌<◌, ◌≤◌, ◌+◌, List, [], ◌∷◌, ◌++◌, map, take, drop, length, set, Option, None, Some, IfSome, slice_get}
 use Rattle.std.specs.Option.{option_map}
+use Rattle.std.specs.List.{slice_index_or}
 use Rattle.grove_sorts.specs.declared.position.Position.{Position}
 use Rattle.grove_sorts.specs.declared.sort.Sort.{Sort}
-use Rattle.grove_sorts.specs.declared.sort.Sort.TheVariants.{Exp, Pat, Typ as TypeSort}
 use Rattle.grove_sorts.specs.Ctor.{positions}
-use Rattle.grove_terms.specs.declared.node.Node.{Node}
 use Rattle.type_core.specs.Typ.{Typ}
 use Rattle.type_core.specs.TypeTable.{IsTypeOf, type_at}
 use Rattle.ctx_table.specs.Context.{Context}
-use Rattle.mark_step.specs.Scope.{scope_at}
-use Rattle.mark_step.specs.Node.{wanted_at, bound_at, demanded_at, IsModeOf, IsNodeOf, IsDemandOf, AreDoneBefore, types_before}
-use Rattle.marking.specs.Marking.{MarkedNode}
+use Rattle.mark_step.specs.Expression.{Demanded, Synthesise}
+use Rattle.mark_step.specs.declared.node.NodeView.{NodeView}
+use Rattle.mark_step.specs.Node.{wanted_at, bound_at, demanded_at, IsModeOf, IsDemandOf}
 use Rattle.judging.specs.declared.frame.Given.{Given}
 use Rattle.judging.specs.declared.frame.OpenVertex.{OpenVertex}
 use Rattle.judging.specs.declared.frame.Frame.{Frame}
@@ -24,52 +23,62 @@ use Rattle.judging.specs.Machine as machine
 abbrev pub given_at : List Typ → Given → machine.Given
 given_at types g = record { typ = type_at types g.typ; name = g.name }
 
+-- what the positions so far gave
+abbrev pub given_before : OpenVertex → List Given
+given_before o = take o.next o.given
+
 abbrev pub opened_at : List Typ → List Context → OpenVertex → machine.Opened
-opened_at types ctxs o = record {
-  place = o.place;
-  node = o.node.now;
-  ctor = o.view.ctor;
-  demanded = record { scope = scope_at types ctxs o.view.ctx; wanted = wanted_at types o.view.mode };
-  bound = bound_at types o.view.binder;
-  earlier = type_at types o.earlier;
-  before = types_before types o.view o.next;
-}
+opened_at types ctxs o = record { ctor = o.ctor; demanded = demanded_at types ctxs o.demand; given = map (given_at types) (given_before o) }
 
 -- the positions of the vertex that are left
 abbrev pub left_of : OpenVertex → List (Position × Sort)
-left_of o = drop o.next (positions o.view.ctor)
+left_of o = drop o.next (positions o.ctor)
 
-abbrev pub frame_of : machine.Opened → List (Position × Sort) → machine.Frame
-frame_of v [] = machine.Several v.demanded 0
-frame_of v (p ∷ ps) = machine.Of v p ps
+abbrev pub frame_of : ℕ → machine.Opened → List (Position × Sort) → machine.Frame
+frame_of place v [] = machine.Several v.demanded 0
+frame_of place v (p ∷ ps) = machine.Of place v p ps
 
-abbrev pub frame_at : List Typ → List Context → Frame → machine.Frame
-frame_at types ctxs (Open o) = frame_of (opened_at types ctxs o) (left_of o)
-frame_at types ctxs (Several d n) = machine.Several (demanded_at types ctxs d) n
+-- what is open, where its node stands at a place
+abbrev pub frame_at : List Typ → List Context → ℕ → Frame → machine.Frame
+frame_at types ctxs place (Open o) = frame_of place (opened_at types ctxs o) (left_of o)
+frame_at types ctxs place (Several d n) = machine.Several (demanded_at types ctxs d) n
 
--- the last frame is the innermost
-abbrev pub frames_at : List Typ → List Context → List Frame → List machine.Frame
+-- all that is open, each with the place of its node; the last is the innermost
+abbrev pub frames_at : List Typ → List Context → List (ℕ × Frame) → List machine.Frame
 frames_at types ctxs [] = []
-frames_at types ctxs (f ∷ fs) = frames_at types ctxs fs ++ frame_at types ctxs f ∷ []
+frames_at types ctxs (f ∷ fs) = frames_at types ctxs fs ++ frame_at types ctxs f.0 f.1 ∷ []
 
--- the marked node of a vertex with this node
-abbrev pub closed_at : List Typ → Node → Closed → MarkedNode
-closed_at types n c = record { node = n; wanted = option_map (wanted_at types) c.mode; typ = option_map (type_at types) c.typ; mark = c.mark }
+-- the same without the places
+abbrev pub frames_in : List (ℕ × Frame) → List Frame
+frames_in fs = map (λ f. f.1) fs
+
+-- what is demanded of the next node where this is the innermost frame, if there is one
+abbrev pub demanded_of : List Typ → List Context → Option Frame → Demanded
+demanded_of types ctxs None = record { scope = []; wanted = Synthesise }
+demanded_of types ctxs (Some f) = machine.demanded_in (frame_at types ctxs 0 f)
+
+-- what marking adds to the node of a vertex that is closed
+abbrev pub added_at : List Typ → Closed → machine.Added
+added_at types c = record { wanted = option_map (wanted_at types) c.mode; typ = option_map (type_at types) c.typ; mark = c.mark }
 
 -- ---- their numbers are of the tables
 
 abbrev pub IsGivenOf : List Typ → Given → Type 0
 IsGivenOf types g = IsTypeOf types g.typ
 
+-- the types that the positions gave are of the table, and from the next position on nothing is given
+pub record IsFilledOf (types : List Typ) (o : OpenVertex) : Type 0 where
+  pub numbers : (i : ℕ) → IfSome (slice_get o.given i) (IsGivenOf types)
+  pub rest : (i : ℕ) → o.next ≤ i → IfSome (slice_get o.given i) (λ g. given_at types g ≡ machine.nothing)
+  pub within : o.next ≤ length (positions o.ctor)
+  pub wide : length o.given ≡ 3
+
 pub record IsOpenOf (types : List Typ) (ctxs : List Context) (o : OpenVertex) : Type 0 where
-  pub view : IsNodeOf types ctxs o.view
-  pub earlier : IsTypeOf types o.earlier
-  pub done : AreDoneBefore o.view o.next
-  pub within : o.next ≤ length (positions o.view.ctor)
-  pub wide : length o.view.done ≡ 3
+  pub demand : IsDemandOf types ctxs o.demand
+  pub filled : IsFilledOf types o
 
 abbrev pub IsFrameOf : List Typ → List Context → Frame → Type 0
-IsFrameOf types ctxs (Open o) = IsOpenOf types ctxs o × (o.next < length (positions o.view.ctor))
+IsFrameOf types ctxs (Open o) = IsOpenOf types ctxs o × (o.next < length (positions o.ctor))
 IsFrameOf types ctxs (Several d n) = IsDemandOf types ctxs d
 
 abbrev pub AreFramesOf : List Typ → List Context → List Frame → Type 0
@@ -81,29 +90,18 @@ pub record IsClosedOf (types : List Typ) (c : Closed) : Type 0 where
   pub typ : IfSome c.typ (IsTypeOf types)
   pub given : IsGivenOf types c.given
 
+-- ---- a vertex as its rule sees it
+
+pub record IsViewOf (types : List Typ) (o : OpenVertex) (v : NodeView) : Type 0 where
+  pub ctor : v.ctor ≡ o.ctor
+  pub ctx : v.ctx ≡ o.demand.ctx
+  pub mode : v.mode ≡ o.demand.mode
+  pub bound : bound_at types v.binder ≡ machine.bound_by o.ctor (map (given_at types) (given_before o))
+  pub number : IsTypeOf types v.binder.typ
+  pub done : (i : ℕ) → slice_index_or v.done i None ≡ option_map (λ g. g.typ) (slice_get (given_before o) i)
+
 -- ---- a position is filled
 
--- the vertex with what was given at its next position, which is for this sort
-abbrev pub filled_with : Option Sort → Given → OpenVertex → OpenVertex
-filled_with (Some Exp) g o = record {
-  place = o.place;
-  node = o.node;
-  view = record { ctor = o.view.ctor; ctx = o.view.ctx; mode = o.view.mode; binder = o.view.binder; done = set o.view.done o.next (Some g.typ) };
-  earlier = o.earlier;
-  next = o.next + 1;
-}
-filled_with (Some TypeSort) g o = record {
-  place = o.place;
-  node = o.node;
-  view = record { ctor = o.view.ctor; ctx = o.view.ctx; mode = o.view.mode; binder = record { name = o.view.binder.name; typ = g.typ }; done = o.view.done };
-  earlier = o.view.binder.typ;
-  next = o.next + 1;
-}
-filled_with (Some Pat) g o = record {
-  place = o.place;
-  node = o.node;
-  view = record { ctor = o.view.ctor; ctx = o.view.ctx; mode = o.view.mode; binder = record { name = g.name; typ = o.view.binder.typ }; done = o.view.done };
-  earlier = o.earlier;
-  next = o.next + 1;
-}
-filled_with _ g o = record { place = o.place; node = o.node; view = o.view; earlier = o.earlier; next = o.next + 1 }
+-- the vertex with what its next position gave
+abbrev pub filled_with : Given → OpenVertex → OpenVertex
+filled_with g o = record { ctor = o.ctor; demand = o.demand; given = set o.given o.next g; next = o.next + 1 }

@@ -1,15 +1,16 @@
-ghost use Rattle.std.specs.Prelude.{◌≡◌, length, None, IfOk};
+ghost use Rattle.std.specs.Prelude.{◌≡◌, map, length, None, IfOk};
 ghost use Rattle.grove_sorts.specs.declared.sort.Sort.{Sort};
 ghost use Rattle.grove_sorts.specs.Ctor.{positions, sort_of_ctor};
 ghost use Rattle.mark_step.specs.declared.node.Mark.{Mark};
 ghost use Rattle.type_core.specs.TypeTable.{IsTypeOf, type_at, KeepsTypes};
 ghost use Rattle.marking.specs.Types.{pattern_name};
-ghost use Rattle.judging.specs.Machine.{made, given_of, given_by_sort, head_of, head_by_sort, typed_node, of_type};
-ghost use Rattle.judging.specs.Frames.{given_at, opened_at, closed_at, IsOpenOf, IsClosedOf};
+ghost use Rattle.judging.specs.Machine.{made, made_of, of_type, type_added, given_of, given_by_sort, added_of, added_by_sort};
+ghost use Rattle.judging.specs.Frames.{given_at, given_before, opened_at, added_at, IsFilledOf, IsOpenOf, IsClosedOf};
 
 use crate::frame::{Closed, Given, OpenVertex};
 use crate::no_memory::NoMemory;
 use crate::opening::nothing;
+use crate::view::view;
 use ctx_table::CtxTable;
 use grove_sorts::{Ctor, Ident, Sort, sort_of};
 use mark_step::{Mark, settle};
@@ -68,17 +69,18 @@ fn close_expression(
     ctxs: &CtxTable,
     vertex: &OpenVertex,
 ) -> Result<Closed, NoMemory>
-    requires sort { sort_of_ctor vertex.now.view.ctor ≡ Sort.Exp }
+    requires sort { sort_of_ctor vertex.now.ctor ≡ Sort.Exp }
     requires vertex { IsOpenOf types.old ctxs.now vertex.now }
-    requires whole { vertex.now.next ≡ length (positions vertex.now.view.ctor) }
-    ensures node { IfOk result (λ c. closed_at types.new vertex.now.node.now c ≡ head_by_sort Sort.Exp (opened_at types.old ctxs.now vertex.now)) }
+    requires whole { vertex.now.next ≡ length (positions vertex.now.ctor) }
+    ensures added { IfOk result (λ c. added_at types.new c ≡ added_by_sort Sort.Exp (opened_at types.old ctxs.now vertex.now)) }
     ensures given { IfOk result (λ c. given_at types.new c.given ≡ given_by_sort Sort.Exp (opened_at types.old ctxs.now vertex.now)) }
     ensures numbers { IfOk result (IsClosedOf types.new) }
     ensures kept { KeepsTypes types.old types.new }
 {
-    let settled = settle(alloc, types, ctxs, &vertex.view)?;
+    let view = view(types, vertex);
+    let settled = settle(alloc, types, ctxs, &view)?;
     Ok(Closed {
-        mode: Some(vertex.view.mode),
+        mode: Some(vertex.demand.mode),
         typ: Some(settled.typ),
         mark: settled.mark,
         given: Given {
@@ -89,21 +91,15 @@ fn close_expression(
 }
 
 fn close_type(types: &mut TypeTable, vertex: &OpenVertex) -> Result<Closed, NoMemory>
-    requires earlier { IsTypeOf types.old vertex.now.earlier }
-    requires last { IsTypeOf types.old vertex.now.view.binder.typ }
-    ensures node { IfOk result (λ c. closed_at types.new vertex.now.node.now c ≡ typed_node vertex.now.node.now
-        (made vertex.now.view.ctor (type_at types.old vertex.now.earlier) (type_at types.old vertex.now.view.binder.typ))) }
-    ensures given { IfOk result (λ c. given_at types.new c.given
-        ≡ of_type (made vertex.now.view.ctor (type_at types.old vertex.now.earlier) (type_at types.old vertex.now.view.binder.typ))) }
+    requires { IsFilledOf types.old vertex.now }
+    ensures added { IfOk result (λ c. added_at types.new c ≡ type_added (made_of vertex.now.ctor (map (given_at types.old) (given_before vertex.now)))) }
+    ensures given { IfOk result (λ c. given_at types.new c.given ≡ of_type (made_of vertex.now.ctor (map (given_at types.old) (given_before vertex.now)))) }
     ensures numbers { IfOk result (IsClosedOf types.new) }
     ensures kept { KeepsTypes types.old types.new }
 {
-    let typ = type_of(
-        types,
-        &vertex.view.ctor,
-        vertex.earlier,
-        vertex.view.binder.typ,
-    )?;
+    let first = vertex.given[0].typ;
+    let second = vertex.given[1].typ;
+    let typ = type_of(types, &vertex.ctor, first, second)?;
     Ok(Closed {
         mode: None,
         typ: Some(typ),
@@ -121,18 +117,18 @@ pub fn close(
     vertex: &OpenVertex,
 ) -> Result<Closed, NoMemory>
     requires vertex { IsOpenOf types.old ctxs.now vertex.now }
-    requires whole { vertex.now.next ≡ length (positions vertex.now.view.ctor) }
-    ensures node { IfOk result (λ c. closed_at types.new vertex.now.node.now c ≡ head_of (opened_at types.old ctxs.now vertex.now)) }
+    requires whole { vertex.now.next ≡ length (positions vertex.now.ctor) }
+    ensures added { IfOk result (λ c. added_at types.new c ≡ added_of (opened_at types.old ctxs.now vertex.now)) }
     ensures given { IfOk result (λ c. given_at types.new c.given ≡ given_of (opened_at types.old ctxs.now vertex.now)) }
     ensures numbers { IfOk result (IsClosedOf types.new) }
     ensures kept { KeepsTypes types.old types.new }
 {
-    match sort_of(&vertex.view.ctor) {
+    match sort_of(&vertex.ctor) {
         Sort::Exp => close_expression(alloc, types, ctxs, vertex),
         Sort::Typ => close_type(types, vertex),
         Sort::Pat => Ok(untyped(Given {
             typ: types.unknown(),
-            name: name_of(&vertex.view.ctor),
+            name: name_of(&vertex.ctor),
         })),
         Sort::Top => Ok(untyped(nothing(types))),
     }

@@ -1,6 +1,5 @@
-use grove_sorts::Ident;
-use grove_terms::Node;
-use mark_step::{Demand, Mark, Mode, NodeView};
+use grove_sorts::{Ctor, Ident, WIDEST};
+use mark_step::{Demand, Mark, Mode};
 use type_core::TypeId;
 
 /// What a child gives to the vertex that it stands under.
@@ -14,23 +13,20 @@ pub struct Given {
 
 /// A vertex of which some positions are judged.
 #[derive(Clone, Copy, Debug)]
-pub struct OpenVertex<'t> {
-    /// The index of its node.
-    pub place: usize,
-    /// Its node, of the tree that is judged.
-    pub node: &'t Node,
-    /// The vertex as its rule sees it. Its binder has the last type at a position for types.
-    pub view: NodeView,
-    /// The type at such a position before it.
-    pub earlier: TypeId,
+pub struct OpenVertex {
+    pub ctor: Ctor,
+    /// What is demanded of it.
+    pub demand: Demand,
+    /// What each position gave, by its index in the row of the constructor; nothing from the next position on.
+    pub given: [Given; WIDEST],
     /// The index of the position that comes next.
     pub next: usize,
 }
 
 /// What is open.
 #[derive(Clone, Copy, Debug)]
-pub enum Frame<'t> {
-    Open(OpenVertex<'t>),
+pub enum Frame {
+    Open(OpenVertex),
     /// A conflict: what is demanded of its children, and how many are left.
     Several(Demand, u64),
 }

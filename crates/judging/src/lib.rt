@@ -1,5 +1,5 @@
-//! The judging of the nodes of a tree one after the other: what is open, what is demanded of the next node, and what a vertex gives
-//! once its positions are judged. Marking and plain typing stand on it.
+//! The rules taken node by node: the state between two nodes. An open vertex keeps what each of its positions gave; from that come what is
+//! demanded at the next position and, after the last, what marking adds to its node. Marking and plain typing stand on it.
 #![tactic(auto)]
 
 mod closing;
@@ -7,12 +7,13 @@ mod frame;
 mod laws;
 mod no_memory;
 mod opening;
+mod view;
 
 pub use closing::close;
 pub use frame::{Closed, Frame, Given, OpenVertex};
 pub use laws::taking_all_nodes_marks_the_tree;
 pub use no_memory::NoMemory;
-pub use opening::{demand_next, fill, fresh, nothing};
+pub use opening::{demand_at, demand_next, fill, fresh, nothing};
 
 #[cfg(test)]
 mod tests;

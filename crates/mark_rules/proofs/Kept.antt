@@ -1,6 +1,9 @@
 -- The nodes so far, and a walk, stand for the same over tables that keep the meaning of their numbers.
 use Rattle.std.proofs.Common.{◌≡◌, ℕ, zero, suc, List, [], ◌∷◌, ◌++◌, length, set, Option, Some, None, IfSome, refl, ap, ◌∙◌}
+use Rattle.std.specs.Prelude.{slice_get}
 use Rattle.std.specs.Option.{option_map}
+use Rattle.grove_terms.specs.declared.node.Node.{Node}
+use Rattle.mark_step.specs.declared.node.Mark.{Mark}
 use Rattle.type_core.specs.declared.type_id.TypeId.{TypeId}
 use Rattle.type_core.specs.Typ.{Typ}
 use Rattle.type_core.specs.TypeTable.{IsTypeOf, type_at, KeepsTypes}
@@ -10,7 +13,8 @@ use Rattle.mark_step.specs.declared.node.Mode.{Mode}
 use Rattle.mark_step.specs.Expression.{Wanted}
 use Rattle.mark_step.specs.Node.{wanted_at, IsModeOf}
 use Rattle.judging.specs.Machine as machine
-use Rattle.judging.specs.Frames.{frames_at}
+use Rattle.judging.specs.declared.frame.Closed.{Closed}
+use Rattle.judging.specs.Frames.{frames_at, frames_in, added_at, IsClosedOf}
 use Rattle.judging.proofs.Kept.{mode_kept, wanted_kept, some_number_kept, frames_kept, frames_at-kept}
 use Rattle.mark_rules.specs.declared.marked_node.MarkedNode.{MarkedNode}
 use Rattle.mark_rules.specs.declared.taking.Walk.{Walk}
@@ -49,13 +53,40 @@ module _ (old new : List Typ) (keeps : KeepsTypes old new) where
 
 module _ (old new : List Typ) (oldc newc : List Context) (keeps : KeepsTypes old new) (keepsc : KeepsContexts oldc newc) where
   pub walk_kept : (w : Walk) → IsWalkOf old oldc w → IsWalkOf new newc w
-  walk_kept w h = record { frames = frames_kept old new oldc newc keeps keepsc w.frames.items h.frames; out = marked_nodes_kept old new keeps w.out h.out; stand = h.stand }
+  walk_kept w h = record { frames = frames_kept old new oldc newc keeps keepsc (frames_in w.frames.items) h.frames; out = marked_nodes_kept old new keeps w.out h.out }
 
   pub state_at-kept : (w : Walk) → IsWalkOf old oldc w → state_at new newc w ≡ state_at old oldc w
   state_at-kept w h =
       ap (λ fs. machine.at fs (meant_nodes new w.out)) (frames_at-kept old new oldc newc keeps keepsc w.frames.items h.frames) ∙ ap (λ ms. machine.at (frames_at old oldc w.frames.items) ms) (meant_nodes_kept old new keeps w.out h.out)
 
--- ---- a node is added, or put in a place
+-- ---- a node is added, or marked
+
+-- the nodes, with what marking adds to the one at an index
+abbrev pub settled_at : List MarkedNode → ℕ → Option Mode → Option TypeId → Mark → List MarkedNode
+settled_at [] index mode typ mark = []
+settled_at (m ∷ ms) zero mode typ mark = record { node = m.node; mode = mode; typ = typ; mark = mark } ∷ ms
+settled_at (m ∷ ms) (suc index) mode typ mark = m ∷ settled_at ms index mode typ mark
+
+-- what settling a node makes of the nodes
+pub settles : (old new : List MarkedNode) (i : ℕ) (mode : Option Mode) (typ : Option TypeId) (mark : Mark)
+    → ((m : MarkedNode) → slice_get old i ≡ Some m → new ≡ set old i (record { node = m.node; mode = mode; typ = typ; mark = mark })) → (slice_get old i ≡ None → new ≡ old)
+    → new ≡ settled_at old i mode typ mark
+settles old new i mode typ mark there past = by (slice_get old i) refl where
+  put : (ms : List MarkedNode) (i : ℕ) (m : MarkedNode) → slice_get ms i ≡ Some m → set ms i (record { node = m.node; mode = mode; typ = typ; mark = mark }) ≡ settled_at ms i mode typ mark
+  put [] i m is = refl
+  put (x ∷ ms) zero m is = ap (λ (n : Node). record { node = n; mode = mode; typ = typ; mark = mark } ∷ ms) (same x m is) where
+    same : (a b : MarkedNode) → Some a ≡ Some b → b.node ≡ a.node
+    same a b e = cc
+  put (x ∷ ms) (suc i) m is = ap (λ xs. x ∷ xs) (put ms i m is)
+
+  none : (ms : List MarkedNode) (i : ℕ) → slice_get ms i ≡ None → ms ≡ settled_at ms i mode typ mark
+  none [] i is = refl
+  none (x ∷ ms) zero is = absurd cc
+  none (x ∷ ms) (suc i) is = ap (λ xs. x ∷ xs) (none ms i is)
+
+  by : (x : Option MarkedNode) → slice_get old i ≡ x → new ≡ settled_at old i mode typ mark
+  by (Some m) is = there m is ∙ put old i m is
+  by None is = past is ∙ none old i is
 
 module _ (types : List Typ) where
   pub meant_nodes-push : (ms : List MarkedNode) (m : MarkedNode) → meant_nodes types (ms ++ m ∷ []) ≡ meant_nodes types ms ++ meant types m ∷ []
@@ -66,15 +97,15 @@ module _ (types : List Typ) where
   are_marked-push [] m all is = (is, tt)
   are_marked-push (n ∷ ms) m all is = (all.0, are_marked-push ms m all.1 is)
 
-  pub meant_nodes-set : (ms : List MarkedNode) (i : ℕ) (m : MarkedNode) → meant_nodes types (set ms i m) ≡ set (meant_nodes types ms) i (meant types m)
-  meant_nodes-set [] i m = refl
-  meant_nodes-set (n ∷ ms) zero m = refl
-  meant_nodes-set (n ∷ ms) (suc i) m = ap (λ xs. meant types n ∷ xs) (meant_nodes-set ms i m)
+  pub meant_nodes-settled : (ms : List MarkedNode) (i : ℕ) (c : Closed) → meant_nodes types (settled_at ms i c.mode c.typ c.mark) ≡ machine.add_at (added_at types c) (meant_nodes types ms) i
+  meant_nodes-settled [] i c = refl
+  meant_nodes-settled (n ∷ ms) zero c = refl
+  meant_nodes-settled (n ∷ ms) (suc i) c = ap (λ xs. meant types n ∷ xs) (meant_nodes-settled ms i c)
 
-  pub are_marked-set : (ms : List MarkedNode) (i : ℕ) (m : MarkedNode) → AreMarkedNodesOf types ms → IsMarkedNodeOf types m → AreMarkedNodesOf types (set ms i m)
-  are_marked-set [] i m all is = tt
-  are_marked-set (n ∷ ms) zero m all is = (is, all.1)
-  are_marked-set (n ∷ ms) (suc i) m all is = (all.0, are_marked-set ms i m all.1 is)
+  pub are_marked-settled : (ms : List MarkedNode) (i : ℕ) (c : Closed) → AreMarkedNodesOf types ms → IsClosedOf types c → AreMarkedNodesOf types (settled_at ms i c.mode c.typ c.mark)
+  are_marked-settled [] i c all is = tt
+  are_marked-settled (n ∷ ms) zero c all is = (record { mode = is.mode; typ = is.typ }, all.1)
+  are_marked-settled (n ∷ ms) (suc i) c all is = (all.0, are_marked-settled ms i c all.1 is)
 
   pub length-meant : (ms : List MarkedNode) → length (meant_nodes types ms) ≡ length ms
   length-meant [] = refl

@@ -1,4 +1,3 @@
 pub mod Kept
-pub mod Places
 pub mod Walks
 pub mod Marks

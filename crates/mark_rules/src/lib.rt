@@ -1,5 +1,5 @@
-//! The marking of whole trees: with each expression what is wanted of it, its type and its mark, and with each type its type. What
-//! tests marks and prints them stands on this crate.
+//! The walk that marks a tree: it judges node by node and keeps the marked nodes, with each expression what is wanted of it, its type and
+//! its mark, and with each type its type. What tests marks and prints them stands on this crate.
 #![tactic(auto)]
 
 mod erasing;

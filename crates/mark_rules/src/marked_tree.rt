@@ -1,6 +1,5 @@
-ghost use Rattle.std.specs.Prelude.{◌≡◌, ◌<◌, ◌^◌, [], ◌∷◌, ◌++◌, length, set, slice_get, Some, IfOk, OnOk, OnErr};
-ghost use Rattle.grove_terms.specs.declared.node.Node.{Node};
-ghost use Rattle.mark_rules.specs.Reading.{bare_nodes};
+ghost use Rattle.std.specs.Prelude.{◌≡◌, ◌<◌, ◌^◌, [], ◌∷◌, ◌++◌, length, set, slice_get, Some, None, IfOk, OnOk, OnErr};
+ghost use Rattle.mark_rules.specs.declared.marked_node.MarkedNode.{MarkedNode};
 
 use crate::marked_node::MarkedNode;
 use crate::no_memory::NoMemory;
@@ -60,8 +59,9 @@ impl MarkedTree {
         typ: Option<TypeId>,
         mark: Mark,
     )
-        ensures { (node : Node) → slice_get (bare_nodes self.old) index ≡ Some node
-            → self.new ≡ set self.old index (record { node = node; mode = mode; typ = typ; mark = mark }) }
+        ensures placed { (marked : MarkedNode) → slice_get self.old index ≡ Some marked
+            → self.new ≡ set self.old index (record { node = marked.node; mode = mode; typ = typ; mark = mark }) }
+        ensures past { slice_get self.old index ≡ None → self.new ≡ self.old }
     {
         if let Some(marked) = self.nodes.get_mut(index) {
             marked.mode = mode;

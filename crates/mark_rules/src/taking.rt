@@ -1,16 +1,17 @@
-ghost use Rattle.std.specs.Prelude.{◌≡◌, List, ◌∷◌, ◌++◌, [], drop, length, slice_get, IfOk, OnOk, IfSome, Some};
+ghost use Rattle.std.specs.Prelude.{◌≡◌, ◌-◌, List, ◌∷◌, ◌++◌, [], length, slice_get, IfOk, OnOk, IfSome};
+ghost use Rattle.std.specs.Option.{option_map};
 ghost use Rattle.grove_sorts.specs.Ctor.{sort_of_ctor};
 ghost use Rattle.type_core.specs.Typ.{Typ};
 ghost use Rattle.type_core.specs.TypeTable.{KeepsTypes};
 ghost use Rattle.ctx_table.specs.CtxTable.{KeepsContexts};
 ghost use Rattle.mark_step.specs.Node.{wanted_at, demanded_at, IsModeOf, IsDemandOf};
 ghost use Rattle.marking.specs.Marking.{marked_plain, marked_tree};
-ghost use Rattle.mark_rules.specs.Reading.{meant, meant_nodes, bare_nodes};
+ghost use Rattle.mark_rules.specs.Reading.{meant, meant_nodes};
 ghost use Rattle.judging.specs.Machine as machine;
 ghost use Rattle.judging.specs.Machine.{deliver, opened, taken, step};
 ghost use Rattle.judging.specs.Frames.{given_at, opened_at, left_of, frame_at, frames_at, IsGivenOf, IsOpenOf, IsFrameOf};
 ghost use Rattle.mark_rules.specs.Numbers.{IsMarkedNodeOf, AreMarkedNodesOf};
-ghost use Rattle.mark_rules.specs.Walking.{state_at, given_on, StandsAt, IsWalkOf};
+ghost use Rattle.mark_rules.specs.Walking.{state_at, given_on, IsWalkOf};
 
 use crate::marked_node::MarkedNode;
 use crate::marked_tree::MarkedTree;
@@ -23,10 +24,11 @@ use mark_step::{Demand, Mark, Mode};
 use std::alloc::Global;
 use type_core::TypeTable;
 
-/// A tree of which some nodes are marked: what is open, innermost last, and the nodes.
+/// A tree of which some nodes are marked.
 #[derive(Debug, Drop)]
-pub(crate) struct Walk<'t> {
-    pub(crate) frames: Vec<Frame<'t>>,
+pub(crate) struct Walk {
+    /// What is open, innermost last, each with the index of its node.
+    pub(crate) frames: Vec<(usize, Frame)>,
     pub(crate) out: MarkedTree,
 }
 
@@ -82,49 +84,48 @@ fn list_plain(
     Ok(nothing(types))
 }
 
-// Opens the vertex where some of its positions are left, and else closes it and tells what it gives.
-fn go_on<'t>(
+// Opens the vertex, whose node has this index, where some of its positions are left, and else closes it and tells what it gives.
+fn go_on(
     alloc: Global,
     types: &mut TypeTable,
     ctxs: &CtxTable,
-    walk: &mut Walk<'t>,
-    vertex: &OpenVertex<'t>,
+    walk: &mut Walk,
+    place: usize,
+    vertex: &OpenVertex,
 ) -> Result<Option<Given>, NoMemory>
     requires walk { IsWalkOf types.old ctxs.now walk.old }
     requires vertex { IsOpenOf types.old ctxs.now vertex.now }
-    requires stands { slice_get (bare_nodes walk.old.out) vertex.now.place ≡ Some vertex.now.node.now }
-    ensures state { IfOk result (λ given. given_on types.new ctxs.now given walk.new ≡ opened (opened_at types.old ctxs.now vertex.now) (left_of vertex.now)
+    ensures state { IfOk result (λ given. given_on types.new ctxs.now given walk.new ≡ opened place (opened_at types.old ctxs.now vertex.now) (left_of vertex.now)
         (frames_at types.old ctxs.now walk.old.frames.items) (meant_nodes types.old walk.old.out)) }
     ensures given { IfOk result (λ given. IfSome given (IsGivenOf types.new)) }
     ensures shorter { IfOk result (λ given. IfSome given (λ g. length walk.new.frames.items ≡ length walk.old.frames.items)) }
     ensures walk { OnOk result (IsWalkOf types.new ctxs.now walk.new) }
     ensures kept { KeepsTypes types.old types.new }
 {
-    if vertex.next < position_count(&vertex.view.ctor) {
-        walk.frames.push(Frame::Open(*vertex))?;
+    if vertex.next < position_count(&vertex.ctor) {
+        walk.frames.push((place, Frame::Open(*vertex)))?;
         return Ok(None);
     }
     let closed = close(alloc, types, ctxs, vertex)?;
-    walk.out
-        .settle(vertex.place, closed.mode, closed.typ, closed.mark);
+    walk.out.settle(place, closed.mode, closed.typ, closed.mark);
     Ok(Some(closed.given))
 }
 
 // Gives something to a frame that was the innermost, and tells what that gives to the next one.
-fn pass<'t>(
+fn pass(
     alloc: Global,
     types: &mut TypeTable,
     ctxs: &CtxTable,
-    walk: &mut Walk<'t>,
-    frame: &mut Frame<'t>,
+    walk: &mut Walk,
+    place: usize,
+    frame: &mut Frame,
     given: Given,
 ) -> Result<Option<Given>, NoMemory>
     requires walk { IsWalkOf types.old ctxs.now walk.old }
     requires frame { IsFrameOf types.old ctxs.now frame.old }
-    requires stands { StandsAt (bare_nodes walk.old.out) frame.old }
     requires given { IsGivenOf types.old given }
     ensures state { IfOk result (λ g. given_on types.new ctxs.now g walk.new ≡ deliver (given_at types.old given)
-        (frame_at types.old ctxs.now frame.old ∷ frames_at types.old ctxs.now walk.old.frames.items) (meant_nodes types.old walk.old.out)) }
+        (frame_at types.old ctxs.now place frame.old ∷ frames_at types.old ctxs.now walk.old.frames.items) (meant_nodes types.old walk.old.out)) }
     ensures given { IfOk result (λ given. IfSome given (IsGivenOf types.new)) }
     ensures shorter { IfOk result (λ given. IfSome given (λ g. length walk.new.frames.items ≡ length walk.old.frames.items)) }
     ensures walk { OnOk result (IsWalkOf types.new ctxs.now walk.new) }
@@ -133,11 +134,12 @@ fn pass<'t>(
     match frame {
         Frame::Open(vertex) => {
             fill(vertex, given);
-            go_on(alloc, types, ctxs, walk, vertex)
+            go_on(alloc, types, ctxs, walk, place, vertex)
         }
         Frame::Several(demand, left) => {
             if *left > 1 {
-                walk.frames.push(Frame::Several(*demand, *left - 1))?;
+                walk.frames
+                    .push((place, Frame::Several(*demand, *left - 1)))?;
                 return Ok(None);
             }
             Ok(Some(nothing(types)))
@@ -161,21 +163,21 @@ fn hand_on(
 {
     let mut pending = given;
     while let Some(given) = pending {
-        let Some(mut frame) = walk.frames.pop() else {
+        let Some((place, mut frame)) = walk.frames.pop() else {
             return Ok(());
         };
-        pending = pass(alloc, types, ctxs, walk, &mut frame, given)?;
+        pending = pass(alloc, types, ctxs, walk, place, &mut frame, given)?;
     }
     Ok(())
 }
 
 // Marks a node, of which this is demanded, as far as it can be, and tells what it gives.
-fn begin<'t>(
+fn begin(
     alloc: Global,
     types: &mut TypeTable,
     ctxs: &CtxTable,
-    walk: &mut Walk<'t>,
-    node: &'t Node,
+    walk: &mut Walk,
+    node: &Node,
     demand: Demand,
 ) -> Result<Option<Given>, NoMemory>
     requires walk { IsWalkOf types.old ctxs.now walk.old }
@@ -187,12 +189,12 @@ fn begin<'t>(
     ensures kept { KeepsTypes types.old types.new }
 {
     let mode = demand.mode;
+    let place = walk.out.len();
     match node.what {
         What::Vertex(vertex) => {
-            let place = walk.out.len();
             walk.out.push(unsettled(node))?;
-            let begun = fresh(types, place, node, vertex.ctor, demand);
-            go_on(alloc, types, ctxs, walk, &begun)
+            let begun = fresh(types, vertex.ctor, demand);
+            go_on(alloc, types, ctxs, walk, place, &begun)
         }
         What::Hole(sort) => Ok(Some(list_plain(types, &mut walk.out, sort, mode, node)?)),
         What::Conflict(sort, count) => {
@@ -201,7 +203,7 @@ fn begin<'t>(
                 ctx: demand.ctx,
                 mode: Mode::Syn,
             };
-            walk.frames.push(Frame::Several(each, count))?;
+            walk.frames.push((place, Frame::Several(each, count)))?;
             Ok(None)
         }
         What::MultiRef(vertex) | What::CycleRef(vertex) => {
@@ -211,13 +213,20 @@ fn begin<'t>(
     }
 }
 
+fn innermost(frames: &[(usize, Frame)]) -> Option<&Frame>
+    ensures { option_map (λ frame. frame.now) result ≡ option_map (λ frame. frame.1) (slice_get frames.now (length frames.now - 1)) }
+{
+    let (_, frame) = frames.last()?;
+    Some(frame)
+}
+
 // Takes the next node.
-pub(crate) fn take<'t>(
+pub(crate) fn take(
     alloc: Global,
     types: &mut TypeTable,
     ctxs: &mut CtxTable,
-    walk: &mut Walk<'t>,
-    node: &'t Node,
+    walk: &mut Walk,
+    node: &Node,
 ) -> Result<(), NoMemory>
     requires walk { IsWalkOf types.old ctxs.old walk.old }
     ensures state { OnOk result (state_at types.new ctxs.new walk.new ≡ step (state_at types.old ctxs.old walk.old) node.now) }
@@ -225,7 +234,7 @@ pub(crate) fn take<'t>(
     ensures types { KeepsTypes types.old types.new }
     ensures contexts { KeepsContexts ctxs.old ctxs.new }
 {
-    let demand = demand_next(alloc, types, ctxs, &walk.frames)?;
+    let demand = demand_next(alloc, types, ctxs, innermost(&walk.frames))?;
     let given = begin(alloc, types, ctxs, walk, node, demand)?;
     hand_on(alloc, types, ctxs, walk, given)
 }

@@ -1,6 +1,6 @@
-//! The rule of one node of bidirectional marking with types and error marks: how each child of an expression is judged, by what is
+//! The rules: for one node of bidirectional marking with types and error marks, how each child of an expression is judged, by what is
 //! wanted of the expression and the types of the children before it, and which type and which mark the expression gets once all its
-//! children have types. The walks that mark whole trees call it node by node.
+//! children have types. The walks that mark whole trees call them node by node.
 #![tactic(auto)]
 
 mod children;

@@ -1,5 +1,5 @@
 -- What a walk over all nodes of a tree knows.
-use Rattle.std.proofs.Common.{◌≡◌, ◌↔◌, ℕ, ◌+◌, Bool, true, false, List, [], ◌∷◌, length, None, refl, sym, ap, subst, ◌∙◌}
+use Rattle.std.proofs.Common.{◌≡◌, ◌↔◌, Bool, true, false, List, [], ◌∷◌, None, refl, sym, ap, subst, ◌∙◌}
 use Rattle.std.specs.Prelude.{not, IsTrue}
 use Rattle.grove_edits.specs.declared.vertex.Vertex.{Vertex}
 use Rattle.grove_terms.specs.declared.node.Node.{Node}
@@ -14,38 +14,28 @@ use Rattle.judging.specs.Frames.{frames_at}
 use Rattle.judging.proofs.Running.{tree_marked}
 use Rattle.plain_typing.specs.declared.walking.Walk.{Walk}
 use Rattle.plain_typing.specs.Typed.{IsTypedTree}
-use Rattle.plain_typing.specs.Walking.{AreUnsettled, StandsFor}
+use Rattle.plain_typing.specs.Walking.{StandsFor}
 use Rattle.plain_typing.proofs.Typings.{typed_is_clean}
-use Rattle.plain_typing.proofs.Lengths.{length-step}
 
 -- the walk has come to what taking some nodes gives, and these are left
-pub record HasCome (types : List Typ) (ctxs : List Context) (walk : Walk) (place : ℕ) (nodes left : List Node) : Type 0 where
+pub record HasCome (types : List Typ) (ctxs : List Context) (walk : Walk) (nodes left : List Node) : Type 0 where
   pub so_far : State
   pub stands : StandsFor types ctxs None walk so_far
   pub to_come : run so_far left ≡ run (at [] []) nodes
-  pub long : length so_far.out ≡ place
 
-pub come_first : (types : List Typ) (ctxs : List Context) (walk : Walk) (nodes : List Node) → walk.frames.items ≡ [] → walk.has_mark ≡ false → HasCome types ctxs walk 0 nodes nodes
+pub come_first : (types : List Typ) (ctxs : List Context) (walk : Walk) (nodes : List Node) → walk.frames.items ≡ [] → walk.has_mark ≡ false → HasCome types ctxs walk nodes nodes
 come_first types ctxs walk nodes frames mark = record {
   so_far = at [] [];
-  stands = record {
-    nodes = [];
-    comes_to = ap (λ fs. at (frames_at types ctxs fs) []) frames;
-    unsettled = subst (λ fs. AreUnsettled 0 (frames_at types ctxs fs) []) (sym frames) tt;
-    noted = (λ h. tt, λ h. mark);
-  };
+  stands = record { frames = []; nodes = []; open_here = sym frames; comes_to = refl; unsettled = tt; noted = (λ h. tt, λ h. mark) };
   to_come = refl;
-  long = refl;
 }
 
-pub come_further : (old new : List Typ) (oldc newc : List Context) (walk after : Walk) (place : ℕ) (nodes left rest : List Node) (n : Node)
-    → ((s : State) → StandsFor old oldc None walk s → length s.out ≡ place → StandsFor new newc None after (step s n)) → left ≡ n ∷ rest
-    → HasCome old oldc walk place nodes left → HasCome new newc after (place + 1) nodes rest
-come_further old new oldc newc walk after place nodes left rest n takes is come = record {
+pub come_further : (old new : List Typ) (oldc newc : List Context) (walk after : Walk) (nodes left rest : List Node) (n : Node)
+    → ((s : State) → StandsFor old oldc None walk s → StandsFor new newc None after (step s n)) → left ≡ n ∷ rest → HasCome old oldc walk nodes left → HasCome new newc after nodes rest
+come_further old new oldc newc walk after nodes left rest n takes is come = record {
   so_far = step come.so_far n;
-  stands = takes come.so_far come.stands come.long;
+  stands = takes come.so_far come.stands;
   to_come = ap (run come.so_far) (sym is) ∙ come.to_come;
-  long = length-step come.so_far n ∙ ap (λ k. k + 1) come.long;
 }
 
 not_true : (b : Bool) (Clean : Type 0) → ((b ≡ false) ↔ Clean) → IsTrue (not b) ↔ Clean
@@ -55,11 +45,11 @@ not_true true Clean noted = (λ h. absurd cc, λ h. absurd (true_is_false (noted
 not_true false Clean noted = (λ h. noted.0 refl, λ h. refl)
 
 -- at the end it has met no mark exactly where the tree is typed
-pub come_to_end : (types : List Typ) (ctxs : List Context) (walk : Walk) (place : ℕ) (tree nodes left : List Node) → IsSortedTree tree → nodes ≡ tree → left ≡ [] → HasCome types ctxs walk place nodes left
+pub come_to_end : (types : List Typ) (ctxs : List Context) (walk : Walk) (tree nodes left : List Node) → IsSortedTree tree → nodes ≡ tree → left ≡ [] → HasCome types ctxs walk nodes left
     → IsTrue (not walk.has_mark) ↔ IsTypedTree tree
-come_to_end types ctxs walk place tree nodes left sorted same none_left come =
+come_to_end types ctxs walk tree nodes left sorted same none_left come =
     let stands = come.stands in
-    let whole : at (frames_at types ctxs walk.frames.items) stands.nodes ≡ run (at [] []) nodes = stands.comes_to ∙ ap (run come.so_far) (sym none_left) ∙ come.to_come in
+    let whole : at (frames_at types ctxs stands.frames) stands.nodes ≡ run (at [] []) nodes = stands.comes_to ∙ ap (run come.so_far) (sym none_left) ∙ come.to_come in
     let marked : (v : Vertex) (f : Forest) → IsWellSorted v f → tree ≡ tree_nodes v f → stands.nodes ≡ marked_tree v f =
     λ v f well listed. ap (λ (s : State). s.out) (whole ∙ ap (run (at [] [])) (same ∙ listed) ∙ tree_marked v f well) in
     let clean = not_true walk.has_mark (HasNoMark stands.nodes) stands.noted in (

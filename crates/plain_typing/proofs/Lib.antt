@@ -3,6 +3,5 @@ mod Unmarked
 pub mod Typings
 mod Places
 mod Steps
-mod Lengths
 mod Checked
 mod Samples

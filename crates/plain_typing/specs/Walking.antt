@@ -6,7 +6,8 @@ use Rattle.marking.specs.Marking.{MarkedNode, has_mark, HasNoMark}
 use Rattle.judging.specs.declared.frame.Given.{Given}
 use Rattle.judging.specs.Machine as machine
 use Rattle.judging.specs.Machine.{Of, Several}
-use Rattle.judging.specs.Frames.{given_at, frames_at}
+use Rattle.judging.specs.declared.frame.Frame.{Frame}
+use Rattle.judging.specs.Frames.{given_at, frames_at, frames_in}
 use Rattle.plain_typing.specs.declared.walking.Walk.{Walk}
 
 -- there is a node at the place, and it has no mark
@@ -19,7 +20,7 @@ IsUnmarkedAt (m ∷ ms) (suc place) = IsUnmarkedAt ms place
 -- marks yet.
 abbrev pub AreUnsettled : ℕ → List machine.Frame → List MarkedNode → Type 0
 AreUnsettled below [] nodes = Unit {0}
-AreUnsettled below (Of v p ps ∷ frames) nodes = (v.place < below) × IsUnmarkedAt nodes v.place × AreUnsettled v.place frames nodes
+AreUnsettled below (Of place v p ps ∷ frames) nodes = (place < below) × IsUnmarkedAt nodes place × AreUnsettled place frames nodes
 AreUnsettled below (Several d n ∷ frames) nodes = AreUnsettled below frames nodes
 
 -- some node has a mark exactly where the walk has met one
@@ -31,9 +32,11 @@ abbrev pub given_on : List Typ → Option Given → List machine.Frame → List 
 given_on types None frames nodes = machine.at frames nodes
 given_on types (Some g) frames nodes = machine.deliver (given_at types g) frames nodes
 
--- the walk comes to this state with some marked nodes, once it is given what may still have to be given
+-- the walk comes to this state with some marked nodes and some places of what is open, once it is given what may still have to be given
 pub record StandsFor (types : List Typ) (ctxs : List Context) (given : Option Given) (walk : Walk) (state : machine.State) : Type 0 where
+  pub frames : List (ℕ × Frame)
   pub nodes : List MarkedNode
-  pub comes_to : given_on types given (frames_at types ctxs walk.frames.items) nodes ≡ state
-  pub unsettled : AreUnsettled (length nodes) (frames_at types ctxs walk.frames.items) nodes
+  pub open_here : frames_in frames ≡ walk.frames.items
+  pub comes_to : given_on types given (frames_at types ctxs frames) nodes ≡ state
+  pub unsettled : AreUnsettled (length nodes) (frames_at types ctxs frames) nodes
   pub noted : IsNoted walk nodes

@@ -27,8 +27,8 @@ pub fn is_typed(
         frames: Vec::new(alloc),
         has_mark: false,
     };
-    for (place, node) in tree.as_slice().iter().enumerate() {
-        take(alloc, types, ctxs, &mut walk, place, node)?;
+    for node in tree.as_slice() {
+        take(alloc, types, ctxs, &mut walk, node)?;
     }
     Ok(!walk.has_mark)
 }

@@ -1,10 +1,11 @@
-ghost use Rattle.std.specs.Prelude.{◌≡◌, ◌∷◌, List, length, IfOk, OnOk, IfSome, Some};
+ghost use Rattle.std.specs.Prelude.{◌≡◌, ◌∷◌, ◌-◌, ℕ, List, length, slice_get, None, IfOk, OnOk, IfSome};
+ghost use Rattle.std.specs.Option.{option_map};
 ghost use Rattle.type_core.specs.TypeTable.{KeepsTypes};
 ghost use Rattle.ctx_table.specs.CtxTable.{KeepsContexts};
 ghost use Rattle.mark_step.specs.Node.{demanded_at, IsDemandOf};
 ghost use Rattle.marking.specs.Marking.{MarkedNode, has_mark};
 ghost use Rattle.judging.specs.Machine.{State, deliver, opened, taken, step};
-ghost use Rattle.judging.specs.Frames.{given_at, opened_at, left_of, frame_at, frames_at, IsGivenOf, IsOpenOf, IsFrameOf, AreFramesOf};
+ghost use Rattle.judging.specs.Frames.{given_at, opened_at, left_of, frame_at, frames_at, frames_in, IsGivenOf, IsOpenOf, IsFrameOf, AreFramesOf};
 ghost use Rattle.plain_typing.specs.Walking.{IsUnmarkedAt, AreUnsettled, IsNoted, StandsFor};
 
 use crate::no_memory::NoMemory;
@@ -18,8 +19,8 @@ use type_core::TypeTable;
 
 /// A tree of which some nodes are judged: what is open, innermost last, and whether a vertex that is closed has a mark.
 #[derive(Debug, Drop)]
-pub(crate) struct Walk<'t> {
-    pub(crate) frames: Vec<Frame<'t>>,
+pub(crate) struct Walk {
+    pub(crate) frames: Vec<Frame>,
     pub(crate) has_mark: bool,
 }
 
@@ -30,25 +31,26 @@ fn is_mark(mark: Mark) -> bool
 }
 
 // Opens the vertex where some of its positions are left, and else closes it and tells what it gives.
-fn go_on<'t>(
+fn go_on(
     alloc: Global,
     types: &mut TypeTable,
     ctxs: &CtxTable,
-    walk: &mut Walk<'t>,
-    vertex: &OpenVertex<'t>,
+    walk: &mut Walk,
+    vertex: &OpenVertex,
 ) -> Result<Option<Given>, NoMemory>
     requires frames { AreFramesOf types.old ctxs.now walk.old.frames.items }
     requires vertex { IsOpenOf types.old ctxs.now vertex.now }
-    ensures state { IfOk result (λ given. (nodes : List MarkedNode) → IsUnmarkedAt nodes vertex.now.place
-        → AreUnsettled vertex.now.place (frames_at types.old ctxs.now walk.old.frames.items) nodes → IsNoted walk.old nodes
+    ensures state { IfOk result (λ given. (place : ℕ) (frames : List (ℕ × Frame)) (nodes : List MarkedNode)
+        → frames_in frames ≡ walk.old.frames.items → IsUnmarkedAt nodes place
+        → AreUnsettled place (frames_at types.old ctxs.now frames) nodes → IsNoted walk.old nodes
         → StandsFor types.new ctxs.now given walk.new
-        (opened (opened_at types.old ctxs.now vertex.now) (left_of vertex.now) (frames_at types.old ctxs.now walk.old.frames.items) nodes)) }
+        (opened place (opened_at types.old ctxs.now vertex.now) (left_of vertex.now) (frames_at types.old ctxs.now frames) nodes)) }
     ensures given { IfOk result (λ given. IfSome given (IsGivenOf types.new)) }
     ensures shorter { IfOk result (λ given. IfSome given (λ g. length walk.new.frames.items ≡ length walk.old.frames.items)) }
     ensures frames { OnOk result (AreFramesOf types.new ctxs.now walk.new.frames.items) }
     ensures kept { KeepsTypes types.old types.new }
 {
-    if vertex.next < position_count(&vertex.view.ctor) {
+    if vertex.next < position_count(&vertex.ctor) {
         walk.frames.push(Frame::Open(*vertex))?;
         return Ok(None);
     }
@@ -58,21 +60,22 @@ fn go_on<'t>(
 }
 
 // Gives something to a frame that was the innermost, and tells what that gives to the next one.
-fn pass<'t>(
+fn pass(
     alloc: Global,
     types: &mut TypeTable,
     ctxs: &CtxTable,
-    walk: &mut Walk<'t>,
-    frame: &mut Frame<'t>,
+    walk: &mut Walk,
+    frame: &mut Frame,
     given: Given,
 ) -> Result<Option<Given>, NoMemory>
     requires frames { AreFramesOf types.old ctxs.now walk.old.frames.items }
     requires frame { IsFrameOf types.old ctxs.now frame.old }
     requires given { IsGivenOf types.old given }
-    ensures state { IfOk result (λ g. (nodes : List MarkedNode)
-        → AreUnsettled (length nodes) (frame_at types.old ctxs.now frame.old ∷ frames_at types.old ctxs.now walk.old.frames.items) nodes → IsNoted walk.old nodes
+    ensures state { IfOk result (λ g. (place : ℕ) (frames : List (ℕ × Frame)) (nodes : List MarkedNode)
+        → frames_in frames ≡ walk.old.frames.items
+        → AreUnsettled (length nodes) (frame_at types.old ctxs.now place frame.old ∷ frames_at types.old ctxs.now frames) nodes → IsNoted walk.old nodes
         → StandsFor types.new ctxs.now g walk.new (deliver (given_at types.old given)
-        (frame_at types.old ctxs.now frame.old ∷ frames_at types.old ctxs.now walk.old.frames.items) nodes)) }
+        (frame_at types.old ctxs.now place frame.old ∷ frames_at types.old ctxs.now frames) nodes)) }
     ensures given { IfOk result (λ given. IfSome given (IsGivenOf types.new)) }
     ensures shorter { IfOk result (λ given. IfSome given (λ g. length walk.new.frames.items ≡ length walk.old.frames.items)) }
     ensures frames { OnOk result (AreFramesOf types.new ctxs.now walk.new.frames.items) }
@@ -118,18 +121,17 @@ fn hand_on(
 }
 
 // Judges a node, of which this is demanded, as far as it can be, and tells what it gives.
-fn begin<'t>(
+fn begin(
     alloc: Global,
     types: &mut TypeTable,
     ctxs: &CtxTable,
-    walk: &mut Walk<'t>,
-    place: usize,
-    node: &'t Node,
+    walk: &mut Walk,
+    node: &Node,
     demand: Demand,
 ) -> Result<Option<Given>, NoMemory>
     requires frames { AreFramesOf types.old ctxs.now walk.old.frames.items }
     requires demand { IsDemandOf types.old ctxs.now demand }
-    ensures state { IfOk result (λ given. (s : State) → StandsFor types.old ctxs.now None walk.old s → length s.out ≡ place
+    ensures state { IfOk result (λ given. (s : State) → StandsFor types.old ctxs.now None walk.old s
         → StandsFor types.new ctxs.now given walk.new (taken node.now.what node.now (demanded_at types.old ctxs.now demand) s.frames s.out)) }
     ensures given { IfOk result (λ given. IfSome given (IsGivenOf types.new)) }
     ensures frames { OnOk result (AreFramesOf types.new ctxs.now walk.new.frames.items) }
@@ -137,7 +139,7 @@ fn begin<'t>(
 {
     match node.what {
         What::Vertex(vertex) => {
-            let begun = fresh(types, place, node, vertex.ctor, demand);
+            let begun = fresh(types, vertex.ctor, demand);
             go_on(alloc, types, ctxs, walk, &begun)
         }
         What::Conflict(_, count) => {
@@ -152,23 +154,28 @@ fn begin<'t>(
     }
 }
 
-// Takes the next node, which stands at this place.
-pub(crate) fn take<'t>(
+fn innermost(frames: &[Frame]) -> Option<&Frame>
+    ensures { option_map (λ frame. frame.now) result ≡ slice_get frames.now (length frames.now - 1) }
+{
+    frames.last()
+}
+
+// Takes the next node.
+pub(crate) fn take(
     alloc: Global,
     types: &mut TypeTable,
     ctxs: &mut CtxTable,
-    walk: &mut Walk<'t>,
-    place: usize,
-    node: &'t Node,
+    walk: &mut Walk,
+    node: &Node,
 ) -> Result<(), NoMemory>
     requires frames { AreFramesOf types.old ctxs.old walk.old.frames.items }
-    ensures state { OnOk result ((s : State) → StandsFor types.old ctxs.old None walk.old s → length s.out ≡ place
+    ensures state { OnOk result ((s : State) → StandsFor types.old ctxs.old None walk.old s
         → StandsFor types.new ctxs.new None walk.new (step s node.now)) }
     ensures frames { OnOk result (AreFramesOf types.new ctxs.new walk.new.frames.items) }
     ensures types { KeepsTypes types.old types.new }
     ensures contexts { KeepsContexts ctxs.old ctxs.new }
 {
-    let demand = demand_next(alloc, types, ctxs, &walk.frames)?;
-    let given = begin(alloc, types, ctxs, walk, place, node, demand)?;
+    let demand = demand_next(alloc, types, ctxs, innermost(&walk.frames))?;
+    let given = begin(alloc, types, ctxs, walk, node, demand)?;
     hand_on(alloc, types, ctxs, walk, given)
 }

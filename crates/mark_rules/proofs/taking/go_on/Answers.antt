@@ -1,32 +1,30 @@
 use Rattle.std.proofs.Common.{arith}
 use Rattle.judging.specs.declared.frame.Frame.TheVariants.{Open}
+use Rattle.judging.specs.Frames.{frames_in}
 use Rattle.judging.proofs.Kept.{frames_kept, contexts-itself}
-use Rattle.judging.proofs.Frames.{stays_open, framed}
-use Rattle.mark_rules.specs.Reading.{meant_nodes, bare_nodes}
-use Rattle.mark_rules.proofs.Places.{stand_framed, stand_settled}
-use Rattle.mark_rules.proofs.Walks.{node_of, is_closed, still_marked}
+use Rattle.judging.proofs.Frames.{stays_open, placed}
+use Rattle.mark_rules.specs.Reading.{meant_nodes}
+use Rattle.mark_rules.proofs.Kept.{settles}
+use Rattle.mark_rules.proofs.Walks.{is_closed, still_marked}
 use Rattle.mark_rules.proofs.taking.go_on.Goals as goal
 
 pub returns-then-vertex-position_count-clause-state : goal.returns-then-vertex-position_count-clause-state
-returns-then-vertex-position_count-clause-state c = stays_open c.args.types.now c.args.ctxs.now c.args.vertex.now c.args.walk.now.frames.items c.push.new.self.items (meant_nodes c.args.types.now c.args.walk.now.out) (omega arith) c.in_ok-push.ensures.items
+returns-then-vertex-position_count-clause-state c =
+    stays_open c.args.types.now c.args.ctxs.now c.args.place c.args.vertex.now c.args.walk.now.frames.items c.push.new.self.items (meant_nodes c.args.types.now c.args.walk.now.out) (omega arith) c.in_ok-push.ensures.items
 
 pub returns-then-vertex-position_count-clause-walk : goal.returns-then-vertex-position_count-clause-walk
 returns-then-vertex-position_count-clause-walk c = record {
-  frames = framed c.args.types.now c.args.ctxs.now c.args.walk.now.frames.items c.push.new.self.items _ c.requires.walk.frames (c.requires.vertex, omega arith) c.in_ok-push.ensures.items;
+  frames = placed c.args.types.now c.args.ctxs.now c.args.walk.now.frames.items c.push.new.self.items c.args.place (Open c.args.vertex.now) c.requires.walk.frames (c.requires.vertex, omega arith) c.in_ok-push.ensures.items;
   out = c.requires.walk.out;
-  stand = stand_framed (bare_nodes c.args.walk.now.out) c.args.walk.now.frames.items c.push.new.self.items (Open c.args.vertex.now) c.in_ok-push.ensures.items c.requires.walk.stand c.requires.stands;
 }
 
 pub returns-clause-state : goal.returns-clause-state
 returns-clause-state c =
-    is_closed c.args.types.now c.close.new.types c.args.ctxs.now c.args.vertex.now c.in_ok-closed.closed c.args.walk.now.frames.items c.args.walk.now.out c.settle.new.self c.in_ok-closed.ensures.kept
-    c.requires.walk.frames c.requires.walk.out (omega arith) c.in_ok-closed.ensures.node c.in_ok-closed.ensures.given (c.settle.ensures c.args.vertex.now.node.now c.requires.stands)
+    is_closed c.args.types.now c.close.new.types c.args.ctxs.now c.args.place c.args.vertex.now c.in_ok-closed.closed c.args.walk.now.frames.items c.args.walk.now.out c.settle.new.self c.in_ok-closed.ensures.kept
+    c.requires.walk.frames c.requires.walk.out (omega arith) c.in_ok-closed.ensures.added c.in_ok-closed.ensures.given (settles c.args.walk.now.out c.settle.new.self c.args.place c.in_ok-closed.closed.mode c.in_ok-closed.closed.typ c.in_ok-closed.closed.mark c.settle.ensures.placed c.settle.ensures.past)
 
 pub returns-clause-walk : goal.returns-clause-walk
-returns-clause-walk c =
-    let put = c.settle.ensures c.args.vertex.now.node.now c.requires.stands in
-    record {
-      frames = frames_kept c.args.types.now c.close.new.types c.args.ctxs.now c.args.ctxs.now c.in_ok-closed.ensures.kept (contexts-itself c.args.ctxs.now) c.args.walk.now.frames.items c.requires.walk.frames;
-      out = still_marked c.args.types.now c.close.new.types c.args.vertex.now c.in_ok-closed.closed c.args.walk.now.out c.settle.new.self c.in_ok-closed.ensures.kept c.requires.walk.out c.in_ok-closed.ensures.numbers put;
-      stand = stand_settled c.args.walk.now.out c.settle.new.self c.args.vertex.now.place (node_of c.args.vertex.now.node.now c.in_ok-closed.closed) c.args.walk.now.frames.items c.requires.stands put c.requires.walk.stand;
-    }
+returns-clause-walk c = record {
+  frames = frames_kept c.args.types.now c.close.new.types c.args.ctxs.now c.args.ctxs.now c.in_ok-closed.ensures.kept (contexts-itself c.args.ctxs.now) (frames_in c.args.walk.now.frames.items) c.requires.walk.frames;
+  out = still_marked c.args.types.now c.close.new.types c.args.place c.in_ok-closed.closed c.args.walk.now.out c.settle.new.self c.in_ok-closed.ensures.kept c.requires.walk.out c.in_ok-closed.ensures.numbers (settles c.args.walk.now.out c.settle.new.self c.args.place c.in_ok-closed.closed.mode c.in_ok-closed.closed.typ c.in_ok-closed.closed.mark c.settle.ensures.placed c.settle.ensures.past);
+}

@@ -1,12 +1,10 @@
 use Rattle.std.proofs.Common.{◌≡◌, ◌-◌, arith}
 use Rattle.judging.specs.declared.frame.Frame.TheVariants.{Open, Several}
-use Rattle.mark_step.specs.Node.{sort_at_index}
-use Rattle.mark_rules.specs.Reading.{meant_nodes, bare_nodes}
+use Rattle.mark_rules.specs.Reading.{meant_nodes}
 use Rattle.judging.specs.Frames.{given_at, frames_at}
 use Rattle.judging.proofs.Results.{if_ok_then}
-use Rattle.judging.proofs.Frames.{given_is, given_fills, given_several, several_are}
+use Rattle.judging.proofs.Frames.{given_is, given_fills, given_several, several_is, placed}
 use Rattle.mark_rules.specs.Walking.{given_on}
-use Rattle.mark_rules.proofs.Places.{stand_framed, filled_stands}
 use Rattle.mark_rules.proofs.taking.pass.Goals as goal
 
 pub go_on-requires-clause-vertex : goal.go_on-requires-clause-vertex
@@ -14,30 +12,24 @@ go_on-requires-clause-vertex c =
     let is : c.args.frame.now ≡ Open c.in-Open.vertex = cc in
     given_is c.args.types.now c.args.ctxs.now c.args.frame.now c.in-Open.vertex c.fill.new.vertex c.args.given is c.fill.ensures c.requires.frame c.requires.given
 
-pub go_on-requires-clause-stands : goal.go_on-requires-clause-stands
-go_on-requires-clause-stands c =
-    let is : c.args.frame.now ≡ Open c.in-Open.vertex = cc in
-    filled_stands (bare_nodes c.args.walk.now.out) c.args.frame.now (sort_at_index c.in-Open.vertex.view.ctor c.in-Open.vertex.next) c.args.given c.in-Open.vertex c.fill.new.vertex is c.fill.ensures c.requires.stands
-
 pub returns-then-left-gt1-clause-state : goal.returns-then-left-gt1-clause-state
 returns-then-left-gt1-clause-state c =
     let is : c.args.frame.now ≡ Several c.in-Several.demand c.in-Several.left = cc in
-    given_several c.args.types.now c.args.ctxs.now c.args.frame.now c.in-Several.demand c.in-Several.left (given_at c.args.types.now c.args.given) c.args.walk.now.frames.items c.push.new.self.items (meant_nodes c.args.types.now c.args.walk.now.out) is (omega arith)
-    c.in_ok-push-in-Several.ensures.items
+    given_several c.args.types.now c.args.ctxs.now c.args.place c.args.frame.now c.in-Several.demand c.in-Several.left (given_at c.args.types.now c.args.given) c.args.walk.now.frames.items c.push.new.self.items
+    (meant_nodes c.args.types.now c.args.walk.now.out) is (omega arith) c.in_ok-push-in-Several.ensures.items
 
 pub returns-then-left-gt1-clause-walk : goal.returns-then-left-gt1-clause-walk
 returns-then-left-gt1-clause-walk c =
     let is : c.args.frame.now ≡ Several c.in-Several.demand c.in-Several.left = cc in
     record {
-      frames = several_are c.args.types.now c.args.ctxs.now c.args.frame.now c.in-Several.demand c.in-Several.left (c.in-Several.left - 1) c.args.walk.now.frames.items c.push.new.self.items is c.requires.frame c.requires.walk.frames
-          c.in_ok-push-in-Several.ensures.items;
+      frames = placed c.args.types.now c.args.ctxs.now c.args.walk.now.frames.items c.push.new.self.items c.args.place (Several c.in-Several.demand (c.in-Several.left - 1)) c.requires.walk.frames
+          (several_is c.args.types.now c.args.ctxs.now c.args.frame.now c.in-Several.demand c.in-Several.left (c.in-Several.left - 1) is c.requires.frame) c.in_ok-push-in-Several.ensures.items;
       out = c.requires.walk.out;
-      stand = stand_framed (bare_nodes c.args.walk.now.out) c.args.walk.now.frames.items c.push.new.self.items (Several c.in-Several.demand (c.in-Several.left - 1)) c.in_ok-push-in-Several.ensures.items c.requires.walk.stand tt;
     }
 
 pub returns-in-Open-clause-state : goal.returns-in-Open-clause-state
 returns-in-Open-clause-state c =
     let is : c.args.frame.now ≡ Open c.in-Open.vertex = cc in
     if_ok_then c.go_on.result (λ g. given_on c.go_on.new.types c.args.ctxs.now g c.go_on.new.walk) _ _ c.go_on.ensures.state
-    (given_fills c.args.types.now c.args.ctxs.now c.args.frame.now c.in-Open.vertex c.fill.new.vertex c.args.given (frames_at c.args.types.now c.args.ctxs.now c.args.walk.now.frames.items) (meant_nodes c.args.types.now c.args.walk.now.out) is c.fill.ensures
-    c.requires.frame c.requires.given)
+    (given_fills c.args.types.now c.args.ctxs.now c.args.place c.args.frame.now c.in-Open.vertex c.fill.new.vertex c.args.given (frames_at c.args.types.now c.args.ctxs.now c.args.walk.now.frames.items)
+    (meant_nodes c.args.types.now c.args.walk.now.out) is c.fill.ensures c.requires.frame)

@@ -6,29 +6,29 @@ use Rattle.judging.proofs.Kept.{types-itself, types-then, contexts-itself, conte
 use Rattle.plain_typing.proofs.Checked.{come_first, come_further, come_to_end}
 use Rattle.plain_typing.proofs.checking.is_typed.Goals as goal
 
-pub loop-place-init : goal.loop-place-init
-loop-place-init c = record {
+pub loop-node-init : goal.loop-node-init
+loop-node-init c = record {
   frames = subst (AreFramesOf c.args.types.now c.args.ctxs.now) (sym c.new.ensures.items) tt;
   come = come_first c.args.types.now c.args.ctxs.now (record { frames = c.new.result; has_mark = false }) c.as_slice-node-items.result.now c.new.ensures.items refl;
   types = types-itself c.args.types.now;
   contexts = contexts-itself c.args.ctxs.now;
 }
 
-pub loop-place-preserved : goal.loop-place-preserved
-loop-place-preserved c =
+pub loop-node-preserved : goal.loop-node-preserved
+loop-node-preserved c =
     let nodes : List Node = c.as_slice-node-items.result.now in
-    let rest : List Node = drop (c.loop-place.place + 1) nodes in
-    let left : drop c.loop-place.place nodes ≡ c.node-item.result ∷ rest = grind (arith, common_steps, c.node-item.is) in
+    let rest : List Node = drop (c.loop-node.node-index + 1) nodes in
+    let left : drop c.loop-node.node-index nodes ≡ c.node-item.result ∷ rest = grind (arith, common_steps, c.node-item.is) in
     record {
       frames = c.in_ok-take.ensures.frames;
-      come = come_further c.loop-place.types c.take.new.types c.loop-place.ctxs c.take.new.ctxs c.loop-place.walk c.take.new.walk c.loop-place.place nodes (drop c.loop-place.place nodes) rest c.node-item.result
-          c.in_ok-take.ensures.state left c.loop-place.invariant.come;
-      types = types-then c.args.types.now c.loop-place.types c.take.new.types c.loop-place.invariant.types c.in_ok-take.ensures.types;
-      contexts = contexts-then c.args.ctxs.now c.loop-place.ctxs c.take.new.ctxs c.loop-place.invariant.contexts c.in_ok-take.ensures.contexts;
+      come = come_further c.loop-node.types c.take.new.types c.loop-node.ctxs c.take.new.ctxs c.loop-node.walk c.take.new.walk nodes (drop c.loop-node.node-index nodes) rest c.node-item.result
+          c.in_ok-take.ensures.state left c.loop-node.invariant.come;
+      types = types-then c.args.types.now c.loop-node.types c.take.new.types c.loop-node.invariant.types c.in_ok-take.ensures.types;
+      contexts = contexts-then c.args.ctxs.now c.loop-node.ctxs c.take.new.ctxs c.loop-node.invariant.contexts c.in_ok-take.ensures.contexts;
     }
 
 pub returns-clause-typed : goal.returns-clause-typed
 returns-clause-typed c =
     let nodes : List Node = c.as_slice-node-items.result.now in
-    let none_left : drop c.loop-place.place nodes ≡ [] = grind (arith, common_steps) in
-    come_to_end c.loop-place.types c.loop-place.ctxs c.loop-place.walk c.loop-place.place c.args.tree.now nodes (drop c.loop-place.place nodes) c.requires.sorted c.as_slice-node-items.ensures none_left c.loop-place.invariant.come
+    let none_left : drop c.loop-node.node-index nodes ≡ [] = grind (arith, common_steps) in
+    come_to_end c.loop-node.types c.loop-node.ctxs c.loop-node.walk c.args.tree.now nodes (drop c.loop-node.node-index nodes) c.requires.sorted c.as_slice-node-items.ensures none_left c.loop-node.invariant.come

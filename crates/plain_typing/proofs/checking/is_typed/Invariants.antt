@@ -5,10 +5,10 @@ use Rattle.judging.specs.Frames.{AreFramesOf}
 use Rattle.plain_typing.proofs.Checked.{HasCome}
 use Rattle.plain_typing.proofs.checking.is_typed.Given as goal
 
-abbrev pub invariant-loop-place : goal.invariant-loop-place
-invariant-loop-place l = record {
+abbrev pub invariant-loop-node : goal.invariant-loop-node
+invariant-loop-node l = record {
   frames : AreFramesOf l.types l.ctxs l.walk.frames.items;
-  come : HasCome l.types l.ctxs l.walk l.place l.node-items (drop l.place l.node-items);
+  come : HasCome l.types l.ctxs l.walk l.node-items (drop l.node-index l.node-items);
   types : KeepsTypes l.fn.types l.types;
   contexts : KeepsContexts l.fn.ctxs l.ctxs;
 }

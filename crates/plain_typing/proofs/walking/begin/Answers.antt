@@ -11,11 +11,11 @@ use Rattle.plain_typing.proofs.walking.begin.Goals as goal
 pub returns-in-Vertex-clause-state : goal.returns-in-Vertex-clause-state
 returns-in-Vertex-clause-state c =
     let is : c.args.node.now.what ≡ whats.Vertex c.in-Vertex.vertex = cc in
-    stands_begun_with c.args.types.now c.go_on.new.types c.args.ctxs.now c.fresh-begun.result c.in-Vertex.vertex c.args.node.now c.args.node.now.what (demanded_at c.args.types.now c.args.ctxs.now c.args.demand) c.args.place c.args.walk.now
+    stands_begun_with c.args.types.now c.go_on.new.types c.args.ctxs.now c.fresh-begun.result c.in-Vertex.vertex c.args.node.now c.args.node.now.what (demanded_at c.args.types.now c.args.ctxs.now c.args.demand) c.args.walk.now
     c.go_on.new.walk c.go_on.result (c.fresh-begun.ensures.opened c.args.ctxs.now) c.fresh-begun.ensures.left is c.go_on.ensures.state
 
 pub returns-in_ok-push-in-Conflict-clause-state : goal.returns-in_ok-push-in-Conflict-clause-state
-returns-in_ok-push-in-Conflict-clause-state c = λ s stands long.
+returns-in_ok-push-in-Conflict-clause-state c = λ s stands.
     let is : c.args.node.now.what ≡ whats.Conflict c.in-Conflict.field-0 c.in-Conflict.count = cc in
     let each : Demand = record { ctx = c.args.demand.ctx; mode = Syn } in
     stands_conflict c.args.types.now c.args.ctxs.now each c.in-Conflict.count c.in-Conflict.field-0 c.args.node.now c.args.node.now.what (demanded_at c.args.types.now c.args.ctxs.now c.args.demand) c.args.walk.now
@@ -29,7 +29,7 @@ returns-in_ok-push-in-Conflict-clause-frames c =
 
 pub returns-in-Hole : goal.returns-in-Hole
 returns-in-Hole c = record {
-  state = λ s stands long.
+  state = λ s stands.
       stands_leaf c.args.types.now c.args.ctxs.now c.nothing.result c.args.walk.now c.args.node.now c.args.node.now.what (demanded_at c.args.types.now c.args.ctxs.now c.args.demand) c.nothing.ensures.given c.in-Hole.is s stands;
   given = c.nothing.ensures.number;
   frames = c.requires.frames;

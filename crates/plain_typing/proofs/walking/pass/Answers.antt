@@ -1,7 +1,6 @@
 use Rattle.std.proofs.Common.{◌≡◌, ◌-◌, refl, arith}
 use Rattle.judging.specs.declared.frame.Frame.TheVariants.{Open, Several}
-use Rattle.judging.specs.Frames.{given_at}
-use Rattle.judging.proofs.Frames.{given_is, several_are}
+use Rattle.judging.proofs.Frames.{given_is, several_is, framed}
 use Rattle.plain_typing.proofs.Steps.{stands_filled, stands_several}
 use Rattle.plain_typing.proofs.walking.pass.Goals as goal
 
@@ -11,19 +10,18 @@ go_on-requires-clause-vertex c =
     given_is c.args.types.now c.args.ctxs.now c.args.frame.now c.in-Open.vertex c.fill.new.vertex c.args.given is c.fill.ensures c.requires.frame c.requires.given
 
 pub returns-then-left-gt1-clause-state : goal.returns-then-left-gt1-clause-state
-returns-then-left-gt1-clause-state c = λ nodes are noted.
+returns-then-left-gt1-clause-state c =
     let is : c.args.frame.now ≡ Several c.in-Several.demand c.in-Several.left = cc in
-    stands_several c.args.types.now c.args.ctxs.now c.args.frame.now c.in-Several.demand c.in-Several.left (given_at c.args.types.now c.args.given) c.args.walk.now _ nodes is (omega arith) c.in_ok-push-in-Several.ensures.items refl
-    are noted
+    stands_several c.args.types.now c.args.ctxs.now c.args.frame.now c.in-Several.demand c.in-Several.left c.args.given c.args.walk.now _ is (omega arith) c.in_ok-push-in-Several.ensures.items refl
 
 pub returns-then-left-gt1-clause-frames : goal.returns-then-left-gt1-clause-frames
 returns-then-left-gt1-clause-frames c =
     let is : c.args.frame.now ≡ Several c.in-Several.demand c.in-Several.left = cc in
-    several_are c.args.types.now c.args.ctxs.now c.args.frame.now c.in-Several.demand c.in-Several.left (c.in-Several.left - 1) c.args.walk.now.frames.items c.push.new.self.items is c.requires.frame c.requires.frames
-    c.in_ok-push-in-Several.ensures.items
+    framed c.args.types.now c.args.ctxs.now c.args.walk.now.frames.items c.push.new.self.items (Several c.in-Several.demand (c.in-Several.left - 1)) c.requires.frames
+    (several_is c.args.types.now c.args.ctxs.now c.args.frame.now c.in-Several.demand c.in-Several.left (c.in-Several.left - 1) is c.requires.frame) c.in_ok-push-in-Several.ensures.items
 
 pub returns-in-Open-clause-state : goal.returns-in-Open-clause-state
 returns-in-Open-clause-state c =
     let is : c.args.frame.now ≡ Open c.in-Open.vertex = cc in
-    stands_filled c.args.types.now c.go_on.new.types c.args.ctxs.now c.args.frame.now c.in-Open.vertex c.fill.new.vertex c.args.given c.args.walk.now c.go_on.new.walk c.go_on.result is c.fill.ensures c.requires.frame c.requires.given
+    stands_filled c.args.types.now c.go_on.new.types c.args.ctxs.now c.args.frame.now c.in-Open.vertex c.fill.new.vertex c.args.given c.args.walk.now c.go_on.new.walk c.go_on.result is c.fill.ensures c.requires.frame
     c.go_on.ensures.state
