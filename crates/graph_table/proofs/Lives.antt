@@ -1,5 +1,5 @@
 -- The insertions of an ascending list are the live edges of its graph.
-use Rattle.std.proofs.Common.{◌≡◌, Bool, true, false, cond, List, [], ◌∷◌, ◌||◌, refl, sym, ap, ◌∙◌}
+use Rattle.std.proofs.Common.{◌≡◌, Bool, true, false, cond, List, [], ◌∷◌, ◌||◌, refl, sym, ap, subst, ◌∙◌}
 use Rattle.std.specs.List.{AllByRecursion}
 use Rattle.std.specs.declared.cmp.Ordering.{Ordering}
 use Rattle.std.specs.declared.cmp.Ordering.TheVariants.{Less}
@@ -8,6 +8,7 @@ use Rattle.edge_lattice.specs.declared.state.State.{State}
 use Rattle.edge_lattice.specs.declared.state.State.TheVariants.{Absent, Live, Deleted}
 use Rattle.edge_lattice.specs.State.{state_join}
 use Rattle.edge_lattice.proofs.States.{Absent-state_join}
+use Rattle.grove_edits.specs.declared.vertex.Vertex.{Vertex}
 use Rattle.grove_edits.specs.declared.edge.Edge.{Edge}
 use Rattle.grove_edits.specs.declared.edit.Edit.{Edit}
 use Rattle.grove_edits.specs.declared.edit.EditKind.{EditKind}
@@ -18,7 +19,7 @@ use Rattle.grove_edits.specs.Graph.{graph, state_of, is_same_edge, Ascends}
 use Rattle.grove_edits.proofs.Orders.{edge_cmp_total, one_edge}
 use Rattle.walks.specs.Live.{IsInEdgeOrder, holds_edge}
 use Rattle.walks.specs.Whole.{AreLive}
-use Rattle.graph_table.specs.Table.{inserted, is_insertion}
+use Rattle.graph_table.specs.Table.{Table, inserted, live, is_insertion}
 
 -- what holds of the edge of each edit holds of each inserted edge
 pub inserted_all : (P : Edge → Type 0) (edits : List Edit) → AllByRecursion (λ edit. P (edit_edge edit)) edits → AllByRecursion P (inserted edits)
@@ -83,3 +84,7 @@ are_live edits up = record {
   each = λ e is. held_where_live edits up e ∙ ap is_live is;
   no_other = λ e held. live_from_test (graph edits e) (sym (held_where_live edits up e) ∙ held);
 }
+
+-- what a table holds is what its view shows
+pub live_in_view : (edits : List Edit) (vertices : List Vertex) (table : Table) → record { edits = edits; vertices = vertices } ≡ table → Ascends edits → AreLive (graph table.edits) (live table)
+live_in_view edits vertices table view up = subst (λ (t : Table). AreLive (graph t.edits) (live t)) view (are_live edits up)

@@ -1,4 +1,4 @@
--- The live edges around each vertex, by their indices.
+-- Inner model, which no public contract cites: the live edges around each vertex, by their indices, and how the code gathers them.
 use Rattle.std.specs.Prelude.{◌≡◌, ℕ, suc, Bool, ◌&&◌, List, [], ◌∷◌, ◌++◌, map, set, if◌then◌else◌}
 use Rattle.std.specs.List.{slice_index_or}
 use Rattle.grove_sorts.specs.declared.position.Position.{Position}

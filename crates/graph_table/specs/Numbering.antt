@@ -1,4 +1,4 @@
--- The vertices of some edits by number: a vertex's number is its index in a list in which each stands once.
+-- Inner model, which no public contract cites: the vertices of some edits by number. A vertex's number is its index in a list in which each stands once.
 use Rattle.std.specs.Prelude.{◌≡◌, ℕ, true, List, [], ◌∷◌, ◌++◌, Some, map, slice_get, if◌then◌else◌}
 use Rattle.std.specs.List.{IsDistinct}
 use Rattle.grove_edits.specs.declared.vertex.Vertex.{Vertex}

@@ -1,4 +1,4 @@
-ghost use Rattle.std.specs.Prelude.{◌≡◌, ◌++◌, ◌∷◌, [], OnOk};
+ghost use Rattle.std.specs.Prelude.{◌≡◌, ◌++◌, ◌∷◌, [], OnOk, OnErr};
 ghost use Rattle.graph_table.specs.Around.{no_neighbours, with_parent, indices_at};
 
 use crate::child::Child;
@@ -74,15 +74,21 @@ impl Around {
         self.parents
     }
 
-    /// Puts the indices of the children that have a position into a list, in place of what it had.
+    /// Puts the indices of the children that have a position into a list, in place of what it had. Where memory runs out, the list is
+    /// empty.
     pub(crate) fn children_at(
         &self,
         position: Position,
         out: &mut Vec<usize>,
     ) -> Result<(), NoMemory>
-        ensures { OnOk result (out.new.items ≡ indices_at position self.now.children) }
+        ensures indices { OnOk result (out.new.items ≡ indices_at position self.now.children) }
+        ensures nothing { OnErr result (out.new.items ≡ []) }
     {
         out.clear();
-        push_indices(&self.children, position, out)
+        let pushed = push_indices(&self.children, position, out);
+        if pushed.is_err() {
+            out.clear();
+        }
+        pushed
     }
 }

@@ -1,4 +1,4 @@
-ghost use Rattle.std.specs.Prelude.{◌≡◌, ◌<◌, true, length, map, IfOk, OnOk, IfSome, IsSome};
+ghost use Rattle.std.specs.Prelude.{◌≡◌, ◌<◌, true, [], length, map, IfOk, OnOk, OnErr, IfSome, IsSome};
 ghost use Rattle.std.specs.List.{AllByRecursion, IsDistinct};
 ghost use Rattle.grove_edits.specs.declared.vertex.Vertex.{Vertex};
 ghost use Rattle.grove_edits.specs.Graph.{graph, Ascends};
@@ -111,16 +111,18 @@ impl GraphTable {
         self.targets[index]
     }
 
-    /// The live edges to the vertex with a number.
+    /// The live edges to the vertex with a number: the least two in edge order, or fewer where there are fewer.
     pub fn parents(&self, number: usize) -> Parents
         requires { IsNumber self.now number }
         ensures edges { few_at self.now result ≡ first_two (parents_of (vertex_at self.now number) (live self.now)) }
         ensures indices { AreIndices self.now result }
+        ensures live { AreLive (graph self.now.edits) (live self.now) }
     {
         self.around[number].parents()
     }
 
-    /// Puts the indices of the live edges from a position into a list, in place of what it had, in edge order.
+    /// Puts the indices of the live edges from a position into a list, in place of what it had, in edge order. Where memory runs out,
+    /// the list is empty.
     pub fn children(
         &self,
         number: usize,
@@ -130,6 +132,8 @@ impl GraphTable {
         requires { IsNumber self.now number }
         ensures edges { OnOk result (map (edge_at self.now) out.new.items ≡ children_of (vertex_at self.now number) position (live self.now)) }
         ensures indices { OnOk result (AllByRecursion (IsIndex self.now) out.new.items) }
+        ensures nothing { OnErr result (out.new.items ≡ []) }
+        ensures live { AreLive (graph self.now.edits) (live self.now) }
     {
         self.around[number].children_at(position, out)
     }

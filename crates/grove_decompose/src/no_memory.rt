@@ -26,8 +26,50 @@ impl<T: Drop> From<AllocFailed<T>> for NoMemory {
     }
 }
 
+impl From<grove_names::NoMemory> for NoMemory {
+    fn from(_error: grove_names::NoMemory) -> NoMemory {
+        NoMemory
+    }
+}
+
+impl From<grove_sorts::NoMemory> for NoMemory {
+    fn from(_error: grove_sorts::NoMemory) -> NoMemory {
+        NoMemory
+    }
+}
+
+impl From<grove_edits::NoMemory> for NoMemory {
+    fn from(_error: grove_edits::NoMemory) -> NoMemory {
+        NoMemory
+    }
+}
+
 impl From<graph_store::NoMemory> for NoMemory {
     fn from(_error: graph_store::NoMemory) -> NoMemory {
+        NoMemory
+    }
+}
+
+impl From<graph_table::NoMemory> for NoMemory {
+    fn from(_error: graph_table::NoMemory) -> NoMemory {
+        NoMemory
+    }
+}
+
+impl From<edge_index::NoMemory> for NoMemory {
+    fn from(_error: edge_index::NoMemory) -> NoMemory {
+        NoMemory
+    }
+}
+
+impl From<parent_index::NoMemory> for NoMemory {
+    fn from(_error: parent_index::NoMemory) -> NoMemory {
+        NoMemory
+    }
+}
+
+impl From<child_index::NoMemory> for NoMemory {
+    fn from(_error: child_index::NoMemory) -> NoMemory {
         NoMemory
     }
 }
@@ -40,12 +82,6 @@ impl From<unicycle_roots::NoMemory> for NoMemory {
 
 impl From<grove_terms::NoMemory> for NoMemory {
     fn from(_error: grove_terms::NoMemory) -> NoMemory {
-        NoMemory
-    }
-}
-
-impl From<graph_table::NoMemory> for NoMemory {
-    fn from(_error: graph_table::NoMemory) -> NoMemory {
         NoMemory
     }
 }

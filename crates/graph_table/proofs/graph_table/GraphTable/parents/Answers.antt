@@ -1,6 +1,7 @@
 use Rattle.std.proofs.Common.{◌∙◌, ap, subst}
 use Rattle.graph_table.specs.Table.{Table, few_at}
 use Rattle.graph_table.specs.Around.{IsTable}
+use Rattle.graph_table.proofs.Lives.{live_in_view}
 use Rattle.graph_table.proofs.Readings.{parents_told, kept_in_view}
 use Rattle.graph_table.proofs.Told.{indices_kept}
 use Rattle.graph_table.proofs.graph_table.GraphTable.parents.Goals as goal
@@ -17,3 +18,6 @@ returns-clause-indices c =
     let is : IsTable c.args.self.now.edits c.args.self.now.vertices inside.targets.items inside.around.items =
     subst (λ (t : Table). IsTable t.edits t.vertices inside.targets.items inside.around.items) c.self.view_is c.self.invariant in
     indices_kept c.args.self.now inside.targets.items inside.around.items is c.args.number c.index.result.now c.parents.result c.requires c.index.ensures c.parents.ensures
+
+pub returns-clause-live : goal.returns-clause-live
+returns-clause-live c = live_in_view c.self.inside.edits c.self.inside.numbers.keys c.args.self.now c.self.view_is c.self.invariant.in_order
