@@ -22,3 +22,6 @@ pub use no_memory::NoMemory;
 pub use node::{Node, What};
 pub use tree::Tree;
 pub use tree_list::TreeList;
+
+#[cfg(test)]
+mod tests;
