@@ -49,7 +49,7 @@ fn sum(alloc: Global) -> Result<GraphTable, Fail> {
         )?,
         edit(EditKind::Insert, 2, Vertex::ROOT, Position::Main, plus)?,
     ])?;
-    Ok(GraphTable::of(alloc, list.into_canonical(alloc)?)?)
+    Ok(GraphTable::of(alloc, list.into_canonical())?)
 }
 
 #[test]

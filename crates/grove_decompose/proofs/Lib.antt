@@ -8,3 +8,4 @@ pub mod Mapped
 pub mod Listing
 pub mod Noted
 pub mod ByNumber
+pub mod Inserted
