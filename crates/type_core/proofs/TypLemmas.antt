@@ -1,26 +1,27 @@
 -- Laws of consistency, meet and precision.
-use Rattle.std.proofs.Common.{◌≡◌, Bool, true, false, ◌&&◌, Option, None, Some, is_some, refl, sym, ap, ◌∙◌, subst, true≢false, if◌then◌else◌, option_and_then, IfSome}
-use Rattle.std.proofs.lemmas.Bool.{false≢true}
+use Rattle.std.proofs.Common.{◌≡◌, Bool, true, false, ◌&&◌, Option, None, Some, is_some, ◌⊎◌, inl, inr, refl, sym, ap, ◌∙◌, subst, true≢false, if◌then◌else◌, option_and_then, IfSome}
+use Rattle.std.proofs.lemmas.Bool.{cases_Bool, false≢true}
 use Rattle.std.specs.Option.{IsSomeAnd}
 use Rattle.type_core.specs.declared.former.Former.{Former}
-use Rattle.type_core.specs.declared.former.Former.TheVariants.{Arrow, Product}
+use Rattle.type_core.specs.declared.former.Former.TheVariants.{Arrow, Product, Sum}
 use Rattle.type_core.specs.Typ.{Typ, Unknown, Num, Boolean, Pair, is_same_former, is_consistent, pair_both, meet, is_below}
 
 pub is_same_former-same : (f : Former) → is_same_former f f ≡ true
 is_same_former-same Arrow = refl
 is_same_former-same Product = refl
+is_same_former-same Sum = refl
 
 is_same_former-sym : (f g : Former) → is_same_former f g ≡ is_same_former g f
 is_same_former-sym Arrow Arrow = refl
-is_same_former-sym Arrow Product = refl
-is_same_former-sym Product Arrow = refl
 is_same_former-sym Product Product = refl
+is_same_former-sym Sum Sum = refl
+is_same_former-sym _ _ = refl
 
 former_from_same : (f g : Former) → is_same_former f g ≡ true → f ≡ g
 former_from_same Arrow Arrow h = refl
-former_from_same Arrow Product h = absurd (false≢true h)
-former_from_same Product Arrow h = absurd (false≢true h)
 former_from_same Product Product h = refl
+former_from_same Sum Sum h = refl
+former_from_same _ _ h = absurd (false≢true h)
 
 pub is_consistent-same : (t : Typ) → is_consistent t t ≡ true
 is_consistent-same Unknown = refl
@@ -100,9 +101,9 @@ meet_pairs f g o p = if is_same_former f g then pair_both f o p else None
 
 meet_pairs-comm : (f g : Former) (o p : Option Typ) → meet_pairs f g o p ≡ meet_pairs g f o p
 meet_pairs-comm Arrow Arrow o p = refl
-meet_pairs-comm Arrow Product o p = refl
-meet_pairs-comm Product Arrow o p = refl
 meet_pairs-comm Product Product o p = refl
+meet_pairs-comm Sum Sum o p = refl
+meet_pairs-comm _ _ o p = refl
 
 pub meet-comm : (s t : Typ) → meet s t ≡ meet t s
 meet-comm (Pair f a b) (Pair g c d) =
@@ -158,36 +159,45 @@ same_parts-assoc f a b c d x y p q =
     and_then-parts f (meet a c) (meet b d) x y ∙ ap (λ o. pair_both f o (meet_left b d y)) p ∙ ap (pair_both f (meet_right a c x)) q
     ∙ sym (then_parts f (meet c x) (meet d y) a b)
 
-pairs-assoc : (f g h : Former) (a b c d x y : Typ) → meet_left a c x ≡ meet_right a c x → meet_left b d y ≡ meet_right b d y
-    → meet_left (Pair f a b) (Pair g c d) (Pair h x y) ≡ meet_right (Pair f a b) (Pair g c d) (Pair h x y)
-pairs-assoc Arrow Arrow Arrow a b c d x y p q = same_parts-assoc Arrow a b c d x y p q
-pairs-assoc Product Product Product a b c d x y p q = same_parts-assoc Product a b c d x y p q
-pairs-assoc Arrow Arrow Product a b c d x y p q = by (meet a c) (meet b d)
-  where
-    by : (o p : Option Typ) → option_and_then (λ m. meet m (Pair Product x y)) (pair_both Arrow o p) ≡ None
-    by None p = refl
-    by (Some s) None = refl
-    by (Some s) (Some t) = refl
-pairs-assoc Product Product Arrow a b c d x y p q = by (meet a c) (meet b d)
-  where
-    by : (o p : Option Typ) → option_and_then (λ m. meet m (Pair Arrow x y)) (pair_both Product o p) ≡ None
-    by None p = refl
-    by (Some s) None = refl
-    by (Some s) (Some t) = refl
-pairs-assoc Arrow Product Product a b c d x y p q = sym (by (meet c x) (meet d y))
-  where
-    by : (o p : Option Typ) → option_and_then (meet (Pair Arrow a b)) (pair_both Product o p) ≡ None
-    by None p = refl
-    by (Some s) None = refl
-    by (Some s) (Some t) = refl
-pairs-assoc Product Arrow Arrow a b c d x y p q = sym (by (meet c x) (meet d y))
-  where
-    by : (o p : Option Typ) → option_and_then (meet (Pair Product a b)) (pair_both Arrow o p) ≡ None
-    by None p = refl
-    by (Some s) None = refl
-    by (Some s) (Some t) = refl
-pairs-assoc Arrow Product Arrow a b c d x y p q = refl
-pairs-assoc Product Arrow Product a b c d x y p q = refl
+-- a type of one form has no meet with one of another
+other_form_right : (f h : Former) (o p : Option Typ) (x y : Typ) → is_same_former f h ≡ false → option_and_then (λ m. meet m (Pair h x y)) (pair_both f o p) ≡ None
+other_form_right f h None p x y e = refl
+other_form_right f h (Some s) None x y e = refl
+other_form_right f h (Some s) (Some t) x y e = ap (λ same. if same then pair_both f (meet s x) (meet t y) else None) e
+
+other_form_left : (f g : Former) (o p : Option Typ) (a b : Typ) → is_same_former f g ≡ false → option_and_then (meet (Pair f a b)) (pair_both g o p) ≡ None
+other_form_left f g None p a b e = refl
+other_form_left f g (Some s) None a b e = refl
+other_form_left f g (Some s) (Some t) a b e = ap (λ same. if same then pair_both f (meet a s) (meet b t) else None) e
+
+module _ (f g h : Former) (a b c d x y : Typ) where
+  -- both sides, by whether the forms agree
+  abbrev left : Bool → Option Typ
+  left same = option_and_then (λ m. meet m (Pair h x y)) (if same then pair_both f (meet a c) (meet b d) else None)
+
+  abbrev right : Bool → Option Typ
+  right same = option_and_then (meet (Pair f a b)) (if same then pair_both g (meet c x) (meet d y) else None)
+
+  none_right : (same : Bool) → is_same_former f g ≡ false → right same ≡ None
+  none_right true e = other_form_left f g (meet c x) (meet d y) a b e
+  none_right false e = refl
+
+  pairs-assoc : meet_left a c x ≡ meet_right a c x → meet_left b d y ≡ meet_right b d y
+      → meet_left (Pair f a b) (Pair g c d) (Pair h x y) ≡ meet_right (Pair f a b) (Pair g c d) (Pair h x y)
+  pairs-assoc p q = by (cases_Bool (is_same_former f g)) (cases_Bool (is_same_former g h))
+    where
+      all_same : f ≡ g → g ≡ h → left true ≡ right true
+      all_same e i =
+          subst (λ k. option_and_then (λ m. meet m (Pair k x y)) (pair_both f (meet a c) (meet b d)) ≡ option_and_then (meet (Pair f a b)) (pair_both g (meet c x) (meet d y))) i
+          (subst (λ k. option_and_then (λ m. meet m (Pair k x y)) (pair_both f (meet a c) (meet b d)) ≡ option_and_then (meet (Pair f a b)) (pair_both k (meet c x) (meet d y))) e
+          (same_parts-assoc f a b c d x y p q))
+
+      by : (is_same_former f g ≡ true) ⊎ (is_same_former f g ≡ false) → (is_same_former g h ≡ true) ⊎ (is_same_former g h ≡ false)
+          → left (is_same_former f g) ≡ right (is_same_former g h)
+      by (inl e) (inl i) = ap left e ∙ all_same (former_from_same f g e) (former_from_same g h i) ∙ sym (ap right i)
+      by (inl e) (inr i) =
+          ap left e ∙ other_form_right f h (meet a c) (meet b d) x y (ap (λ k. is_same_former k h) (former_from_same f g e) ∙ i) ∙ sym (ap right i)
+      by (inr e) _ = ap left e ∙ sym (none_right (is_same_former g h) e)
 
 pub meet-assoc : (s t u : Typ) → option_and_then (λ m. meet m u) (meet s t) ≡ option_and_then (λ m. meet s m) (meet t u)
 meet-assoc (Pair f a b) (Pair g c d) (Pair h x y) =
@@ -230,11 +240,18 @@ pairs_below f None p a b c d x y = tt
 pairs_below f (Some m) None a b c d x y = tt
 pairs_below f (Some m) (Some n) a b c d x y = (is_below-pairs f m n a b x.0 y.0, is_below-pairs f m n c d x.1 y.1)
 
+meet_pairs_below : (f g : Former) (o p : Option Typ) (a b c d : Typ) → IfSome o (IsBelowBoth a c) → IfSome p (IsBelowBoth b d)
+    → IfSome (meet_pairs f g o p) (IsBelowBoth (Pair f a b) (Pair g c d))
+meet_pairs_below f g o p a b c d x y = by (cases_Bool (is_same_former f g))
+  where
+    by : (is_same_former f g ≡ true) ⊎ (is_same_former f g ≡ false) → IfSome (meet_pairs f g o p) (IsBelowBoth (Pair f a b) (Pair g c d))
+    by (inl e) =
+        subst (λ same. IfSome (if same then pair_both f o p else None) (IsBelowBoth (Pair f a b) (Pair g c d))) (sym e)
+        (subst (λ k. IfSome (pair_both f o p) (IsBelowBoth (Pair f a b) (Pair k c d))) (former_from_same f g e) (pairs_below f o p a b c d x y))
+    by (inr e) = subst (λ same. IfSome (if same then pair_both f o p else None) (IsBelowBoth (Pair f a b) (Pair g c d))) (sym e) tt
+
 pub meet-below : (s t : Typ) → IfSome (meet s t) (IsBelowBoth s t)
-meet-below (Pair Arrow a b) (Pair Arrow c d) = pairs_below Arrow (meet a c) (meet b d) a b c d (meet-below a c) (meet-below b d)
-meet-below (Pair Product a b) (Pair Product c d) = pairs_below Product (meet a c) (meet b d) a b c d (meet-below a c) (meet-below b d)
-meet-below (Pair Arrow a b) (Pair Product c d) = tt
-meet-below (Pair Product a b) (Pair Arrow c d) = tt
+meet-below (Pair f a b) (Pair g c d) = meet_pairs_below f g (meet a c) (meet b d) a b c d (meet-below a c) (meet-below b d)
 meet-below Unknown t = (is_below-unknown t, is_below-same t)
 meet-below Num Unknown = (refl, refl)
 meet-below Boolean Unknown = (refl, refl)

@@ -1,7 +1,7 @@
 -- Types as finite trees: consistency, meet, precision, matched forms and text.
 use Rattle.std.specs.Prelude.{ℕ, ◌-◌, ◌==◌, Bool, true, false, ◌&&◌, if◌then◌else◌, List, ◌++◌, Option, None, Some, codes}
 use Rattle.type_core.specs.declared.former.Former.{Former}
-use Rattle.type_core.specs.declared.former.Former.TheVariants.{Arrow, Product}
+use Rattle.type_core.specs.declared.former.Former.TheVariants.{Arrow, Product, Sum}
 
 pub data Typ : Type 0 where
   Unknown : Typ
@@ -17,6 +17,7 @@ IsAtom _ = Unit {0}
 abbrev pub is_same_former : Former → Former → Bool
 is_same_former Arrow Arrow = true
 is_same_former Product Product = true
+is_same_former Sum Sum = true
 is_same_former _ _ = false
 
 -- the unknown type is consistent with every type, a base type with itself, and two types of one form where both parts are
@@ -60,6 +61,7 @@ is_below _ _ = false
 abbrev pub sign : Former → List ℕ
 sign Arrow = codes "->"
 sign Product = codes "*"
+sign Sum = codes "+"
 
 -- the text of a type down to so many levels of parts: below them it is `..`
 abbrev pub type_text : ℕ → Typ → List ℕ

@@ -3,12 +3,13 @@ use Rattle.std.specs.Prelude.{◌≡◌, ℕ, suc, zero, List, [], ◌∷◌, �
 use Rattle.std.specs.Coded.{Coded, code_by, coded_ℕ, coded_list}
 use Rattle.std.proofs.Common.{sym, ap, ◌∙◌, append_assoc, append-nil}
 use Rattle.type_core.specs.declared.former.Former.{Former}
-use Rattle.type_core.specs.declared.former.Former.TheVariants.{Arrow, Product}
+use Rattle.type_core.specs.declared.former.Former.TheVariants.{Arrow, Product, Sum}
 use Rattle.type_core.specs.Typ.{Typ, Unknown, Num, Boolean, Pair}
 
 abbrev pub former_number : Former → ℕ
 former_number Arrow = 3
 former_number Product = 4
+former_number Sum = 5
 
 abbrev pub written : Typ → List ℕ
 written Unknown = 0 ∷ []
@@ -25,7 +26,8 @@ step zero stack = Unknown ∷ stack
 step (suc zero) stack = Num ∷ stack
 step (suc (suc zero)) stack = Boolean ∷ stack
 step (suc (suc (suc zero))) stack = pair_top Arrow stack
-step (suc (suc (suc (suc _)))) stack = pair_top Product stack
+step (suc (suc (suc (suc zero)))) stack = pair_top Product stack
+step (suc (suc (suc (suc (suc _))))) stack = pair_top Sum stack
 
 abbrev pub run : List ℕ → List Typ → List Typ
 run [] stack = stack
@@ -38,6 +40,7 @@ first (t ∷ _) = t
 run-former : (f : Former) (a b : Typ) (rest : List ℕ) (stack : List Typ) → run (former_number f ∷ rest) (b ∷ (a ∷ stack)) ≡ run rest (Pair f a b ∷ stack)
 run-former Arrow a b rest stack = refl
 run-former Product a b rest stack = refl
+run-former Sum a b rest stack = refl
 
 run-written : (t : Typ) (rest : List ℕ) (stack : List Typ) → run (written t ++ rest) stack ≡ run rest (t ∷ stack)
 run-written Unknown rest stack = refl

@@ -5,4 +5,6 @@ pub enum Former {
     Arrow,
     /// Pairs of the first part and the second.
     Product,
+    /// A value of the first part or one of the second, marked as which.
+    Sum,
 }

@@ -134,6 +134,19 @@ impl TypeTable {
         self.pair(Former::Product, left, right)
     }
 
+    /// The number of the type of values of `left` or of `right`, which is added where the table has no such type yet.
+    pub fn sum(&mut self, left: TypeId, right: TypeId) -> Result<TypeId, NoMemory>
+        requires left { IsTypeOf self.old left }
+        requires right { IsTypeOf self.old right }
+        ensures number { IfOk result (IsTypeOf self.new) }
+        ensures typ { IfOk result (λ id. type_at self.new id ≡ typ.Pair Former.Sum (type_at self.old left) (type_at self.old right)) }
+        ensures added { OnOk result (HasAdded (typ.Pair Former.Sum (type_at self.old left) (type_at self.old right)) self.old self.new) }
+        ensures kept { KeepsTypes self.old self.new }
+        ensures unchanged { OnErr result (self.new ≡ self.old) }
+    {
+        self.pair(Former::Sum, left, right)
+    }
+
     /// The parts of `t` as a function, from and to: the unknown type counts as a function between unknown types.
     pub fn matched_arrow(&self, t: TypeId) -> Option<(TypeId, TypeId)>
         requires { IsTypeOf self.now t }
@@ -150,6 +163,15 @@ impl TypeTable {
         ensures numbers { IfSome result (λ p. IsTypeOf self.now p.0 × IsTypeOf self.now p.1) }
     {
         self.matched_parts(Former::Product, t)
+    }
+
+    /// The parts of `t` as a sum, left and right: the unknown type counts as a sum of unknown types.
+    pub fn matched_sum(&self, t: TypeId) -> Option<(TypeId, TypeId)>
+        requires { IsTypeOf self.now t }
+        ensures parts { option_map (λ p. (type_at self.now p.0, type_at self.now p.1)) result ≡ typ.matched_parts Former.Sum (type_at self.now t) }
+        ensures numbers { IfSome result (λ p. IsTypeOf self.now p.0 × IsTypeOf self.now p.1) }
+    {
+        self.matched_parts(Former::Sum, t)
     }
 
     fn matched_parts(&self, former: Former, t: TypeId) -> Option<(TypeId, TypeId)>

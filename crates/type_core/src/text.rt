@@ -27,7 +27,7 @@ enum Form {
 }
 
 impl TypeTable {
-    /// Appends the text of a type: `?`, `num`, `bool`, `(A->B)` or `(A*B)`. A type with parts below so many levels is `..`. The
+    /// Appends the text of a type: `?`, `num`, `bool`, `(A->B)`, `(A*B)` or `(A+B)`. A type with parts below so many levels is `..`. The
     /// memory of the walk is that of `out`.
     pub fn write_type(&self, t: TypeId, levels: u32, out: &mut Vec<u8>) -> Result<(), NoMemory>
         requires { IsTypeOf self.now t }
@@ -84,6 +84,7 @@ impl TypeTable {
         match piece {
             Piece::Sign(Former::Arrow) => Form::Fixed(b"->"),
             Piece::Sign(Former::Product) => Form::Fixed(b"*"),
+            Piece::Sign(Former::Sum) => Form::Fixed(b"+"),
             Piece::Close => Form::Fixed(b")"),
             Piece::Whole(id, levels) => match self.node(id) {
                 Node::Unknown => Form::Fixed(b"?"),
