@@ -37,7 +37,7 @@ false_from b refuted = elim b as (λ x. b ≡ x → x ≡ false) [ true ↦ λ i
 
 module _ {K : Type 0} (cmp : K → K → Ordering) (o : IsTotalOrder cmp) where
   -- keys that tie find the same
-  pub lookup-tied : (q k : K) (lists : ListsByKey K) → cmp q k ≡ Equal → lookup (is_at (cmp q)) lists ≡ lookup (is_at (cmp k)) lists
+  pub lookup-tied : {X : Type 0} (q k : K) (lists : List (K × X)) → cmp q k ≡ Equal → lookup (is_at (cmp q)) lists ≡ lookup (is_at (cmp k)) lists
   lookup-tied q k [] tie = refl
   lookup-tied q k (entry ∷ lists) tie =
       ap (λ r. cond (is_eq r) (Some entry.1) (lookup (is_at (cmp q)) lists)) (o.congr q k entry.0 tie)

@@ -28,7 +28,7 @@ module _ {K : Type 0} {eq : K → K → Bool} (cmp : K → K → Ordering) (matc
   pub lookup-equal : {X : Type 0} (k : K) (lists : List (K × X)) → lookup (eq k) lists ≡ lookup (is_at (cmp k)) lists
   lookup-equal k lists = ap (λ (test : K → K → Bool). lookup (test k) lists) tests
 
-  changed_from_updates : {X : Type 0} (k : K) (new : X) (before after : List (K × X)) → ((q : K) → lookup (eq q) after ≡ cond (eq k q) (Some new) (lookup (eq q) before))
+  pub changed_from_updates : {X : Type 0} (k : K) (new : X) (before after : List (K × X)) → ((q : K) → lookup (eq q) after ≡ cond (eq k q) (Some new) (lookup (eq q) before))
       → (q : K) → lookup (is_at (cmp q)) after ≡ cond (is_at (cmp k) q) (Some new) (lookup (is_at (cmp q)) before)
   changed_from_updates k new before after =
       subst (λ (test : K → K → Bool). (q : K) → lookup (test q) after ≡ cond (test k q) (Some new) (lookup (test q) before)) tests

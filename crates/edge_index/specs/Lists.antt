@@ -14,9 +14,13 @@ pub record Indexed (K : Type 0) : Type 0 where
 abbrev pub live : {K : Type 0} → Indexed K → List Edge
 live index = index.edges
 
+-- the number of a key, which is 0 where it has none
+abbrev pub number_at : {K : Type 0} → (K → K → Ordering) → List (K × ℕ) → K → ℕ
+number_at cmp numbers k = unwrap_or (lookup (is_at (cmp k)) numbers) 0
+
 -- for how many further edges there is room at a key
 abbrev pub room_at : {K : Type 0} → (K → K → Ordering) → Indexed K → K → ℕ
-room_at cmp index k = unwrap_or (lookup (is_at (cmp k)) index.rooms) 0
+room_at cmp index k = number_at cmp index.rooms k
 
 -- of the edges, those with a key
 abbrev pub with_key : {K : Type 0} → (K → K → Ordering) → (Edge → K) → K → List Edge → List Edge

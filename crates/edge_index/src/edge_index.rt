@@ -1,7 +1,7 @@
-ghost use Rattle.std.specs.Prelude.{◌≡◌, ◌+◌, ◌<◌, ◌≤◌, [], true, false, if◌then◌else◌, count_by, length, OnOk};
+ghost use Rattle.std.specs.Prelude.{◌≡◌, ◌+◌, ◌<◌, ◌≤◌, [], true, false, if◌then◌else◌, count_by, length, IfOk, OnOk};
 ghost use Rattle.std.specs.Ordering.{is_eq};
 ghost use Rattle.walks.specs.Live.{IsInEdgeOrder, holds_edge};
-ghost use Rattle.edge_index.specs.Lists.{live, room_at, with_key, keys_of_edges};
+ghost use Rattle.edge_index.specs.Lists.{live, room_at, number_at, with_key, keys_of_edges};
 ghost use Rattle.edge_index.specs.Ordered.{with_edge, without_edge};
 
 use crate::in_order::{EdgesInOrder, make_room, put, take_out};
@@ -10,7 +10,6 @@ use grove_edits::Edge;
 use indexmap::IndexMap;
 use smallvec::SmallVec;
 use std::alloc::Global;
-use std::cmp::Ordering;
 use std::hash::Hash;
 use std::marker::Model;
 
@@ -42,13 +41,16 @@ impl<K: Keyed> Model for EdgeIndex<K> {
     ghost invariant = { λ index. IsByKey K.cmp K.key index.lists.entries };
 }
 
-fn count_with_key<K: Keyed>(edges: &[Edge], key: &K) -> usize
-    ensures { result ≡ count_by (λ e. is_eq (K.cmp (K.key e) key.now)) edges.now }
+/// Counts a key once more, and tells how often it was counted.
+fn count_once_more<K: Keyed>(counts: &mut IndexMap<K, usize>, key: K) -> Result<usize, NoMemory>
+    ensures counts { OnOk result ((k : K) → number_at K.cmp counts.new.entries k ≡ number_at K.cmp counts.old.entries k + (if is_eq (K.cmp key k) then 1 else 0)) }
+    ensures count { IfOk result (λ count. count ≡ number_at K.cmp counts.new.entries key) }
 {
-    edges
-        .iter()
-        .filter(|edge| K::of(*edge).cmp(key) == Ordering::Equal)
-        .count()
+    let before = counts.get(&key).copied().unwrap_or(0);
+    // No memory holds more edges than a number counts.
+    let count = before.checked_add(1).ok_or(NoMemory)?;
+    counts.insert(key, count)?;
+    Ok(count)
 }
 
 impl<K: Keyed> EdgeIndex<K> {
@@ -95,15 +97,16 @@ impl<K: Keyed> EdgeIndex<K> {
         Ok(())
     }
 
-    /// Makes room for adding each of these edges once. They are to be few: its time grows with the square of their number.
+    /// Makes room for adding each of these edges once.
     pub fn reserve_for(&mut self, edges: &[Edge]) -> Result<(), NoMemory>
         ensures room { OnOk result ((k : K) → count_by (λ e. is_eq (K.cmp (K.key e) k)) edges.now ≤ room_at K.cmp self.new k) }
         ensures unchanged { live self.new ≡ live self.old }
         ensures room_stays { (k : K) → room_at K.cmp self.old k ≤ room_at K.cmp self.new k }
     {
-        for index in 0..edges.len() {
-            let key = K::of(&edges[index]);
-            let count = count_with_key(&edges[..index + 1], &key);
+        let mut counts = IndexMap::new(self.alloc);
+        for edge in edges {
+            let key = K::of(edge);
+            let count = count_once_more(&mut counts, key)?;
             self.reserve(&key, count)?;
         }
         Ok(())
