@@ -1,26 +1,27 @@
--- The keys at which an index keeps an edge are the keys of the edges that it holds.
-use Rattle.std.proofs.Common.{◌≡◌, suc, ◌≤◌, Bool, true, false, cond, List, [], ◌∷◌, length, refl, sym, ap, ◌∙◌, arith}
-use Rattle.std.specs.Prelude.{◌||◌, ◌==◌, not, filter, Some}
-use Rattle.std.specs.List.{AllByRecursion, IsDistinct}
-use Rattle.std.specs.Map.{lookup, keys_of, values_of}
+-- How many keys the edges of an index have, with one edge more and with one fewer.
+use Rattle.std.proofs.Common.{◌≡◌, ◌+◌, suc, ◌≤◌, Bool, true, false, cond, List, [], ◌∷◌, length, refl, sym, ap, ◌∙◌, arith}
+use Rattle.std.specs.Prelude.{◌&&◌, ◌||◌, ◌==◌, not, Some}
+use Rattle.std.specs.Int.{from_bool}
+use Rattle.std.specs.Map.{lookup, keys_of}
 use Rattle.std.specs.BTreeMap.{is_at}
 use Rattle.std.specs.declared.cmp.Ordering.{Ordering}
 use Rattle.std.specs.declared.cmp.Ordering.TheVariants.{Less, Equal, Greater}
-use Rattle.std.specs.Ordering.{is_eq, ordering_reverse, eq_by_cmp}
+use Rattle.std.specs.Ordering.{is_eq, ordering_reverse}
 use Rattle.std.specs.Cmp.{IsTotalOrder}
 use Rattle.std.proofs.Math.Dec.{eqb-suc-zero}
 use Rattle.std.proofs.lemmas.Cmp.{tied_itself}
-use Rattle.std.proofs.lemmas.List.Sums.{length-filter}
-use Rattle.std.proofs.lemmas.Map.Keys.{IsDistinct-head, IsDistinct-tail}
 use Rattle.smallvec.specs.SmallVec.{SmallVec, small_vec_len}
 use Rattle.grove_sorts.proofs.Orders.{equal_from_test}
 use Rattle.grove_edits.specs.declared.edge.Edge.{Edge}
+use Rattle.grove_edits.specs.Edge.{edge_cmp}
 use Rattle.grove_edits.specs.Graph.{is_same_edge}
-use Rattle.grove_edits.proofs.Orders.{one_edge, same_edge_laws}
-use Rattle.walks.specs.Live.{holds_edge}
-use Rattle.edge_index.specs.Lists.{stands_among, keys_of_edges}
-use Rattle.edge_index.specs.ByKey.{ListsByKey, edges_of, edges_at, all_edges, used_keys, IsByKey}
-use Rattle.edge_index.proofs.Lookups.{lookup-tied, none_in_tail, holds-all_edges}
+use Rattle.grove_edits.proofs.Orders.{edge_cmp_exact, one_edge, same_edge_laws}
+use Rattle.walks.specs.Live.{IsInEdgeOrder, holds_edge}
+use Rattle.edge_index.specs.Lists.{with_key, stands_among, keys_of_edges}
+use Rattle.edge_index.specs.Ordered.{put_before, with_edge, without_edge}
+use Rattle.edge_index.specs.ByKey.{ListsByKey, edges_of, edges_at, all_edges, IsByKey}
+use Rattle.edge_index.proofs.Ordered.{holds-with_edge, holds-filter, in_order-with_edge, in_order-filter, same_lists}
+use Rattle.edge_index.proofs.Lookups.{edges_at-with_key, in_order-all_edges}
 
 or-true : (b : Bool) → (b || true) ≡ true
 or-true true = refl
@@ -30,21 +31,32 @@ neither : (a b : Bool) → (a || b) ≡ false → (a ≡ false) × (b ≡ false)
 neither true b h = absurd cc
 neither false b h = (refl, h)
 
--- a list with an edge
-abbrev some_edge : SmallVec Edge → Bool
-some_edge list = not (small_vec_len list == 0)
+pub from_bool-le : (b : Bool) → from_bool b ≤ 1
+from_bool-le true = omega arith
+from_bool-le false = omega arith
 
-some_edge_from : (e : Edge) (list : SmallVec Edge) → holds_edge e list.items ≡ true → some_edge list ≡ true
-some_edge_from e list held = go list.items held where
-  go : (xs : List Edge) → holds_edge e xs ≡ true → not (length xs == 0) ≡ true
-  go [] h = absurd cc
-  go (x ∷ xs) h = ap not (eqb-suc-zero (length xs))
+or_again : (a b : Bool) → (a || b) ≡ (a || (a || b))
+or_again true b = refl
+or_again false b = refl
 
-first_edge : (list : SmallVec Edge) → some_edge list ≡ true → (e : Edge) × (holds_edge e list.items ≡ true)
-first_edge list some = go list.items some where
-  go : (xs : List Edge) → not (length xs == 0) ≡ true → (e : Edge) × (holds_edge e xs ≡ true)
-  go [] h = absurd cc
-  go (x ∷ xs) h = (x, ap (λ b. b || holds_edge x xs) (same_edge_laws.refl x))
+or_swap : (a b c : Bool) → (a || (b || c)) ≡ (b || (a || c))
+or_swap true true c = refl
+or_swap true false c = refl
+or_swap false b c = refl
+
+-- ---- an edge taken out of a list and put back
+
+held_again : (e x : Edge) (xs : List Edge) → holds_edge e xs ≡ true → holds_edge x xs ≡ (is_same_edge e x || (not (is_same_edge x e) && holds_edge x xs))
+held_again e x xs held =
+    elim (is_same_edge e x) as (λ b. is_same_edge e x ≡ b → holds_edge x xs ≡ (b || (not (is_same_edge x e) && holds_edge x xs))) [
+      | true ↦ λ same. ap (λ z. holds_edge z xs) (sym (one_edge e x same)) ∙ held
+      | false ↦ λ other. sym (ap (λ b. not b && holds_edge x xs) (same_edge_laws.symm x e ∙ other))
+    ] refl
+
+with_edge-without_edge : (e : Edge) (xs : List Edge) → IsInEdgeOrder xs → holds_edge e xs ≡ true → with_edge e (without_edge e xs) ≡ xs
+with_edge-without_edge e xs order held =
+    same_lists (with_edge e (without_edge e xs)) xs (in_order-with_edge e (without_edge e xs) (in_order-filter (λ x. not (is_same_edge x e)) xs order)) order (λ x.
+    holds-with_edge x e (without_edge e xs) ∙ ap (λ b. is_same_edge e x || b) (holds-filter (λ z. not (is_same_edge z e)) x xs) ∙ sym (held_again e x xs held))
 
 module _ {K : Type 0} (cmp : K → K → Ordering) (o : IsTotalOrder cmp) where
   -- ---- more keys that do not tie than a list has do not all stand in it
@@ -110,9 +122,34 @@ module _ {K : Type 0} (cmp : K → K → Ordering) (o : IsTotalOrder cmp) where
       let one = length-without x ys all.0 in
       omega arith
 
-  module _ (key : Edge → K) where
-    -- ---- the keys of edges
+  AllStand-from : (ys xs : List K) → ((k : K) → stands_among cmp k xs ≡ true → stands_among cmp k ys ≡ true) → AllStand ys xs
+  AllStand-from ys [] each = tt
+  AllStand-from ys (x ∷ xs) each = (
+    each x (ap (λ b. b || stands_among cmp x xs) (ap is_eq (tied_itself o x))),
+    AllStand-from ys xs (λ k there. each k (ap (λ b. is_eq (cmp x k) || b) there ∙ or-true (is_eq (cmp x k)))),
+  )
 
+  length-same : (xs ys : List K) → AreApart xs → AreApart ys → ((k : K) → stands_among cmp k xs ≡ stands_among cmp k ys) → length xs ≡ length ys
+  length-same xs ys xs_apart ys_apart same =
+      let few = length-AllStand ys xs xs_apart (AllStand-from ys xs (λ k there. sym (same k) ∙ there)) in
+      let many = length-AllStand xs ys ys_apart (AllStand-from xs ys (λ k there. same k ∙ there)) in
+      omega (arith, few, many)
+
+  -- a key at which an edge is kept has a list
+  found_stands : (lists : ListsByKey K) (k : K) → not (length (edges_at cmp lists k) == 0) ≡ true → stands_among cmp k (keys_of lists) ≡ true
+  found_stands [] k some = absurd cc
+  found_stands (entry ∷ lists) k some =
+      elim (is_eq (cmp k entry.0)) as (λ b. is_eq (cmp k entry.0) ≡ b → not (length (edges_of (cond b (Some entry.1) (lookup (is_at (cmp k)) lists))) == 0) ≡ true
+      → (is_eq (cmp entry.0 k) || stands_among cmp k (keys_of lists)) ≡ true) [
+        | true ↦ λ tie _. ap (λ b. b || stands_among cmp k (keys_of lists)) (other_way entry.0 k ∙ tie)
+        | false ↦ λ _ rest. ap (λ b. is_eq (cmp entry.0 k) || b) (found_stands lists k rest) ∙ or-true (is_eq (cmp entry.0 k))
+      ] refl some
+
+  length-keys_of : (lists : ListsByKey K) → length (keys_of lists) ≡ length lists
+  length-keys_of [] = refl
+  length-keys_of (entry ∷ lists) = ap suc (length-keys_of lists)
+
+  module _ (key : Edge → K) where
     keys-apart : (edges : List Edge) → AreApart (keys_of_edges cmp key edges)
     keys-apart [] = tt
     keys-apart (e ∷ es) =
@@ -121,100 +158,75 @@ module _ {K : Type 0} (cmp : K → K → Ordering) (o : IsTotalOrder cmp) where
           | false ↦ λ new. (new, keys-apart es)
         ] refl
 
-    key_stands : (e : Edge) (edges : List Edge) → holds_edge e edges ≡ true → stands_among cmp (key e) (keys_of_edges cmp key edges) ≡ true
-    key_stands e [] held = absurd cc
-    key_stands e (x ∷ xs) held = by_tests (is_same_edge x e) (stands_among cmp (key x) (keys_of_edges cmp key xs)) refl refl held (key_stands e xs) where
-      by_tests : (s b : Bool) → is_same_edge x e ≡ s → stands_among cmp (key x) (keys_of_edges cmp key xs) ≡ b → (s || holds_edge e xs) ≡ true
-          → (holds_edge e xs ≡ true → stands_among cmp (key e) (keys_of_edges cmp key xs) ≡ true)
-          → stands_among cmp (key e) (cond b (keys_of_edges cmp key xs) (key x ∷ keys_of_edges cmp key xs)) ≡ true
-      by_tests true true same was h rest = ap (λ (z : Edge). stands_among cmp (key z) (keys_of_edges cmp key xs)) (sym (one_edge x e same)) ∙ was
-      by_tests true false same was h rest =
-          ap (λ b. b || stands_among cmp (key e) (keys_of_edges cmp key xs)) (ap (λ (z : Edge). is_eq (cmp (key x) (key z))) (sym (one_edge x e same)) ∙ ap is_eq (tied_itself o (key x)))
-      by_tests false true other was h rest = rest h
-      by_tests false false other was h rest = ap (λ b. is_eq (cmp (key x) (key e)) || b) (rest h) ∙ or-true (is_eq (cmp (key x) (key e)))
+    stands-keys : (k : K) (e : Edge) (es : List Edge) → stands_among cmp k (keys_of_edges cmp key (e ∷ es)) ≡ (is_eq (cmp (key e) k) || stands_among cmp k (keys_of_edges cmp key es))
+    stands-keys k e es = by_test (stands_among cmp (key e) (keys_of_edges cmp key es)) refl where
+      by_test : (b : Bool) → stands_among cmp (key e) (keys_of_edges cmp key es) ≡ b
+          → stands_among cmp k (cond b (keys_of_edges cmp key es) (key e ∷ keys_of_edges cmp key es)) ≡ (is_eq (cmp (key e) k) || stands_among cmp k (keys_of_edges cmp key es))
+      by_test true was =
+          elim (is_eq (cmp (key e) k)) as (λ t. is_eq (cmp (key e) k) ≡ t → stands_among cmp k (keys_of_edges cmp key es) ≡ (t || stands_among cmp k (keys_of_edges cmp key es))) [
+            | true ↦ λ tie. sym (stands-tied (key e) k (keys_of_edges cmp key es) tie) ∙ was
+            | false ↦ λ _. refl
+          ] refl
+      by_test false new = refl
 
-    keys_stand : (ks : List K) (edges : List Edge) → ((e : Edge) → holds_edge e edges ≡ true → stands_among cmp (key e) ks ≡ true) → AllStand ks (keys_of_edges cmp key edges)
-    keys_stand ks [] each = tt
-    keys_stand ks (x ∷ xs) each =
-        let rest : AllStand ks (keys_of_edges cmp key xs) = keys_stand ks xs (λ e held. each e (ap (λ b. is_same_edge x e || b) held ∙ or-true (is_same_edge x e))) in
-        elim (stands_among cmp (key x) (keys_of_edges cmp key xs)) as (λ b. AllStand ks (cond b (keys_of_edges cmp key xs) (key x ∷ keys_of_edges cmp key xs))) [
-          | true ↦ rest
-          | false ↦ (each x (ap (λ b. b || holds_edge x xs) (same_edge_laws.refl x)), rest)
-        ]
-
-    -- ---- the keys with an edge
-
-    abbrev heads : ListsByKey K → List K
-    heads [] = []
-    heads (entry ∷ lists) = cond (some_edge entry.1) (entry.0 ∷ heads lists) (heads lists)
-
-    length-heads : (lists : ListsByKey K) → length (heads lists) ≡ length (filter some_edge (values_of lists))
-    length-heads [] = refl
-    length-heads (entry ∷ lists) =
-        elim (some_edge entry.1) as (λ b. length (cond b (entry.0 ∷ heads lists) (heads lists)) ≡ length (cond b (entry.1 ∷ filter some_edge (values_of lists)) (filter some_edge (values_of lists)))) [
-          | true ↦ ap suc (length-heads lists)
-          | false ↦ length-heads lists
-        ]
-
-    head_new : (k : K) (lists : ListsByKey K) → AllByRecursion (λ y. eq_by_cmp cmp k y ≡ false) (keys_of lists) → stands_among cmp k (heads lists) ≡ false
-    head_new k [] others = refl
-    head_new k (entry ∷ lists) others =
-        elim (some_edge entry.1) as (λ b. stands_among cmp k (cond b (entry.0 ∷ heads lists) (heads lists)) ≡ false) [
-          | true ↦ ap (λ b. b || stands_among cmp k (heads lists)) (other_way entry.0 k ∙ others.0) ∙ head_new k lists others.1
-          | false ↦ head_new k lists others.1
-        ]
-
-    heads-apart : (lists : ListsByKey K) → IsDistinct (eq_by_cmp cmp) (keys_of lists) → AreApart (heads lists)
-    heads-apart [] apart = tt
-    heads-apart (entry ∷ lists) apart =
-        let rest = heads-apart lists (IsDistinct-tail (eq_by_cmp cmp) entry.0 (keys_of lists) apart) in
-        elim (some_edge entry.1) as (λ b. AreApart (cond b (entry.0 ∷ heads lists) (heads lists))) [
-          | true ↦ (head_new entry.0 lists (IsDistinct-head (eq_by_cmp cmp) entry.0 (keys_of lists) apart), rest)
-          | false ↦ rest
-        ]
-
-    -- a key at which an edge is kept is one of them
-    head_stands : (lists : ListsByKey K) (k : K) (e : Edge) → holds_edge e (edges_at cmp lists k) ≡ true → stands_among cmp k (heads lists) ≡ true
-    head_stands [] k e held = absurd cc
-    head_stands (entry ∷ lists) k e held =
-        elim (is_eq (cmp k entry.0)) as (λ b. is_eq (cmp k entry.0) ≡ b → holds_edge e (edges_of (cond b (Some entry.1) (lookup (is_at (cmp k)) lists))) ≡ true → stands_among cmp k (heads (entry ∷ lists)) ≡ true) [
-          | true ↦ λ tie at.
-              ap (λ b. stands_among cmp k (cond b (entry.0 ∷ heads lists) (heads lists))) (some_edge_from e entry.1 at) ∙ ap (λ b. b || stands_among cmp k (heads lists)) (other_way entry.0 k ∙ tie)
-          | false ↦ λ _ at.
-              let rest = head_stands lists k e at in
-              elim (some_edge entry.1) as (λ b. stands_among cmp k (cond b (entry.0 ∷ heads lists) (heads lists)) ≡ true) [
-                | true ↦ ap (λ b. is_eq (cmp entry.0 k) || b) rest ∙ or-true (is_eq (cmp entry.0 k))
-                | false ↦ rest
-              ]
-        ] refl held
-
-    -- they all stand where each key with a kept edge does
-    heads_stand : (ks : List K) (lists : ListsByKey K) → IsDistinct (eq_by_cmp cmp) (keys_of lists) → ((k : K) (e : Edge) → holds_edge e (edges_at cmp lists k) ≡ true → stands_among cmp k ks ≡ true) → AllStand ks (heads lists)
-    heads_stand ks [] apart each = tt
-    heads_stand ks (entry ∷ lists) apart each =
-        let rest : AllStand ks (heads lists) = heads_stand ks lists (IsDistinct-tail (eq_by_cmp cmp) entry.0 (keys_of lists) apart) (λ k e held.
-        elim (is_eq (cmp k entry.0)) as (λ b. is_eq (cmp k entry.0) ≡ b → stands_among cmp k ks ≡ true) [
-          | true ↦ λ tie. let none = ap (holds_edge e) (none_in_tail cmp o entry lists k apart tie) in absurd cc
-          | false ↦ λ other. each k e (ap (λ b. holds_edge e (edges_of (cond b (Some entry.1) (lookup (is_at (cmp k)) lists)))) other ∙ held)
-        ] refl) in
-        elim (some_edge entry.1) as (λ b. some_edge entry.1 ≡ b → AllStand ks (cond b (entry.0 ∷ heads lists) (heads lists))) [
-          | true ↦ λ some.
-              let e = first_edge entry.1 some in
-              let here : edges_at cmp (entry ∷ lists) entry.0 ≡ entry.1.items = ap (λ r. edges_of (cond (is_eq r) (Some entry.1) (lookup (is_at (cmp entry.0)) lists))) (tied_itself o entry.0) in
-              (each entry.0 e.0 (ap (holds_edge e.0) here ∙ e.1), rest)
-          | false ↦ λ _. rest
+    stands-with_edge : (k : K) (e : Edge) (xs : List Edge) → stands_among cmp k (keys_of_edges cmp key (with_edge e xs)) ≡ stands_among cmp k (keys_of_edges cmp key (e ∷ xs))
+    stands-with_edge k e [] = refl
+    stands-with_edge k e (x ∷ xs) =
+        elim (edge_cmp e x) as (λ r. edge_cmp e x ≡ r → stands_among cmp k (keys_of_edges cmp key (put_before r e x xs (with_edge e xs))) ≡ stands_among cmp k (keys_of_edges cmp key (e ∷ x ∷ xs))) [
+          | Less ↦ λ _. refl
+          | Equal ↦ λ tie.
+              stands-keys k x xs
+              ∙ or_again (is_eq (cmp (key x) k)) (stands_among cmp k (keys_of_edges cmp key xs))
+              ∙ sym (ap (λ z. is_eq (cmp (key z) k) || (is_eq (cmp (key x) k) || stands_among cmp k (keys_of_edges cmp key xs))) (edge_cmp_exact e x tie))
+              ∙ sym (stands-keys k e (x ∷ xs) ∙ ap (λ b. is_eq (cmp (key e) k) || b) (stands-keys k x xs))
+          | Greater ↦ λ _.
+              stands-keys k x (with_edge e xs)
+              ∙ ap (λ b. is_eq (cmp (key x) k) || b) (stands-with_edge k e xs ∙ stands-keys k e xs)
+              ∙ or_swap (is_eq (cmp (key x) k)) (is_eq (cmp (key e) k)) (stands_among cmp k (keys_of_edges cmp key xs))
+              ∙ sym (stands-keys k e (x ∷ xs) ∙ ap (λ b. is_eq (cmp (key e) k) || b) (stands-keys k x xs))
         ] refl
 
-    -- the keys with an edge are as many as the keys of all edges
-    pub used_keys-length : (lists : ListsByKey K) → IsByKey cmp key lists → used_keys lists ≡ length (keys_of_edges cmp key (all_edges lists))
-    used_keys-length lists by_key =
+    stands-with_key : (k : K) (xs : List Edge) → stands_among cmp k (keys_of_edges cmp key xs) ≡ not (length (with_key cmp key k xs) == 0)
+    stands-with_key k [] = refl
+    stands-with_key k (x ∷ xs) =
+        stands-keys k x xs
+        ∙ elim (is_eq (cmp (key x) k)) as (λ b. (b || stands_among cmp k (keys_of_edges cmp key xs)) ≡ not (length (cond b (x ∷ with_key cmp key k xs) (with_key cmp key k xs)) == 0)) [
+          | true ↦ sym (ap not (eqb-suc-zero (length (with_key cmp key k xs))))
+          | false ↦ stands-with_key k xs
+        ]
+
+    -- one edge more has one key more where no other has its key
+    length-keys : (e : Edge) (xs : List Edge) → length (keys_of_edges cmp key (with_edge e xs)) ≡ length (keys_of_edges cmp key xs) + from_bool (length (with_key cmp key (key e) xs) == 0)
+    length-keys e xs =
+        length-same (keys_of_edges cmp key (with_edge e xs)) (keys_of_edges cmp key (e ∷ xs)) (keys-apart (with_edge e xs)) (keys-apart (e ∷ xs)) (λ k. stands-with_edge k e xs)
+        ∙ ap (λ b. length (cond b (keys_of_edges cmp key xs) (key e ∷ keys_of_edges cmp key xs))) (stands-with_key (key e) xs)
+        ∙ elim (length (with_key cmp key (key e) xs) == 0) as (λ b. length (cond (not b) (keys_of_edges cmp key xs) (key e ∷ keys_of_edges cmp key xs)) ≡ length (keys_of_edges cmp key xs) + from_bool b) [
+          | true ↦ omega arith
+          | false ↦ omega arith
+        ]
+
+    -- the keys of the edges are no more than the lists
+    pub length-keys-le : (lists : ListsByKey K) → IsByKey cmp key lists → length (keys_of_edges cmp key (all_edges lists)) ≤ length lists
+    length-keys-le lists by_key =
         let all = keys_of_edges cmp key (all_edges lists) in
-        let counted : length (filter some_edge (values_of lists)) ≡ used_keys lists = length-filter some_edge (values_of lists) in
-        let long = length-heads lists in
-        let few : length (heads lists) ≤ length all = length-AllStand all (heads lists) (heads-apart lists by_key.apart) (heads_stand all lists by_key.apart (λ k e held.
-        let tie = by_key.keyed k e held in
-        let here : holds_edge e (edges_at cmp lists (key e)) ≡ true = ap (λ found. holds_edge e (edges_of found)) (lookup-tied cmp o (key e) k lists (equal_from_test (cmp (key e) k) tie)) ∙ held in
-        sym (stands-tied (key e) k all tie) ∙ key_stands e (all_edges lists) (holds-all_edges cmp o key lists by_key e ∙ here))) in
-        let many : length all ≤ length (heads lists) = length-AllStand (heads lists) all (keys-apart (all_edges lists)) (keys_stand (heads lists) (all_edges lists) (λ e held.
-        head_stands lists (key e) e (sym (holds-all_edges cmp o key lists by_key e) ∙ held))) in
-        omega (arith, counted, long, few, many)
+        let few = length-AllStand (keys_of lists) all (keys-apart (all_edges lists)) (AllStand-from (keys_of lists) all (λ k there.
+        found_stands lists k (ap (λ (es : List Edge). not (length es == 0)) (edges_at-with_key cmp o key lists by_key k) ∙ sym (stands-with_key k (all_edges lists)) ∙ there))) in
+        omega (arith, few, length-keys_of lists)
+
+    module _ (a : Edge) (k : K) (at : k ≡ key a) (lists : ListsByKey K) (by_key : IsByKey cmp key lists) where
+      -- an edge more in the list of its key
+      pub length-keys-more : (list : SmallVec Edge) → Some list ≡ lookup (is_at (cmp k)) lists
+          → length (keys_of_edges cmp key (with_edge a (all_edges lists))) ≡ length (keys_of_edges cmp key (all_edges lists)) + from_bool (small_vec_len list == 0)
+      length-keys-more list found =
+          let kept : with_key cmp key (key a) (all_edges lists) ≡ list.items = ap (λ q. with_key cmp key q (all_edges lists)) (sym at) ∙ sym (edges_at-with_key cmp o key lists by_key k) ∙ sym (ap edges_of found) in
+          length-keys a (all_edges lists) ∙ ap (λ (es : List Edge). length (keys_of_edges cmp key (all_edges lists)) + from_bool (length es == 0)) kept
+
+      -- an edge fewer in it
+      pub length-keys-fewer : (after : ListsByKey K) (list : SmallVec Edge) → IsByKey cmp key after → all_edges after ≡ without_edge a (all_edges lists) → edges_at cmp after k ≡ list.items
+          → holds_edge a (all_edges lists) ≡ true → length (keys_of_edges cmp key (all_edges after)) + from_bool (small_vec_len list == 0) ≡ length (keys_of_edges cmp key (all_edges lists))
+      length-keys-fewer after list by_key_after is now held =
+          let kept : with_key cmp key (key a) (all_edges after) ≡ list.items = ap (λ q. with_key cmp key q (all_edges after)) (sym at) ∙ sym (edges_at-with_key cmp o key after by_key_after k) ∙ now in
+          sym (ap (λ (es : List Edge). length (keys_of_edges cmp key (all_edges after)) + from_bool (length es == 0)) kept)
+          ∙ sym (length-keys a (all_edges after))
+          ∙ ap (λ es. length (keys_of_edges cmp key (with_edge a es))) is
+          ∙ ap (λ es. length (keys_of_edges cmp key es)) (with_edge-without_edge a (all_edges lists) (in_order-all_edges lists) held)

@@ -56,6 +56,10 @@ module _ {K : Type 0} (cmp : K → K → Ordering) (o : IsTotalOrder cmp) where
         | false ↦ room_at-indexed lists k
       ]
 
+  -- at a key is the list that was put there
+  pub edges_at-there : {k : K} {old : Option (SmallVec Edge)} {new : SmallVec Edge} {lists after : ListsByKey K} → IsPut cmp k old new lists after → edges_at cmp after k ≡ new.items
+  edges_at-there {k} {old} {new} {lists} put = ap edges_of (put.changed k) ∙ ap (λ r. edges_of (cond (is_eq r) (Some new) (lookup (is_at (cmp k)) lists))) (tied_itself o k)
+
   module _ (key : Edge → K) where
     tail_by_key : (entry : K × SmallVec Edge) (lists : ListsByKey K) → IsByKey cmp key (entry ∷ lists) → IsByKey cmp key lists
     tail_by_key entry lists whole = record {

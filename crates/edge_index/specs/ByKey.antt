@@ -1,14 +1,14 @@
 -- The lists by key in which an index keeps its edges, and what it holds by them.
-use Rattle.std.specs.Prelude.{◌≡◌, ℕ, ◌-◌, ◌==◌, true, not, count_by, List, [], ◌∷◌, Option, None, Some}
+use Rattle.std.specs.Prelude.{◌≡◌, ℕ, ◌-◌, true, length, List, [], ◌∷◌, Option, None, Some}
 use Rattle.std.specs.declared.cmp.Ordering.{Ordering}
 use Rattle.std.specs.Ordering.{is_eq, eq_by_cmp}
 use Rattle.std.specs.List.{IsDistinct}
-use Rattle.std.specs.Map.{lookup, keys_of, values_of}
+use Rattle.std.specs.Map.{lookup, keys_of}
 use Rattle.std.specs.BTreeMap.{is_at}
 use Rattle.smallvec.specs.SmallVec.{SmallVec, small_vec_len}
 use Rattle.grove_edits.specs.declared.edge.Edge.{Edge}
 use Rattle.walks.specs.Live.{IsInEdgeOrder, holds_edge}
-use Rattle.edge_index.specs.Lists.{Indexed}
+use Rattle.edge_index.specs.Lists.{Indexed, keys_of_edges}
 use Rattle.edge_index.specs.Ordered.{with_edge}
 
 abbrev pub ListsByKey : Type 0 → Type 0
@@ -54,6 +54,7 @@ pub record IsByKey {K : Type 0} (cmp : K → K → Ordering) (key : Edge → K) 
   pub in_order : (k : K) → IsInEdgeOrder (edges_at cmp lists k)
   pub apart : IsDistinct (eq_by_cmp cmp) (keys_of lists)
 
--- how many keys have an edge
-abbrev pub used_keys : {K : Type 0} → ListsByKey K → ℕ
-used_keys lists = count_by (λ list. not (small_vec_len list == 0)) (values_of lists)
+-- they are, and the number is how many keys their edges have
+pub record IsCounted {K : Type 0} (cmp : K → K → Ordering) (key : Edge → K) (lists : ListsByKey K) (used : ℕ) : Type 0 where
+  pub by_key : IsByKey cmp key lists
+  pub counted : used ≡ length (keys_of_edges cmp key (all_edges lists))

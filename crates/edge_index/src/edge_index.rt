@@ -28,17 +28,19 @@ pub trait Keyed: Ord + Hash + Copy + Sized {
 pub struct EdgeIndex<K: Keyed> {
     alloc: Global,
     lists: IndexMap<K, EdgesInOrder>,
+    // How many keys have an edge.
+    used: usize,
 }
 
 impl<K: Keyed> Model for EdgeIndex<K> {
     ghost use Rattle.edge_index.specs.Lists.{Indexed};
-    ghost use Rattle.edge_index.specs.ByKey.{indexed, IsByKey};
+    ghost use Rattle.edge_index.specs.ByKey.{indexed, IsCounted};
 
     ghost Value = { Indexed K };
 
     ghost view = { λ index. indexed index.lists.entries };
 
-    ghost invariant = { λ index. IsByKey K.cmp K.key index.lists.entries };
+    ghost invariant = { λ index. IsCounted K.cmp K.key index.lists.entries index.used };
 }
 
 /// Counts a key once more, and tells how often it was counted.
@@ -60,6 +62,7 @@ impl<K: Keyed> EdgeIndex<K> {
         EdgeIndex {
             alloc,
             lists: IndexMap::new(alloc),
+            used: 0,
         }
     }
 
@@ -79,7 +82,7 @@ impl<K: Keyed> EdgeIndex<K> {
         ensures count { result ≡ length (keys_of_edges K.cmp K.key (live self.now)) }
         ensures in_order { IsInEdgeOrder (live self.now) }
     {
-        self.lists.values().filter(|list| !list.is_empty()).count()
+        self.used
     }
 
     /// Makes room for so many further edges with a key.
@@ -120,7 +123,10 @@ impl<K: Keyed> EdgeIndex<K> {
         ensures room { (k : K) → room_at K.cmp self.new k + (if is_eq (K.cmp (K.key edge.now) k) then 1 else 0) ≡ room_at K.cmp self.old k }
     {
         let key = K::of(edge);
+        // Each key that is counted has a list.
+        let _lists = self.lists.len();
         if let Some(list) = self.lists.get_mut(&key) {
+            self.used += usize::from(list.is_empty());
             put(list, edge);
         }
     }
@@ -134,6 +140,7 @@ impl<K: Keyed> EdgeIndex<K> {
         let key = K::of(edge);
         if let Some(list) = self.lists.get_mut(&key) {
             take_out(list, edge);
+            self.used -= usize::from(list.is_empty());
         }
     }
 }

@@ -11,7 +11,7 @@ returns-in-Some-clause-edges g c =
     let lists = c.self.inside.lists.entries in
     c.as_slice.ensures
     ∙ ap edges_of (c.in-Some.ensures.value ∙ lookup-equal g.K.Ord.cmp g.met.K.Ord.matches_eq c.args.key.now lists)
-    ∙ edges_at-with_key g.K.Ord.cmp g.met.K.Ord.total g.K.Keyed.key lists c.self.invariant c.args.key.now
+    ∙ edges_at-with_key g.K.Ord.cmp g.met.K.Ord.total g.K.Keyed.key lists c.self.invariant.by_key c.args.key.now
     ∙ ap (λ index. with_key g.K.Ord.cmp g.K.Keyed.key c.args.key.now (live index)) c.self.view_is
 
 pub returns-in-Some-clause-in_order : goal.returns-in-Some-clause-in_order
@@ -22,7 +22,7 @@ returns-in-None-clause-edges g c =
     let lists = c.self.inside.lists.entries in
     let at : [] ≡ edges_at g.K.Ord.cmp lists c.args.key.now = ap edges_of (c.in-None.ensures.value ∙ lookup-equal g.K.Ord.cmp g.met.K.Ord.matches_eq c.args.key.now lists) in
     at
-    ∙ edges_at-with_key g.K.Ord.cmp g.met.K.Ord.total g.K.Keyed.key lists c.self.invariant c.args.key.now
+    ∙ edges_at-with_key g.K.Ord.cmp g.met.K.Ord.total g.K.Keyed.key lists c.self.invariant.by_key c.args.key.now
     ∙ ap (λ index. with_key g.K.Ord.cmp g.K.Keyed.key c.args.key.now (live index)) c.self.view_is
 
 pub returns-in-None-clause-in_order : goal.returns-in-None-clause-in_order

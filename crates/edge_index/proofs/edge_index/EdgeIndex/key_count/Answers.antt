@@ -1,17 +1,11 @@
-use Rattle.std.proofs.Common.{◌≡◌, length, ap, subst, ◌∙◌}
-use Rattle.std.proofs.iter.Serving.{serving}
+use Rattle.std.proofs.Common.{length, ap, subst, ◌∙◌}
 use Rattle.walks.specs.Live.{IsInEdgeOrder}
 use Rattle.edge_index.specs.Lists.{live, keys_of_edges}
-use Rattle.edge_index.specs.ByKey.{used_keys}
-use Rattle.edge_index.proofs.Keys.{used_keys-length}
 use Rattle.edge_index.proofs.Lookups.{in_order-all_edges}
 use Rattle.edge_index.proofs.edge_index.EdgeIndex.key_count.Goals as goal
 
 pub returns-clause-count : goal.returns-clause-count
-returns-clause-count g c =
-    let lists = c.self.inside.lists.entries in
-    let used : c.count.result ≡ used_keys lists = grind serving in
-    used ∙ used_keys-length g.K.Ord.cmp g.met.K.Ord.total g.K.Keyed.key lists c.self.invariant ∙ ap (λ index. length (keys_of_edges g.K.Ord.cmp g.K.Keyed.key (live index))) c.self.view_is
+returns-clause-count g c = c.self.invariant.counted ∙ ap (λ index. length (keys_of_edges g.K.Ord.cmp g.K.Keyed.key (live index))) c.self.view_is
 
 pub returns-clause-in_order : goal.returns-clause-in_order
 returns-clause-in_order g c = subst IsInEdgeOrder (ap live c.self.view_is) (in_order-all_edges c.self.inside.lists.entries)
