@@ -40,7 +40,7 @@ impl ChildIndex {
         }
     }
 
-    /// Makes room for adding each of these edges once. They are to be few: its time grows with the square of their number.
+    /// Makes room for adding each of these edges once.
     pub fn reserve_for(&mut self, edges: &[Edge]) -> Result<(), NoMemory>
         ensures room { OnOk result ((v : Vertex) (p : Position) → length (children_of v p edges.now) ≤ room_at_origin self.new v p) }
         ensures unchanged { live self.new ≡ live self.old }

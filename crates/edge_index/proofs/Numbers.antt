@@ -1,5 +1,5 @@
 -- Keys that are counted, and the room that their counts ask for.
-use Rattle.std.proofs.Common.{◌≡◌, ℕ, ◌+◌, ◌<◌, ◌≤◌, Bool, true, false, cond, List, length, take, get_or, refl, sym, ap, ◌∙◌, arith}
+use Rattle.std.proofs.Common.{◌≡◌, ℕ, ◌+◌, ◌<◌, ◌≤◌, Bool, true, false, cond, List, [], ◌∷◌, length, take, get_or, refl, sym, ap, subst, ◌∙◌, arith}
 use Rattle.std.specs.Prelude.{count_by, Some, unwrap_or}
 use Rattle.std.specs.Map.{lookup}
 use Rattle.std.specs.BTreeMap.{is_at}
@@ -8,6 +8,7 @@ use Rattle.std.specs.Ordering.{is_eq}
 use Rattle.std.specs.Cmp.{IsTotalOrder}
 use Rattle.std.proofs.lemmas.List.Sums.{count_by_more_no, count_by_more_yes}
 use Rattle.grove_sorts.proofs.Orders.{equal_from_test}
+use Rattle.grove_edits.specs.declared.edge.Edge.{Edge}
 use Rattle.edge_index.specs.Lists.{Indexed, number_at, room_at}
 use Rattle.edge_index.proofs.Lookups.{lookup-tied}
 
@@ -41,3 +42,15 @@ module _ {K : Type 0} (cmp : K → K → Ordering) (o : IsTotalOrder cmp) where
         | true ↦ λ tie _. let one = number_at-tied k q numbers tie in let two : room_at cmp after k ≡ room_at cmp after q = number_at-tied k q after.rooms tie in omega (arith, is, room, here, one, two)
         | false ↦ λ _ same. omega (arith, same, kept, stays)
       ] refl more
+
+  -- there is room for a list of one edge where there is for one edge of its key
+  pub room_for_one : (key : Edge → K) (e : Edge) (edges : List Edge) (after : Indexed K) → length edges ≡ 1 → e ≡ get_or edges 0 e → 1 ≤ room_at cmp after (key e)
+      → (k : K) → count_by (λ x. is_eq (cmp (key x) k)) edges ≤ room_at cmp after k
+  room_for_one key e [] after one is room k = absurd (omega (arith, one))
+  room_for_one key e (x ∷ y ∷ ys) after one is room k = absurd (omega (arith, one))
+  room_for_one key e (x ∷ []) after one is room k =
+      let count : count_by (λ z. is_eq (cmp (key z) k)) (x ∷ []) ≡ 0 + cond (is_eq (cmp (key x) k)) 1 0 = count_by-more (λ z. is_eq (cmp (key z) k)) (x ∷ []) 0 x (omega arith) refl in
+      elim (is_eq (cmp (key x) k)) as (λ b. is_eq (cmp (key x) k) ≡ b → count_by (λ z. is_eq (cmp (key z) k)) (x ∷ []) ≡ 0 + cond b 1 0 → count_by (λ z. is_eq (cmp (key z) k)) (x ∷ []) ≤ room_at cmp after k) [
+        | true ↦ λ tie is_one. let tied = number_at-tied (key x) k after.rooms tie in let here : 1 ≤ room_at cmp after (key x) = subst (λ z. 1 ≤ room_at cmp after (key z)) is room in omega (arith, is_one, tied, here)
+        | false ↦ λ _ is_none. omega (arith, is_none)
+      ] refl count

@@ -54,7 +54,7 @@ pub record IsByKey {K : Type 0} (cmp : K → K → Ordering) (key : Edge → K) 
   pub in_order : (k : K) → IsInEdgeOrder (edges_at cmp lists k)
   pub apart : IsDistinct (eq_by_cmp cmp) (keys_of lists)
 
--- they are, and the number is how many keys their edges have
+-- the lists are by key, and the number is how many keys have an edge
 pub record IsCounted {K : Type 0} (cmp : K → K → Ordering) (key : Edge → K) (lists : ListsByKey K) (used : ℕ) : Type 0 where
   pub by_key : IsByKey cmp key lists
   pub counted : used ≡ length (keys_of_edges cmp key (all_edges lists))

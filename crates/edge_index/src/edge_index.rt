@@ -106,6 +106,10 @@ impl<K: Keyed> EdgeIndex<K> {
         ensures unchanged { live self.new ≡ live self.old }
         ensures room_stays { (k : K) → room_at K.cmp self.old k ≤ room_at K.cmp self.new k }
     {
+        if let [only] = edges {
+            // The common case, which needs no counts.
+            return self.reserve(&K::of(only), 1);
+        }
         let mut counts = IndexMap::new(self.alloc);
         for edge in edges {
             let key = K::of(edge);

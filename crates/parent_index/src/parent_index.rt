@@ -39,7 +39,7 @@ impl ParentIndex {
         }
     }
 
-    /// Makes room for adding each of these edges once. They are to be few: its time grows with the square of their number.
+    /// Makes room for adding each of these edges once.
     pub fn reserve_for(&mut self, edges: &[Edge]) -> Result<(), NoMemory>
         ensures room { OnOk result ((v : Vertex) → length (parents_of v edges.now) ≤ room_at_vertex self.new v) }
         ensures unchanged { live self.new ≡ live self.old }
