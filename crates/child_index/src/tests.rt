@@ -1,7 +1,4 @@
-ghost use Rattle.std.specs.Prelude.{◌≡◌, ◌<◌, false, OnOk};
-ghost use Rattle.walks.specs.Live.{holds_edge};
-ghost use Rattle.edge_index.specs.Ordered.{with_edge};
-ghost use Rattle.edge_index.specs.Lists.{live};
+ghost use Rattle.std.specs.Prelude.{◌≡◌, ◌<◌};
 
 use super::*;
 use grove_edits::{Edge, Vertex};
@@ -49,15 +46,6 @@ const LEFT_AGAIN: Edge = Edge {
     target: SEVEN,
 };
 
-fn put(index: &mut ChildIndex, edge: &Edge) -> Result<(), NoMemory>
-    requires new { holds_edge edge.now (live index.old) ≡ false }
-    ensures added { OnOk result (live index.new ≡ with_edge edge.now (live index.old)) }
-{
-    index.reserve_for(&[*edge])?;
-    index.add(edge);
-    Ok(())
-}
-
 fn check_left<L: Ledger, R: Abort>(rt: &R, blank: Blank, index: &ChildIndex, children: &[Edge])
     requires name { blank.name ≡ L.name }
     requires parts { blank.parts ≡ L.parts }
@@ -74,8 +62,9 @@ fn check_children<R: Abort>(rt: &R, index: &ChildIndex, children: &[Edge]) {
 #[test]
 fn two_edges_with_the_same_ends_are_kept(rt: HostRuntime) -> Result<(), Fail> {
     let mut index = ChildIndex::new(rt.alloc());
-    put(&mut index, &LEFT_AGAIN)?;
-    put(&mut index, &LEFT)?;
+    index.reserve_for(&[LEFT, LEFT_AGAIN])?;
+    index.add(&LEFT_AGAIN);
+    index.add(&LEFT);
     check_children(&rt, &index, &[LEFT, LEFT_AGAIN]);
     Ok(())
 }

@@ -1,7 +1,4 @@
-ghost use Rattle.std.specs.Prelude.{◌≡◌, ◌<◌, false, OnOk};
-ghost use Rattle.walks.specs.Live.{holds_edge};
-ghost use Rattle.edge_index.specs.Ordered.{with_edge};
-ghost use Rattle.edge_index.specs.Lists.{live};
+ghost use Rattle.std.specs.Prelude.{◌≡◌, ◌<◌};
 
 use super::*;
 use grove_edits::{Edge, Vertex};
@@ -49,15 +46,6 @@ const RIGHT: Edge = Edge {
     target: SEVEN,
 };
 
-fn put(index: &mut ParentIndex, edge: &Edge) -> Result<(), NoMemory>
-    requires new { holds_edge edge.now (live index.old) ≡ false }
-    ensures added { OnOk result (live index.new ≡ with_edge edge.now (live index.old)) }
-{
-    index.reserve_for(&[*edge])?;
-    index.add(edge);
-    Ok(())
-}
-
 fn check_seven<L: Ledger, R: Abort>(rt: &R, blank: Blank, index: &ParentIndex)
     requires name { blank.name ≡ L.name }
     requires parts { blank.parts ≡ L.parts }
@@ -76,8 +64,10 @@ fn check_parents<R: Abort>(rt: &R, index: &ParentIndex) {
 #[test]
 fn both_parents_are_told(rt: HostRuntime) -> Result<(), Fail> {
     let mut index = ParentIndex::new(rt.alloc());
-    put(&mut index, &RIGHT)?;
-    put(&mut index, &LEFT)?;
+    index.reserve_for(&[RIGHT])?;
+    index.add(&RIGHT);
+    index.reserve_for(&[LEFT])?;
+    index.add(&LEFT);
     check_parents(&rt, &index);
     assert_eq!(rt; index.vertex_count(), 1);
     Ok(())
