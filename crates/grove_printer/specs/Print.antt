@@ -16,6 +16,8 @@ use Rattle.mark_step.specs.declared.node.Mark.TheVariants as mark
 use Rattle.mark_step.specs.Expression.{Wanted, Synthesise, Analyse}
 use Rattle.marking.specs.Marking.{MarkedNode, has_mark}
 use Rattle.marking.specs.Grove.{MarkedTrees}
+use Rattle.grove_printer.specs.declared.section.Section.{Section}
+use Rattle.grove_printer.specs.declared.section.Section.TheVariants.{NoParent, Multi, Cycle}
 
 -- new bytes begin with the old ones
 abbrev pub Extends : List ℕ → List ℕ → Type 0
@@ -100,15 +102,21 @@ abbrev pub trees_text : List (List MarkedNode) → List ℕ
 trees_text [] = []
 trees_text (t ∷ ts) = tree_text t ++ trees_text ts
 
--- a word and the number of trees
-abbrev pub heading : List ℕ → ℕ → List ℕ
-heading word count = word ++ (decimal count ++ 10 ∷ [])
+-- the word of a list of trees, and the space behind it
+abbrev pub section_word : Section → List ℕ
+section_word NoParent = codes "none "
+section_word Multi = codes "multi "
+section_word Cycle = codes "cycle "
+
+-- the word and the number of trees
+abbrev pub heading : Section → ℕ → List ℕ
+heading section count = section_word section ++ (decimal count ++ 10 ∷ [])
 
 -- a heading and the trees, for each of the three lists
 abbrev pub print_text : MarkedTrees → List ℕ
 print_text grove =
-    (heading (codes "none ") (length grove.none) ++ trees_text grove.none)
-    ++ ((heading (codes "multi ") (length grove.multi) ++ trees_text grove.multi) ++ (heading (codes "cycle ") (length grove.cycle) ++ trees_text grove.cycle))
+    (heading NoParent (length grove.none) ++ trees_text grove.none)
+    ++ ((heading Multi (length grove.multi) ++ trees_text grove.multi) ++ (heading Cycle (length grove.cycle) ++ trees_text grove.cycle))
 
 -- the lines of the nodes that have a mark
 abbrev pub tree_marked_lines : List MarkedNode → List ℕ

@@ -49,3 +49,27 @@ impl From<type_core::NoMemory> for NoMemory {
         NoMemory
     }
 }
+
+impl From<grove_edits::NoMemory> for NoMemory {
+    fn from(_error: grove_edits::NoMemory) -> NoMemory {
+        NoMemory
+    }
+}
+
+impl From<grove_terms::NoMemory> for NoMemory {
+    fn from(_error: grove_terms::NoMemory) -> NoMemory {
+        NoMemory
+    }
+}
+
+impl From<mark_step::NoMemory> for NoMemory {
+    fn from(_error: mark_step::NoMemory) -> NoMemory {
+        NoMemory
+    }
+}
+
+impl From<mark_rules::NoMemory> for NoMemory {
+    fn from(_error: mark_rules::NoMemory) -> NoMemory {
+        NoMemory
+    }
+}

@@ -5,6 +5,7 @@ ghost use Rattle.grove_printer.specs.Print.{Extends, tree_text, trees_text, head
 
 use crate::line::{append_line, whole_or_nothing};
 use crate::no_memory::NoMemory;
+use crate::section::Section;
 use mark_rules::{MarkedGrove, MarkedNode, MarkedTree, MarkedTreeList};
 use text_parts::write_number;
 use type_core::TypeTable;
@@ -24,13 +25,13 @@ pub fn print_grove(
     whole_or_nothing(written, start, out)
 }
 
-/// Appends the heading of a list of trees: the word, with the space behind it, and how many trees there are.
-pub fn print_heading(word: &[u8], trees: usize, out: &mut Vec<u8>) -> Result<(), NoMemory>
-    ensures appended { OnOk result (out.new.items ≡ out.old.items ++ heading word.now trees) }
+/// Appends the heading of a list of trees: which list it is, and how many trees there are.
+pub fn print_heading(section: Section, trees: usize, out: &mut Vec<u8>) -> Result<(), NoMemory>
+    ensures appended { OnOk result (out.new.items ≡ out.old.items ++ heading section trees) }
     ensures unchanged { OnErr result (out.new.items ≡ out.old.items) }
 {
     let start = out.len();
-    let written = append_heading(word, trees, out);
+    let written = append_heading(section, trees, out);
     whole_or_nothing(written, start, out)
 }
 
@@ -52,31 +53,31 @@ fn append_grove(marked: &MarkedGrove, types: &TypeTable, out: &mut Vec<u8>) -> R
     ensures appended { OnOk result (out.new.items ≡ out.old.items ++ print_text (meant_grove types.now marked.now)) }
     ensures in_part { OnErr result (Extends out.old.items out.new.items) }
 {
-    append_section(b"none ", &marked.none, types, out)?;
-    append_section(b"multi ", &marked.multi, types, out)?;
-    append_section(b"cycle ", &marked.cycle, types, out)
+    append_section(Section::NoParent, &marked.none, types, out)?;
+    append_section(Section::Multi, &marked.multi, types, out)?;
+    append_section(Section::Cycle, &marked.cycle, types, out)
 }
 
 fn append_section(
-    word: &[u8],
+    section: Section,
     trees: &MarkedTreeList,
     types: &TypeTable,
     out: &mut Vec<u8>,
 ) -> Result<(), NoMemory>
     requires { AreMarkedListsOf types.now trees.now }
     ensures appended { OnOk result (out.new.items ≡ out.old.items
-        ++ (heading word.now (length trees.now) ++ trees_text (map (meant_nodes types.now) trees.now))) }
+        ++ (heading section (length trees.now) ++ trees_text (map (meant_nodes types.now) trees.now))) }
     ensures in_part { OnErr result (Extends out.old.items out.new.items) }
 {
-    append_heading(word, trees.len(), out)?;
+    append_heading(section, trees.len(), out)?;
     append_trees(trees.as_slice(), types, out)
 }
 
-fn append_heading(word: &[u8], trees: usize, out: &mut Vec<u8>) -> Result<(), NoMemory>
-    ensures appended { OnOk result (out.new.items ≡ out.old.items ++ heading word.now trees) }
+fn append_heading(section: Section, trees: usize, out: &mut Vec<u8>) -> Result<(), NoMemory>
+    ensures appended { OnOk result (out.new.items ≡ out.old.items ++ heading section trees) }
     ensures in_part { OnErr result (Extends out.old.items out.new.items) }
 {
-    out.extend_from_slice(word)?;
+    out.extend_from_slice(section.word())?;
     write_number(trees as u64, out)?;
     out.push(b'\n')?;
     Ok(())

@@ -1,38 +1,27 @@
--- What the commands make of the canonical list of a text.
-use Rattle.std.proofs.Common.{ℕ, List}
+-- What the commands make of graphs that are the same.
+use Rattle.std.proofs.Common.{◌≡◌, ℕ, List}
 use Rattle.grove_edits.specs.declared.edit.Edit.{Edit}
-use Rattle.grove_edits.specs.Graph.{graph}
-use Rattle.grove_terms.proofs.OneGrove.{grove_along}
+use Rattle.grove_edits.specs.Graph.{Graph, graph, IsSame}
+use Rattle.grove_answers.proofs.SameGraph.{canonical_along, printed_along, checked_along, one_canonical_text, one_print_text, one_check_text}
 use Rattle.grove_top.specs.declared.command.Command.{Command}
 use Rattle.grove_top.specs.declared.command.Command.TheVariants.{Merge, Show, Check}
-use Rattle.grove_top.specs.Due.{IsAnswered}
-use Rattle.grove_top.specs.Graph.{IsListOf, IsAnswerOf}
+use Rattle.grove_top.specs.Due.{IsAnswerOf, IsAnswered}
+use Rattle.grove_top.specs.Spelled.{IsListOf}
 
-pub answer_told : (command : Command) (text answer : List ℕ) (list : List Edit) → IsListOf text list → IsAnswerOf command list answer → IsAnswered command text answer
-answer_told Merge text answer list of_text is = record {
+pub answer_along : (command : Command) (g h : Graph) (answer : List ℕ) → IsSame g h → IsAnswerOf command g answer → IsAnswerOf command h answer
+answer_along Merge g h answer = canonical_along g h answer
+answer_along Show g h answer = printed_along g h answer
+answer_along Check g h answer = checked_along g h answer
+
+pub one_answer_of : (command : Command) (g : Graph) (x y : List ℕ) → IsAnswerOf command g x → IsAnswerOf command g y → x ≡ y
+one_answer_of Merge g x y = one_canonical_text g x y
+one_answer_of Show g x y = one_print_text g x y
+one_answer_of Check g x y = one_check_text g x y
+
+-- the answer of the canonical list of a text is that of the text
+pub answer_told : (command : Command) (text answer : List ℕ) (list : List Edit) → IsListOf text list → IsAnswerOf command (graph list) answer → IsAnswered command text answer
+answer_told command text answer list of_text is = record {
   edits = of_text.edits;
-  canonical = list;
   spelled = of_text.spelled;
-  is_canonical = of_text.canonical;
-  written = is;
-}
-answer_told Show text answer list of_text is = record {
-  edits = of_text.edits;
-  grove = is.grove;
-  marked = is.marked;
-  spelled = of_text.spelled;
-  is_grove = grove_along (graph list) (graph of_text.edits) is.grove of_text.canonical.same is.is_grove;
-  is_marked = is.is_marked;
-  written = is.written;
-}
-answer_told Check text answer list of_text is = record {
-  edits = of_text.edits;
-  grove = is.grove;
-  marked = is.marked;
-  typed = is.typed;
-  spelled = of_text.spelled;
-  is_grove = grove_along (graph list) (graph of_text.edits) is.grove of_text.canonical.same is.is_grove;
-  is_marked = is.is_marked;
-  are_typed = is.are_typed;
-  written = is.written;
+  answered = answer_along command (graph list) (graph of_text.edits) answer of_text.canonical.same is;
 }

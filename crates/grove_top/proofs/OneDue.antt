@@ -1,19 +1,10 @@
 -- For any words and bytes one status and one text are due.
 use Rattle.std.specs.declared.alloc.Global.{Global}
-use Rattle.std.proofs.Common.{◌≡◌, ◌⊎◌, inl, inr, ℕ, suc, List, [], ◌∷◌, length, get_or, nat_eq, if◌then◌else◌, refl, sym, ap, subst, ◌∙◌, arith}
+use Rattle.std.proofs.Common.{◌≡◌, ◌⊎◌, inl, inr, ℕ, List, [], ◌∷◌, get_or, nat_eq, if◌then◌else◌, refl, sym, ap, subst, ◌∙◌, arith}
 use Rattle.std.specs.Prelude.{String}
 use Rattle.grove_edits.specs.declared.edit.Edit.{Edit}
-use Rattle.grove_edits.specs.Graph.{graph, IsSame, IsCanonical, HasSameEdits}
+use Rattle.grove_edits.specs.Graph.{graph, IsSame, HasSameEdits}
 use Rattle.grove_edits.proofs.Graphs.{graph-same_edits}
-use Rattle.grove_edits.proofs.Unique.{canonical_once}
-use Rattle.grove_terms.specs.Grove.{IsGrove}
-use Rattle.grove_terms.proofs.OneGrove.{one_grove, grove_along}
-use Rattle.grove_terms.specs.declared.node.Node.{Node}
-use Rattle.grove_terms.specs.declared.grove.Grove.{Grove}
-use Rattle.marking.specs.Grove.{MarkedTrees, IsMarkedGrove}
-use Rattle.marking.proofs.OneMarking.{one_marking}
-use Rattle.plain_typing.specs.Typed.{AreTyped}
-use Rattle.grove_printer.specs.Print.{print_text}
 use Rattle.edit_text.specs.declared.line_fault.LineFault.{LineFault}
 use Rattle.edit_text.specs.declared.line_fault.LineFault.TheVariants as lines
 use Rattle.edit_text.specs.Text.{text_of, IsMalformed, HasRest}
@@ -26,8 +17,8 @@ use Rattle.grove_top.specs.declared.outcome.Fault.{Fault}
 use Rattle.grove_top.specs.declared.outcome.Fault.TheVariants.{Syntax, BadVertex, NoPosition, WrongSort, Rest}
 use Rattle.grove_top.specs.declared.outcome.Status.{Status}
 use Rattle.grove_top.specs.declared.outcome.Status.TheVariants.{Done, Usage, Malformed, TooLong, ReadFault, WriteFault, NoMemory}
-use Rattle.grove_top.specs.Check.{all_trees, check_text}
-use Rattle.grove_top.specs.Due.{IsDue, IsCommandDue, IsMerged, IsShown, IsChecked, IsAnswered, IsFirstFault, malformed_text, usage_text}
+use Rattle.grove_top.proofs.Answered.{answer_along, one_answer_of}
+use Rattle.grove_top.specs.Due.{IsDue, IsCommandDue, IsAnswerOf, IsAnswered, IsFirstFault, malformed_text, usage_text}
 
 -- a fault of a text is that of a line, or a rest
 fault_split : (text : List ℕ) (line : ℕ) (fault : Fault) → IsFirstFault text line fault → ((fault ≡ Rest) × HasRest text line) ⊎ ((of_line : LineFault) × (fault ≡ fault_of_line of_line) × IsMalformed text line of_line)
@@ -58,71 +49,15 @@ no_fault_by edits line fault (inr bad) = not_malformed edits line bad.0 bad.2
 pub no_fault : (edits : List Edit) (line : ℕ) (fault : Fault) → IsFirstFault (text_of edits) line fault → ⊥
 no_fault edits line fault h = no_fault_by edits line fault (fault_split (text_of edits) line fault h)
 
--- an answer is of a text of edits
-answered_spelled : (command : Command) (text answer : List ℕ) → IsAnswered command text answer → (edits : List Edit) × (text ≡ text_of edits)
-answered_spelled Merge text answer is = (is.edits, is.spelled)
-answered_spelled Show text answer is = (is.edits, is.spelled)
-answered_spelled Check text answer is = (is.edits, is.spelled)
-
 answered_or_fault : (command : Command) (text answer : List ℕ) (line : ℕ) (fault : Fault) → IsAnswered command text answer → IsFirstFault text line fault → ⊥
-answered_or_fault command text answer line fault is h =
-    let of_edits = answered_spelled command text answer is in
-    no_fault of_edits.0 line fault (subst (λ (t : List ℕ). IsFirstFault t line fault) of_edits.1 h)
-
--- texts of the same graph merge to the same text
-merged_alike : (a b : List Edit) (x y : List ℕ) → IsSame (graph a) (graph b) → IsMerged (text_of a) x → IsMerged (text_of b) y → x ≡ y
-merged_alike a b x y same of_a of_b =
-    let edits_a : a ≡ of_a.edits = one_list a of_a.edits of_a.spelled in
-    let edits_b : b ≡ of_b.edits = one_list b of_b.edits of_b.spelled in
-    let canonical_a : IsCanonical (graph a) of_a.canonical = subst (λ (edits : List Edit). IsCanonical (graph edits) of_a.canonical) (sym edits_a) of_a.is_canonical in
-    let canonical_b : IsCanonical (graph b) of_b.canonical = subst (λ (edits : List Edit). IsCanonical (graph edits) of_b.canonical) (sym edits_b) of_b.is_canonical in
-    let moved : IsCanonical (graph b) of_a.canonical = record { in_order = canonical_a.in_order; same = λ e. canonical_a.same e ∙ same e } in
-    of_a.written ∙ ap text_of (canonical_once (graph b) of_a.canonical of_b.canonical moved canonical_b) ∙ sym of_b.written
-
--- texts of the same graph have the same grove
-grove_alike : (a b c d : List Edit) (g h : Grove) → IsSame (graph a) (graph b) → text_of a ≡ text_of c → text_of b ≡ text_of d → IsGrove (graph c) g → IsGrove (graph d) h → g ≡ h
-grove_alike a b c d g h same of_c of_d is_g is_h =
-    let is_a : IsGrove (graph a) g = subst (λ (edits : List Edit). IsGrove (graph edits) g) (sym (one_list a c of_c)) is_g in
-    let is_b : IsGrove (graph b) h = subst (λ (edits : List Edit). IsGrove (graph edits) h) (sym (one_list b d of_d)) is_h in
-    one_grove (graph b) g h (grove_along (graph a) (graph b) g same is_a) is_b
-
--- a grove has one marking
-marked_alike : (a b : Grove) (m n : MarkedTrees) → a ≡ b → IsMarkedGrove a m → IsMarkedGrove b n → m ≡ n
-marked_alike a b m n same of_a of_b = one_marking b m n (subst (λ (g : Grove). IsMarkedGrove g m) same of_a) of_b
-
-shown_alike : (a b : List Edit) (x y : List ℕ) → IsSame (graph a) (graph b) → IsShown (text_of a) x → IsShown (text_of b) y → x ≡ y
-shown_alike a b x y same of_a of_b =
-    let groves : of_a.grove ≡ of_b.grove = grove_alike a b of_a.edits of_b.edits of_a.grove of_b.grove same of_a.spelled of_b.spelled of_a.is_grove of_b.is_grove in
-    of_a.written ∙ ap print_text (marked_alike of_a.grove of_b.grove of_a.marked of_b.marked groves of_a.is_marked of_b.is_marked) ∙ sym of_b.written
-
--- of some trees one number is typed
-one_number_typed : (trees : List (List Node)) (m n : ℕ) → AreTyped trees m → AreTyped trees n → m ≡ n
-one_number_typed [] m n a b = a ∙ sym b
-one_number_typed (t ∷ ts) m n (inl a) (inl b) = a.2 ∙ ap suc (one_number_typed ts a.1 b.1 a.3 b.3) ∙ sym b.2
-one_number_typed (t ∷ ts) m n (inl a) (inr b) = absurd (b.0 a.0)
-one_number_typed (t ∷ ts) m n (inr a) (inl b) = absurd (a.0 b.0)
-one_number_typed (t ∷ ts) m n (inr a) (inr b) = one_number_typed ts m n a.1 b.1
-
--- a grove has one text that checking writes
-check_text_alike : (a b : Grove) (m n : MarkedTrees) (j k : ℕ) → a ≡ b → IsMarkedGrove a m → IsMarkedGrove b n → AreTyped (all_trees a) j → AreTyped (all_trees b) k
-    → check_text m (length (all_trees a)) j ≡ check_text n (length (all_trees b)) k
-check_text_alike a b m n j k same is_m is_n is_j is_k =
-    let marks : m ≡ n = marked_alike a b m n same is_m is_n in
-    let numbers : j ≡ k = one_number_typed (all_trees b) j k (subst (λ (g : Grove). AreTyped (all_trees g) j) same is_j) is_k in
-    ap (λ (t : MarkedTrees). check_text t (length (all_trees a)) j) marks
-    ∙ ap (λ (g : Grove). check_text n (length (all_trees g)) j) same
-    ∙ ap (check_text n (length (all_trees b))) numbers
-
-checked_alike : (a b : List Edit) (x y : List ℕ) → IsSame (graph a) (graph b) → IsChecked (text_of a) x → IsChecked (text_of b) y → x ≡ y
-checked_alike a b x y same of_a of_b =
-    let groves : of_a.grove ≡ of_b.grove = grove_alike a b of_a.edits of_b.edits of_a.grove of_b.grove same of_a.spelled of_b.spelled of_a.is_grove of_b.is_grove in
-    of_a.written ∙ check_text_alike of_a.grove of_b.grove of_a.marked of_b.marked of_a.typed of_b.typed groves of_a.is_marked of_b.is_marked of_a.are_typed of_b.are_typed ∙ sym of_b.written
+answered_or_fault command text answer line fault is h = no_fault is.edits line fault (subst (λ (t : List ℕ). IsFirstFault t line fault) is.spelled h)
 
 -- texts of the same graph get the same answer
 same_answer : (command : Command) (a b : List Edit) (x y : List ℕ) → IsSame (graph a) (graph b) → IsAnswered command (text_of a) x → IsAnswered command (text_of b) y → x ≡ y
-same_answer Merge a b x y same of_a of_b = merged_alike a b x y same of_a of_b
-same_answer Show a b x y same of_a of_b = shown_alike a b x y same of_a of_b
-same_answer Check a b x y same of_a of_b = checked_alike a b x y same of_a of_b
+same_answer command a b x y same of_a of_b =
+    let answer_a : IsAnswerOf command (graph a) x = subst (λ (edits : List Edit). IsAnswerOf command (graph edits) x) (sym (one_list a of_a.edits of_a.spelled)) of_a.answered in
+    let answer_b : IsAnswerOf command (graph b) y = subst (λ (edits : List Edit). IsAnswerOf command (graph edits) y) (sym (one_list b of_b.edits of_b.spelled)) of_b.answered in
+    one_answer_of command (graph b) x y (answer_along command (graph a) (graph b) x same answer_a) answer_b
 
 -- so do those that spell the same edits
 pub answered_alike : (command : Command) (a b : List Edit) (x y : List ℕ) → HasSameEdits a b → IsAnswered command (text_of a) x → IsAnswered command (text_of b) y → x ≡ y
@@ -131,10 +66,9 @@ answered_alike command a b x y same = same_answer command a b x y (graph-same_ed
 -- a text gets one answer
 one_answer : (command : Command) (text x y : List ℕ) → IsAnswered command text x → IsAnswered command text y → x ≡ y
 one_answer command text x y a b =
-    let of_edits = answered_spelled command text x a in
-    let told : (answer : List ℕ) → IsAnswered command text answer → IsAnswered command (text_of of_edits.0) answer =
-    λ answer is. subst (λ (t : List ℕ). IsAnswered command t answer) of_edits.1 is in
-    same_answer command of_edits.0 of_edits.0 x y (λ e. refl) (told x a) (told y b)
+    let told : (answer : List ℕ) → IsAnswered command text answer → IsAnswered command (text_of a.edits) answer =
+    λ answer is. subst (λ (t : List ℕ). IsAnswered command t answer) a.spelled is in
+    same_answer command a.edits a.edits x y (λ e. refl) (told x a) (told y b)
 
 malformed_alike : (m n : ℕ) (f g : Fault) → m ≡ n → f ≡ g → (Malformed m f ≡ Malformed n g) × (malformed_text m f ≡ malformed_text n g)
 malformed_alike m n f g e d = (ap (λ k. Malformed k f) e ∙ ap (Malformed n) d, ap (λ k. malformed_text k f) e ∙ ap (malformed_text n) d)

@@ -2,14 +2,10 @@
 use Rattle.std.specs.declared.alloc.Global.{Global}
 use Rattle.std.specs.Prelude.{String, ◌≡◌, ℕ, ◌<◌, ◌≤◌, List, [], ◌∷◌, ◌++◌, length, codes, decimal}
 use Rattle.grove_edits.specs.declared.edit.Edit.{Edit}
-use Rattle.grove_edits.specs.Graph.{graph, IsCanonical}
-use Rattle.grove_terms.specs.declared.grove.Grove.{Grove}
-use Rattle.grove_terms.specs.Grove.{IsGrove}
-use Rattle.marking.specs.Grove.{MarkedTrees, IsMarkedGrove}
-use Rattle.plain_typing.specs.Typed.{AreTyped}
-use Rattle.grove_printer.specs.Print.{print_text}
+use Rattle.grove_edits.specs.Graph.{Graph, graph}
 use Rattle.edit_text.specs.declared.line_fault.LineFault.TheVariants as lines
 use Rattle.edit_text.specs.Text.{text_of, IsMalformed, HasRest}
+use Rattle.grove_answers.specs.Texts.{IsCanonicalText, IsPrintText, IsCheckText}
 use Rattle.grove_top.specs.declared.outcome.Fault.{Fault}
 use Rattle.grove_top.specs.declared.outcome.Fault.TheVariants.{Syntax, BadVertex, NoPosition, WrongSort, Rest}
 use Rattle.grove_top.specs.declared.outcome.Status.{Status}
@@ -17,7 +13,6 @@ use Rattle.grove_top.specs.declared.outcome.Status.TheVariants.{Done, Usage, Mal
 use Rattle.grove_top.specs.declared.command.Command.{Command}
 use Rattle.grove_top.specs.declared.command.Command.TheVariants.{Merge, Show, Check}
 use Rattle.grove_top.specs.Words.{AreOf, AreOfNone}
-use Rattle.grove_top.specs.Check.{all_trees, check_text}
 
 -- what is written where the words are those of no command
 abbrev pub usage_text : List ℕ
@@ -46,41 +41,17 @@ IsFirstFault text line NoPosition = IsMalformed text line lines.NoPosition
 IsFirstFault text line WrongSort = IsMalformed text line lines.WrongSort
 IsFirstFault text line Rest = HasRest text line
 
--- the canonical text of the graph of the edits that a text spells
-pub record IsMerged (text merged : List ℕ) : Type 0 where
-  pub edits : List Edit
-  pub canonical : List Edit
-  pub spelled : text ≡ text_of edits
-  pub is_canonical : IsCanonical (graph edits) canonical
-  pub written : merged ≡ text_of canonical
+-- what a command makes of a graph
+abbrev pub IsAnswerOf : Command → Graph → List ℕ → Type 0
+IsAnswerOf Merge g answer = IsCanonicalText g answer
+IsAnswerOf Show g answer = IsPrintText g answer
+IsAnswerOf Check g answer = IsCheckText g answer
 
--- the print text of the marked grove of the graph of the edits that a text spells
-pub record IsShown (text shown : List ℕ) : Type 0 where
+-- what it makes of a text: its answer for the graph of the edits that the text spells
+pub record IsAnswered (command : Command) (text answer : List ℕ) : Type 0 where
   pub edits : List Edit
-  pub grove : Grove
-  pub marked : MarkedTrees
   pub spelled : text ≡ text_of edits
-  pub is_grove : IsGrove (graph edits) grove
-  pub is_marked : IsMarkedGrove grove marked
-  pub written : shown ≡ print_text marked
-
--- the marked lines of that grove, and how many of its trees are typed
-pub record IsChecked (text checked : List ℕ) : Type 0 where
-  pub edits : List Edit
-  pub grove : Grove
-  pub marked : MarkedTrees
-  pub typed : ℕ
-  pub spelled : text ≡ text_of edits
-  pub is_grove : IsGrove (graph edits) grove
-  pub is_marked : IsMarkedGrove grove marked
-  pub are_typed : AreTyped (all_trees grove) typed
-  pub written : checked ≡ check_text marked (length (all_trees grove)) typed
-
--- what a command makes of a good text
-abbrev pub IsAnswered : Command → List ℕ → List ℕ → Type 0
-IsAnswered Merge text answer = IsMerged text answer
-IsAnswered Show text answer = IsShown text answer
-IsAnswered Check text answer = IsChecked text answer
+  pub answered : IsAnswerOf command (graph edits) answer
 
 -- how many bytes an input may have
 abbrev pub most_bytes : ℕ

@@ -1,11 +1,6 @@
 pub mod FaultOfLine
 pub mod Words
-pub mod Check
-pub mod Verdicts
-pub mod Program
-pub mod Appending
-pub mod Whole
+pub mod Spelled
 pub mod Due
-pub mod Graph
 pub mod Meets
 pub mod Exit

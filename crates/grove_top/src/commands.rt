@@ -1,17 +1,13 @@
 ghost use Rattle.std.specs.Prelude.{◌≡◌, ◌≤◌, length, IfOk};
-ghost use Rattle.grove_edits.specs.Graph.{Ascends};
-ghost use Rattle.edit_text.specs.Text.{text_of};
-ghost use Rattle.grove_top.specs.declared.limit.TheConstants.{MOST_BYTES};
-ghost use Rattle.grove_top.specs.Due.{IsCommandDue, malformed_text, fault_word};
-ghost use Rattle.grove_top.specs.Graph.{IsAnswerOf};
+ghost use Rattle.grove_edits.specs.Graph.{graph, Ascends};
+ghost use Rattle.grove_top.specs.Due.{IsCommandDue, IsAnswerOf, most_bytes, malformed_text, fault_word};
 
-use crate::check::check_text;
 use crate::command::Command;
 use crate::no_memory::NoMemory;
 use crate::outcome::{Fault, Status};
 use crate::reading::read_edits;
-use crate::show::print_text;
-use edit_text::{TextFault, write_edits};
+use edit_text::TextFault;
+use grove_answers::{canonical_text, check_text, print_text};
 use grove_edits::EditList;
 use std::alloc::Global;
 use text_parts::write_number;
@@ -25,7 +21,7 @@ pub(crate) struct Due {
 
 /// What is due for a command on an input of at most `MOST_BYTES` bytes.
 pub(crate) fn form_due(alloc: Global, command: Command, text: &[u8]) -> Result<Due, NoMemory>
-    requires { length text.now ≤ MOST_BYTES }
+    requires { length text.now ≤ most_bytes }
     ensures { IfOk result (λ due. IsCommandDue command text.now due.status due.text.items) }
 {
     match read_edits(alloc, text) {
@@ -44,21 +40,13 @@ pub(crate) fn form_due(alloc: Global, command: Command, text: &[u8]) -> Result<D
 
 fn answer(alloc: Global, command: Command, edits: EditList) -> Result<Vec<u8>, NoMemory>
     requires { Ascends edits }
-    ensures { IfOk result (λ text. IsAnswerOf command edits text.items) }
+    ensures { IfOk result (λ text. IsAnswerOf command (graph edits) text.items) }
 {
-    match command {
-        Command::Merge => text_of(alloc, &edits),
-        Command::Show => print_text(alloc, edits),
-        Command::Check => check_text(alloc, edits),
-    }
-}
-
-fn text_of(alloc: Global, edits: &EditList) -> Result<Vec<u8>, NoMemory>
-    ensures { IfOk result (λ text. text.items ≡ text_of edits.now) }
-{
-    let mut text = Vec::new(alloc);
-    write_edits(edits.as_slice(), &mut text)?;
-    Ok(text)
+    Ok(match command {
+        Command::Merge => canonical_text(alloc, &edits)?,
+        Command::Show => print_text(alloc, edits)?,
+        Command::Check => check_text(alloc, edits)?,
+    })
 }
 
 fn malformed(alloc: Global, line: u64, fault: Fault) -> Result<Due, NoMemory>

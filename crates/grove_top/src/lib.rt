@@ -2,7 +2,6 @@
 //! What is written is what the definitions say is due for the words and the bytes; the program stands on this crate.
 #![tactic(auto)]
 
-mod check;
 mod command;
 mod commands;
 mod exit;
@@ -10,11 +9,8 @@ mod laws;
 mod limit;
 mod no_memory;
 mod outcome;
-mod program;
 mod reading;
-mod show;
 mod top;
-mod walk;
 
 pub use command::Command;
 pub use exit::exit_status;

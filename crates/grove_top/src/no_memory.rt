@@ -32,50 +32,32 @@ impl From<text_parts::NoMemory> for NoMemory {
     }
 }
 
+impl From<grove_io::NoMemory> for NoMemory {
+    fn from(_error: grove_io::NoMemory) -> NoMemory {
+        NoMemory
+    }
+}
+
+impl From<grove_edits::NoMemory> for NoMemory {
+    fn from(_error: grove_edits::NoMemory) -> NoMemory {
+        NoMemory
+    }
+}
+
 impl From<edit_text::NoMemory> for NoMemory {
     fn from(_error: edit_text::NoMemory) -> NoMemory {
         NoMemory
     }
 }
 
-impl From<graph_table::NoMemory> for NoMemory {
-    fn from(_error: graph_table::NoMemory) -> NoMemory {
+impl From<edit_stream::NoMemory> for NoMemory {
+    fn from(_error: edit_stream::NoMemory) -> NoMemory {
         NoMemory
     }
 }
 
-impl From<grove_decompose::NoMemory> for NoMemory {
-    fn from(_error: grove_decompose::NoMemory) -> NoMemory {
-        NoMemory
-    }
-}
-
-impl From<grove_printer::NoMemory> for NoMemory {
-    fn from(_error: grove_printer::NoMemory) -> NoMemory {
-        NoMemory
-    }
-}
-
-impl From<type_core::NoMemory> for NoMemory {
-    fn from(_error: type_core::NoMemory) -> NoMemory {
-        NoMemory
-    }
-}
-
-impl From<ctx_table::NoMemory> for NoMemory {
-    fn from(_error: ctx_table::NoMemory) -> NoMemory {
-        NoMemory
-    }
-}
-
-impl From<mark_rules::NoMemory> for NoMemory {
-    fn from(_error: mark_rules::NoMemory) -> NoMemory {
-        NoMemory
-    }
-}
-
-impl From<plain_typing::NoMemory> for NoMemory {
-    fn from(_error: plain_typing::NoMemory) -> NoMemory {
+impl From<grove_answers::NoMemory> for NoMemory {
+    fn from(_error: grove_answers::NoMemory) -> NoMemory {
         NoMemory
     }
 }

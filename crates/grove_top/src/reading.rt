@@ -1,7 +1,7 @@
 ghost use Rattle.std.specs.Prelude.{◌≤◌, length, IfOk, IfErr};
 ghost use Rattle.edit_text.specs.Text.{HasTextFault};
-ghost use Rattle.grove_top.specs.declared.limit.TheConstants.{MOST_BYTES};
-ghost use Rattle.grove_top.specs.Graph.{IsListOf};
+ghost use Rattle.grove_top.specs.Due.{most_bytes};
+ghost use Rattle.grove_top.specs.Spelled.{IsListOf};
 
 use edit_stream::{EditStream, FeedFault, FinishFault};
 use edit_text::TextFault;
@@ -10,7 +10,7 @@ use std::alloc::Global;
 
 /// The canonical list of the graph of the edits that a text spells, or the first line that spells none.
 pub(crate) fn read_edits(alloc: Global, text: &[u8]) -> Result<EditList, TextFault>
-    requires { length text.now ≤ MOST_BYTES }
+    requires { length text.now ≤ most_bytes }
     ensures list { IfOk result (IsListOf text.now) }
     ensures fault { IfErr result (HasTextFault text.now) }
 {

@@ -1,0 +1,5 @@
+pub mod Heads
+pub mod Reported
+pub mod SameGraph
+pub mod Sorted
+pub mod Written

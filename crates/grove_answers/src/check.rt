@@ -1,0 +1,97 @@
+ghost use Rattle.std.specs.Prelude.{◌≡◌, ℕ, ◌+◌, ◌++◌, IfOk, OnOk, refl};
+ghost use Rattle.std.proofs.Common.{◌∙◌};
+ghost use Rattle.grove_edits.specs.Graph.{graph, Ascends};
+ghost use Rattle.plain_typing.specs.Typed.{AreTyped};
+ghost use Rattle.grove_printer.specs.Print.{trees_marked_lines};
+ghost use Rattle.grove_answers.specs.Texts.{IsCheckText, roots_line};
+ghost use Rattle.grove_answers.specs.Laws.{lines_none, lines_more, typed_none, typed_more};
+
+use crate::no_memory::NoMemory;
+use crate::program::Program;
+use crate::report::Report;
+use crate::reporting::report_program;
+use crate::walk::Part;
+use ctx_table::CtxTable;
+use grove_edits::EditList;
+use grove_printer::{Section, print_marked_lines_of};
+use plain_typing::is_typed;
+use std::alloc::Global;
+use text_parts::write_number;
+use type_core::TypeTable;
+
+/// The text of `check`, of a canonical list: the lines of `show` with a mark, and how many trees there are and how many are typed.
+pub fn check_text(alloc: Global, edits: EditList) -> Result<Vec<u8>, NoMemory>
+    requires { Ascends edits }
+    ensures { IfOk result (λ text. IsCheckText (graph edits) text.items) }
+{
+    let program = Program::of(alloc, edits)?;
+    let mut checked = Checked {
+        text: Vec::new(alloc),
+        roots: 0,
+        typed: 0,
+    };
+    report_program(alloc, &program, &mut checked)?;
+    let Checked {
+        mut text,
+        roots,
+        typed,
+    } = checked;
+    append_roots(roots, typed, &mut text)?;
+    Ok(text)
+}
+
+// The marked lines so far, how many trees there are in the lists so far, and how many were typed.
+#[derive(Drop)]
+struct Checked {
+    text: Vec<u8>,
+    roots: u64,
+    typed: u64,
+}
+
+impl Report for Checked {
+    ghost begins = { λ before section trees after.
+        (after.text.items ≡ before.text.items) × (after.roots ≡ before.roots + trees) × (after.typed ≡ before.typed) };
+
+    ghost takes = { λ before trees marked after.
+        (after.text.items ≡ before.text.items ++ trees_marked_lines marked) × (after.roots ≡ before.roots)
+        × ((count : ℕ) × AreTyped trees count × (after.typed ≡ before.typed + count)) };
+
+    ghost takes_none = { λ checked. (lines_none checked.text.items, refl, typed_none checked.typed) };
+
+    ghost takes_more = { λ r s t a b m n first then. (
+      lines_more r.text.items s.text.items t.text.items m n first.0 then.0,
+      then.1 ∙ first.1,
+      typed_more a b r.typed s.typed t.typed first.2 then.2,
+    ) };
+
+    // No memory holds so many trees that their number would not fit.
+    fn begin(&mut self, _section: Section, trees: usize) -> Result<(), NoMemory> {
+        self.roots = self.roots.checked_add(trees as u64).ok_or(NoMemory)?;
+        Ok(())
+    }
+
+    fn take(
+        &mut self,
+        alloc: Global,
+        part: &Part,
+        types: &mut TypeTable,
+        contexts: &mut CtxTable,
+    ) -> Result<(), NoMemory> {
+        print_marked_lines_of(&part.marked, types, &mut self.text)?;
+        if is_typed(alloc, &part.tree, types, contexts)? {
+            self.typed = self.typed.checked_add(1).ok_or(NoMemory)?;
+        }
+        Ok(())
+    }
+}
+
+fn append_roots(roots: u64, typed: u64, out: &mut Vec<u8>) -> Result<(), NoMemory>
+    ensures { OnOk result (out.new.items ≡ out.old.items ++ roots_line roots typed) }
+{
+    out.extend_from_slice(b"roots ")?;
+    write_number(roots, out)?;
+    out.extend_from_slice(b" typed ")?;
+    write_number(typed, out)?;
+    out.push(b'\n')?;
+    Ok(())
+}

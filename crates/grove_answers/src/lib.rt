@@ -1,0 +1,19 @@
+//! The way from a canonical list of edits to the text of `merge`, `show` and `check`: the graph by numbers, its trees one after
+//! the other, each with its marking, and what is written of them. The commands stand on this crate.
+#![tactic(auto)]
+
+mod canonical;
+mod check;
+mod laws;
+mod no_memory;
+mod program;
+mod report;
+mod reporting;
+mod show;
+mod walk;
+
+pub use canonical::canonical_text;
+pub use check::check_text;
+pub use laws::same_graphs_have_one_text;
+pub use no_memory::NoMemory;
+pub use show::print_text;

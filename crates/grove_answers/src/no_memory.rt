@@ -1,0 +1,93 @@
+use std::alloc::{AllocError, AllocFailed};
+use std::error::Error;
+use std::fmt;
+
+/// Memory ran out.
+#[derive(Clone, Copy, Debug, PartialEq, Eq)]
+pub struct NoMemory;
+
+impl fmt::Display for NoMemory {
+    fn fmt<W: fmt::Write>(&self, f: &mut fmt::Formatter<W>) -> fmt::Result {
+        f.write_str("out of memory")
+    }
+}
+
+impl Error for NoMemory {}
+
+impl From<AllocError> for NoMemory {
+    fn from(_error: AllocError) -> NoMemory {
+        NoMemory
+    }
+}
+
+impl<T: Drop> From<AllocFailed<T>> for NoMemory {
+    fn from(_error: AllocFailed<T>) -> NoMemory {
+        NoMemory
+    }
+}
+
+impl From<text_parts::NoMemory> for NoMemory {
+    fn from(_error: text_parts::NoMemory) -> NoMemory {
+        NoMemory
+    }
+}
+
+impl From<grove_edits::NoMemory> for NoMemory {
+    fn from(_error: grove_edits::NoMemory) -> NoMemory {
+        NoMemory
+    }
+}
+
+impl From<edit_text::NoMemory> for NoMemory {
+    fn from(_error: edit_text::NoMemory) -> NoMemory {
+        NoMemory
+    }
+}
+
+impl From<graph_table::NoMemory> for NoMemory {
+    fn from(_error: graph_table::NoMemory) -> NoMemory {
+        NoMemory
+    }
+}
+
+impl From<grove_terms::NoMemory> for NoMemory {
+    fn from(_error: grove_terms::NoMemory) -> NoMemory {
+        NoMemory
+    }
+}
+
+impl From<grove_decompose::NoMemory> for NoMemory {
+    fn from(_error: grove_decompose::NoMemory) -> NoMemory {
+        NoMemory
+    }
+}
+
+impl From<type_core::NoMemory> for NoMemory {
+    fn from(_error: type_core::NoMemory) -> NoMemory {
+        NoMemory
+    }
+}
+
+impl From<ctx_table::NoMemory> for NoMemory {
+    fn from(_error: ctx_table::NoMemory) -> NoMemory {
+        NoMemory
+    }
+}
+
+impl From<mark_rules::NoMemory> for NoMemory {
+    fn from(_error: mark_rules::NoMemory) -> NoMemory {
+        NoMemory
+    }
+}
+
+impl From<plain_typing::NoMemory> for NoMemory {
+    fn from(_error: plain_typing::NoMemory) -> NoMemory {
+        NoMemory
+    }
+}
+
+impl From<grove_printer::NoMemory> for NoMemory {
+    fn from(_error: grove_printer::NoMemory) -> NoMemory {
+        NoMemory
+    }
+}

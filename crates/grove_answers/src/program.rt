@@ -1,0 +1,36 @@
+ghost use Rattle.std.specs.Prelude.{◌≡◌, IfOk};
+ghost use Rattle.grove_edits.specs.Graph.{Ascends};
+ghost use Rattle.grove_answers.specs.Program.{IsProgram};
+
+use crate::no_memory::NoMemory;
+use graph_table::{GraphTable, Numbered};
+use grove_decompose::{NumberedHeads, heads_of};
+use grove_edits::EditList;
+use std::alloc::Global;
+
+/// A graph by numbers, and the vertices that head its trees but for those of cycles.
+#[derive(Drop)]
+pub(crate) struct Program {
+    pub(crate) table: GraphTable,
+    /// All vertices, in vertex order.
+    pub(crate) vertices: Vec<Numbered>,
+    pub(crate) heads: NumberedHeads,
+}
+
+impl Program {
+    /// The program of a canonical list.
+    pub(crate) fn of(alloc: Global, edits: EditList) -> Result<Program, NoMemory>
+        requires { Ascends edits }
+        ensures program { IfOk result IsProgram }
+        ensures edits { IfOk result (λ program. program.table.edits ≡ edits) }
+    {
+        let table = GraphTable::of(alloc, edits)?;
+        let vertices = table.in_order(alloc)?;
+        let heads = heads_of(alloc, &table, &vertices)?;
+        Ok(Program {
+            table,
+            vertices,
+            heads,
+        })
+    }
+}

@@ -1,0 +1,43 @@
+ghost use Rattle.std.specs.Prelude.{◌≡◌, ℕ, List, [], ◌∷◌, ◌++◌, OnOk};
+ghost use Rattle.grove_terms.specs.declared.node.Node.{Node};
+ghost use Rattle.marking.specs.Marking.{MarkedNode};
+ghost use Rattle.marking.specs.Sorted.{IsSortedTree};
+ghost use Rattle.mark_rules.specs.Reading.{meant_nodes};
+ghost use Rattle.mark_rules.specs.Numbers.{AreMarkedNodesOf};
+ghost use Rattle.grove_printer.specs.declared.section.Section.{Section};
+
+use crate::no_memory::NoMemory;
+use crate::walk::Part;
+use ctx_table::CtxTable;
+use grove_printer::Section;
+use std::alloc::Global;
+use type_core::TypeTable;
+
+/// What is written of the trees of a graph. It takes them in one after the other, so that one at a time is kept.
+pub(crate) trait Report {
+    /// The heading of a list of so many trees leads from the first state to the second.
+    ghost begins: { Self → Section → ℕ → Self → Type 0 };
+
+    /// Some trees with their markings lead from the first state to the second.
+    ghost takes: { Self → List (List Node) → List (List MarkedNode) → Self → Type 0 };
+
+    /// A list of so many trees comes.
+    fn begin(&mut self, section: Section, trees: usize) -> Result<(), NoMemory>
+        ensures { OnOk result (begins self.old section trees self.new) };
+
+    /// The next tree of the list.
+    fn take(
+        &mut self,
+        alloc: Global,
+        part: &Part,
+        types: &mut TypeTable,
+        contexts: &mut CtxTable,
+    ) -> Result<(), NoMemory>
+        requires sorted { IsSortedTree part.now.tree }
+        requires numbers { AreMarkedNodesOf types.old part.now.marked }
+        ensures { OnOk result (takes self.old (part.now.tree ∷ []) (meant_nodes types.old part.now.marked ∷ []) self.new) };
+
+    ghost takes_none: { (r : Self) → takes r [] [] r };
+
+    ghost takes_more: { (r s t : Self) (a b : List (List Node)) (m n : List (List MarkedNode)) → takes r a m s → takes s b n t → takes r (a ++ b) (m ++ n) t };
+}

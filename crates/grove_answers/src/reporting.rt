@@ -1,0 +1,88 @@
+ghost use Rattle.std.specs.Prelude.{◌≡◌, OnOk};
+ghost use Rattle.std.specs.List.{AllByRecursion};
+ghost use Rattle.grove_edits.specs.Graph.{graph};
+ghost use Rattle.walks.specs.Whole.{AreLive};
+ghost use Rattle.graph_table.specs.Table.{live};
+ghost use Rattle.grove_decompose.specs.Trees.{OnlyInner, vertices_of};
+ghost use Rattle.grove_answers.specs.Program.{IsHead, IsProgram};
+ghost use Rattle.grove_answers.specs.Reports.{AreReported, TakesSection, IsReported};
+
+use crate::no_memory::NoMemory;
+use crate::program::Program;
+use crate::report::Report;
+use crate::walk::Walk;
+use graph_table::{GraphTable, Numbered};
+use grove_decompose::cycle_heads;
+use grove_printer::Section;
+use std::alloc::Global;
+
+/// Reports all trees, in the order of the print text.
+pub(crate) fn report_program<R: Report>(
+    alloc: Global,
+    program: &Program,
+    report: &mut R,
+) -> Result<(), NoMemory>
+    requires { IsProgram program.now }
+    ensures { OnOk result (IsReported R.begins R.takes (graph program.now.table.edits) report.old report.new) }
+{
+    let table = &program.table;
+    let heads = &program.heads;
+    let mut walk = Walk::new(alloc, table)?;
+    report_section(
+        alloc,
+        Section::NoParent,
+        table,
+        &heads.none,
+        &mut walk,
+        report,
+    )?;
+    report_section(
+        alloc,
+        Section::Multi,
+        table,
+        &heads.multi,
+        &mut walk,
+        report,
+    )?;
+    let cycles = cycle_heads(alloc, table, &program.vertices, &walk.seen)?;
+    report_section(alloc, Section::Cycle, table, &cycles, &mut walk, report)
+}
+
+// Reports the trees of some vertices that head one each, under a heading.
+fn report_section<R: Report>(
+    alloc: Global,
+    section: Section,
+    table: &GraphTable,
+    heads: &[Numbered],
+    walk: &mut Walk,
+    report: &mut R,
+) -> Result<(), NoMemory>
+    requires whole { AreLive (graph table.now.edits) (live table.now) }
+    requires heads { AllByRecursion (IsHead table.now) heads.now }
+    requires seen { OnlyInner table.now walk.old.seen }
+    ensures reported { OnOk result (AreReported (TakesSection R.begins R.takes section) (live table.now) (vertices_of heads.now) report.old report.new) }
+    ensures seen { OnOk result (OnlyInner table.now walk.new.seen) }
+{
+    report.begin(section, heads.len())?;
+    report_trees(alloc, table, heads, walk, report)
+}
+
+fn report_trees<R: Report>(
+    alloc: Global,
+    table: &GraphTable,
+    heads: &[Numbered],
+    walk: &mut Walk,
+    report: &mut R,
+) -> Result<(), NoMemory>
+    requires whole { AreLive (graph table.now.edits) (live table.now) }
+    requires heads { AllByRecursion (IsHead table.now) heads.now }
+    requires seen { OnlyInner table.now walk.old.seen }
+    ensures reported { OnOk result (AreReported R.takes (live table.now) (vertices_of heads.now) report.old report.new) }
+    ensures seen { OnOk result (OnlyInner table.now walk.new.seen) }
+{
+    for head in heads {
+        let part = walk.part(alloc, table, head)?;
+        report.take(alloc, &part, &mut walk.types, &mut walk.contexts)?;
+    }
+    Ok(())
+}

@@ -1,0 +1,59 @@
+ghost use Rattle.std.specs.Prelude.{◌≡◌, ◌++◌, IfOk};
+ghost use Rattle.grove_edits.specs.Graph.{graph, Ascends};
+ghost use Rattle.grove_printer.specs.Print.{heading, trees_text};
+ghost use Rattle.grove_answers.specs.Texts.{IsPrintText};
+ghost use Rattle.grove_answers.specs.Laws.{prints_none, prints_more};
+
+use crate::no_memory::NoMemory;
+use crate::program::Program;
+use crate::report::Report;
+use crate::reporting::report_program;
+use crate::walk::Part;
+use ctx_table::CtxTable;
+use grove_edits::EditList;
+use grove_printer::{Section, print_heading, print_tree};
+use std::alloc::Global;
+use type_core::TypeTable;
+
+/// The text of `show`, of a canonical list: under a heading for each of the three lists of trees a line for each node.
+pub fn print_text(alloc: Global, edits: EditList) -> Result<Vec<u8>, NoMemory>
+    requires { Ascends edits }
+    ensures { IfOk result (λ text. IsPrintText (graph edits) text.items) }
+{
+    let program = Program::of(alloc, edits)?;
+    let mut shown = Shown {
+        text: Vec::new(alloc),
+    };
+    report_program(alloc, &program, &mut shown)?;
+    Ok(shown.text)
+}
+
+// The print text so far.
+#[derive(Drop)]
+struct Shown {
+    text: Vec<u8>,
+}
+
+impl Report for Shown {
+    ghost begins = { λ before section trees after. after.text.items ≡ before.text.items ++ heading section trees };
+
+    ghost takes = { λ before trees marked after. after.text.items ≡ before.text.items ++ trees_text marked };
+
+    ghost takes_none = { λ shown. prints_none shown.text.items };
+
+    ghost takes_more = { λ r s t a b m n first then. prints_more r.text.items s.text.items t.text.items m n first then };
+
+    fn begin(&mut self, section: Section, trees: usize) -> Result<(), NoMemory> {
+        Ok(print_heading(section, trees, &mut self.text)?)
+    }
+
+    fn take(
+        &mut self,
+        _alloc: Global,
+        part: &Part,
+        types: &mut TypeTable,
+        _contexts: &mut CtxTable,
+    ) -> Result<(), NoMemory> {
+        Ok(print_tree(&part.marked, types, &mut self.text)?)
+    }
+}
