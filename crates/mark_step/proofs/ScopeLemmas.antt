@@ -7,7 +7,7 @@ use Rattle.grove_sorts.specs.declared.ident.Ident.{Ident}
 use Rattle.type_core.specs.Typ.{Typ}
 use Rattle.type_core.specs.TypeTable.{IsTypeOf, type_at}
 use Rattle.ctx_table.specs.Context.{Context, is_same_name, look_up}
-use Rattle.ctx_table.proofs.ContextLemmas.{is_same_name-same, same_name_is_same}
+use Rattle.ctx_table.proofs.ContextLemmas.{is_same_name-same, is_same_name-other}
 use Rattle.mark_step.specs.Scope.{Scope, type_of_name, scope_of, IsTyped}
 
 -- what is looked up in a context, read through the types, is what its scope has
@@ -27,13 +27,6 @@ found_number types (b ∷ bs) name all = by (is_same_name b.0 name) (found_numbe
     by : (same : Bool) → IfSome (look_up bs name) (IsTypeOf types) → IfSome (if same then Some b.1 else look_up bs name) (IsTypeOf types)
     by true rest = All-head (λ b. IsTypeOf types b.1) b bs all
     by false rest = rest
-
-is_same_name-other : (a b : Ident) → a ≢ b → is_same_name a b ≡ false
-is_same_name-other a b ne = by (cases_Bool (is_same_name a b))
-  where
-    by : (is_same_name a b ≡ true) ⊎ (is_same_name a b ≡ false) → is_same_name a b ≡ false
-    by (inl h) = absurd (ne (same_name_is_same a b h))
-    by (inr h) = h
 
 pub type_of_name-unbound : (scope : Scope) (name : Ident) → All (λ b. b.0 ≢ name) scope → type_of_name scope name ≡ None
 type_of_name-unbound [] name all = refl

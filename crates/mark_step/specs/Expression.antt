@@ -1,5 +1,5 @@
 -- Expressions as the rules of marking see them, and what the rules say of them.
-use Rattle.std.specs.Prelude.{Option}
+use Rattle.std.specs.Prelude.{Bool, true, false, Option}
 use Rattle.grove_sorts.specs.declared.ctor.Ctor.{Ctor}
 use Rattle.grove_sorts.specs.declared.ident.Ident.{Ident}
 use Rattle.type_core.specs.Typ.{Typ}
@@ -43,3 +43,15 @@ unmarked t = marked t mark.None
 -- the scope of the body of a function that binds so and stands in this one
 abbrev pub body_scope : Bound → Scope → Scope
 body_scope b scope = bind b.name b.typ scope
+
+-- something is wrong
+abbrev pub has_mark : Mark → Bool
+has_mark mark.None = false
+has_mark mark.Free = true
+has_mark mark.NotArrow = true
+has_mark mark.NotProduct = true
+has_mark mark.Branches = true
+has_mark mark.LamAgainst = true
+has_mark mark.Ascription = true
+has_mark mark.PairAgainst = true
+has_mark mark.Inconsistent = true

@@ -1,10 +1,10 @@
 -- The two tables of marking: one rule for each row.
 use Rattle.std.specs.Prelude.{◌≡◌, ◌≢◌, ℕ, Bool, true, false, List, [], ◌∷◌, ◌++◌, map, count_by, None, Some}
 use Rattle.grove_sorts.specs.declared.ctor.Ctor.{Ctor}
-use Rattle.grove_sorts.specs.declared.ctor.Ctor.TheVariants.{Var, Lam, Ap, Num, Plus, LitTrue, LitFalse, Choose, Pair, Fst, Snd}
+use Rattle.grove_sorts.specs.declared.ctor.Ctor.TheVariants.{Root, Var, Lam, Ap, Num, Plus, LitTrue, LitFalse, Choose, Pair, Fst, Snd, PVar, TNum, TBool, TArrow, TProd}
 use Rattle.grove_sorts.specs.declared.ident.Ident.{Ident}
 use Rattle.grove_sorts.specs.declared.sort.Sort.{Sort}
-use Rattle.grove_sorts.specs.declared.sort.Sort.TheVariants.{Exp}
+use Rattle.grove_sorts.specs.declared.sort.Sort.TheVariants.{Top, Exp, Pat, Typ as TypeSort}
 use Rattle.grove_sorts.specs.Ctor.{positions}
 use Rattle.type_core.specs.declared.former.Former.TheVariants.{Arrow, Product}
 use Rattle.type_core.specs.Typ.{Typ, matched_parts, is_consistent, meet}
@@ -58,10 +58,23 @@ pub data Synthesises (scope : Scope) (b : Bound) : Ctor → List Judgement → T
 
 -- a constructor whose analysis goes by its synthesis
 abbrev pub IsOther : Ctor → Type 0
+IsOther Root = Unit {0}
+IsOther (Var x) = Unit {0}
 IsOther Lam = ⊥
+IsOther Ap = Unit {0}
+IsOther (Num n) = Unit {0}
+IsOther Plus = Unit {0}
+IsOther LitTrue = Unit {0}
+IsOther LitFalse = Unit {0}
 IsOther Choose = ⊥
 IsOther Pair = ⊥
-IsOther _ = Unit {0}
+IsOther Fst = Unit {0}
+IsOther Snd = Unit {0}
+IsOther (PVar x) = Unit {0}
+IsOther TNum = Unit {0}
+IsOther TBool = Unit {0}
+IsOther TArrow = Unit {0}
+IsOther TProd = Unit {0}
 
 -- Analysis against a type: the children are judged so, in table order, and the expression shows this type and this mark.
 pub data Analyses (scope : Scope) (b : Bound) (against : Typ) : Ctor → List Judgement → Typ → Mark → Type 0 where
@@ -110,7 +123,9 @@ judgements e done = judgements_after e [] done
 
 abbrev pub is_exp : Sort → Bool
 is_exp Exp = true
-is_exp _ = false
+is_exp Top = false
+is_exp Pat = false
+is_exp TypeSort = false
 
 -- how many children of a constructor are expressions
 abbrev pub expression_count : Ctor → ℕ

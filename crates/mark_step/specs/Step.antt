@@ -4,7 +4,7 @@ use Rattle.std.specs.Prelude.{ℕ, Bool, true, false, List, [], ◌∷◌, Optio
 use Rattle.std.specs.Option.{option_map}
 use Rattle.std.specs.List.{slice_index_or}
 use Rattle.grove_sorts.specs.declared.ctor.Ctor.{Ctor}
-use Rattle.grove_sorts.specs.declared.ctor.Ctor.TheVariants.{Var, Lam, Ap, Num, Plus, LitTrue, LitFalse, Choose, Pair, Fst, Snd}
+use Rattle.grove_sorts.specs.declared.ctor.Ctor.TheVariants.{Root, Var, Lam, Ap, Num, Plus, LitTrue, LitFalse, Choose, Pair, Fst, Snd, PVar, TNum, TBool, TArrow, TProd}
 use Rattle.type_core.specs.declared.former.Former.{Former}
 use Rattle.type_core.specs.declared.former.Former.TheVariants.{Arrow, Product}
 use Rattle.type_core.specs.Typ.{Typ, matched_parts, is_consistent, meet}
@@ -40,12 +40,23 @@ wanted_in_pair (Analyse t) (_ ∷ _) = Analyse (parts_or_unknown Product t).1
 
 -- what is wanted of the child that comes next after children of these types, where this is wanted of the expression
 abbrev pub wanted_next : Ctor → Wanted → List Typ → Wanted
+wanted_next Root w before = Synthesise
+wanted_next (Var x) w before = Synthesise
 wanted_next Lam w before = wanted_of_body w
 wanted_next Ap w before = wanted_in_application before
+wanted_next (Num n) w before = Synthesise
 wanted_next Plus w before = Analyse typ.Num
+wanted_next LitTrue w before = Synthesise
+wanted_next LitFalse w before = Synthesise
 wanted_next Choose w before = wanted_in_conditional w before
 wanted_next Pair w before = wanted_in_pair w before
-wanted_next _ w before = Synthesise
+wanted_next Fst w before = Synthesise
+wanted_next Snd w before = Synthesise
+wanted_next (PVar x) w before = Synthesise
+wanted_next TNum w before = Synthesise
+wanted_next TBool w before = Synthesise
+wanted_next TArrow w before = Synthesise
+wanted_next TProd w before = Synthesise
 
 -- what is demanded of the child that comes next after children of these types
 abbrev pub demand : Expression → List Typ → Demanded
@@ -61,6 +72,7 @@ child done i = slice_index_or done i typ.Unknown
 
 -- what an expression synthesises whose children have these types
 abbrev pub synthesised : Ctor → Scope → Bound → List Typ → Marked
+synthesised Root scope b done = unmarked typ.Unknown
 synthesised (Var x) scope b done = or_mark (type_of_name scope x) mark.Free
 synthesised Lam scope b done = unmarked (typ.Pair Arrow b.typ (child done 0))
 synthesised Ap scope b done = or_mark (option_map (λ p. p.1) (matched_parts Arrow (child done 0))) mark.NotArrow
@@ -72,7 +84,11 @@ synthesised Choose scope b done = or_mark (meet (child done 1) (child done 2)) m
 synthesised Pair scope b done = unmarked (typ.Pair Product (child done 0) (child done 1))
 synthesised Fst scope b done = or_mark (option_map (λ p. p.0) (matched_parts Product (child done 0))) mark.NotProduct
 synthesised Snd scope b done = or_mark (option_map (λ p. p.1) (matched_parts Product (child done 0))) mark.NotProduct
-synthesised _ scope b done = unmarked typ.Unknown
+synthesised (PVar x) scope b done = unmarked typ.Unknown
+synthesised TNum scope b done = unmarked typ.Unknown
+synthesised TBool scope b done = unmarked typ.Unknown
+synthesised TArrow scope b done = unmarked typ.Unknown
+synthesised TProd scope b done = unmarked typ.Unknown
 
 -- the mark of a function that ascribes a type, by the parts of the type that it is analysed against
 abbrev pub function_mark : Typ → Option (Typ × Typ) → Mark
@@ -88,7 +104,14 @@ pair_mark (Some p) = mark.None
 abbrev pub mark_against : Mark → Bool → Mark
 mark_against mark.None true = mark.None
 mark_against mark.None false = mark.Inconsistent
-mark_against m _ = m
+mark_against mark.Free same = mark.Free
+mark_against mark.NotArrow same = mark.NotArrow
+mark_against mark.NotProduct same = mark.NotProduct
+mark_against mark.Branches same = mark.Branches
+mark_against mark.LamAgainst same = mark.LamAgainst
+mark_against mark.Ascription same = mark.Ascription
+mark_against mark.PairAgainst same = mark.PairAgainst
+mark_against mark.Inconsistent same = mark.Inconsistent
 
 -- what was synthesised, analysed against a type
 abbrev pub against : Typ → Marked → Marked
@@ -96,10 +119,23 @@ against t found = marked found.typ (mark_against found.mark (is_consistent found
 
 -- what an expression gets that is analysed against a type and whose children have these types
 abbrev pub analysed : Ctor → Scope → Bound → Typ → List Typ → Marked
+analysed Root scope b t done = against t (synthesised Root scope b done)
+analysed (Var x) scope b t done = against t (synthesised (Var x) scope b done)
 analysed Lam scope b t done = marked t (function_mark b.typ (matched_parts Arrow t))
+analysed Ap scope b t done = against t (synthesised Ap scope b done)
+analysed (Num n) scope b t done = against t (synthesised (Num n) scope b done)
+analysed Plus scope b t done = against t (synthesised Plus scope b done)
+analysed LitTrue scope b t done = against t (synthesised LitTrue scope b done)
+analysed LitFalse scope b t done = against t (synthesised LitFalse scope b done)
 analysed Choose scope b t done = unmarked t
 analysed Pair scope b t done = marked t (pair_mark (matched_parts Product t))
-analysed ctor scope b t done = against t (synthesised ctor scope b done)
+analysed Fst scope b t done = against t (synthesised Fst scope b done)
+analysed Snd scope b t done = against t (synthesised Snd scope b done)
+analysed (PVar x) scope b t done = against t (synthesised (PVar x) scope b done)
+analysed TNum scope b t done = against t (synthesised TNum scope b done)
+analysed TBool scope b t done = against t (synthesised TBool scope b done)
+analysed TArrow scope b t done = against t (synthesised TArrow scope b done)
+analysed TProd scope b t done = against t (synthesised TProd scope b done)
 
 abbrev pub settled_as : Wanted → Ctor → Scope → Bound → List Typ → Marked
 settled_as Synthesise ctor scope b done = synthesised ctor scope b done

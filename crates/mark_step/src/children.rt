@@ -47,9 +47,15 @@ fn child_context(ctxs: &mut CtxTable, node: &NodeView) -> Result<CtxId, NoMemory
         ≡ bindings_inside node.now.ctor node.now.binder.name node.now.binder.typ (context_at ctxs.old node.now.ctx)) }
     ensures kept { KeepsContexts ctxs.old ctxs.new }
 {
-    match (node.ctor, node.binder.name) {
-        (Ctor::Lam, Some(name)) => Ok(ctxs.extend(node.ctx, name, node.binder.typ)?),
-        _ => Ok(node.ctx),
+    let Some(name) = node.binder.name else {
+        return Ok(node.ctx);
+    };
+    match node.ctor {
+        Ctor::Lam => Ok(ctxs.extend(node.ctx, name, node.binder.typ)?),
+        Ctor::Root | Ctor::Var(_) | Ctor::Ap | Ctor::Num(_) | Ctor::Plus => Ok(node.ctx),
+        Ctor::LitTrue | Ctor::LitFalse | Ctor::Choose => Ok(node.ctx),
+        Ctor::Pair | Ctor::Fst | Ctor::Snd => Ok(node.ctx),
+        Ctor::PVar(_) | Ctor::TNum | Ctor::TBool | Ctor::TArrow | Ctor::TProd => Ok(node.ctx),
     }
 }
 
@@ -67,7 +73,9 @@ fn child_mode(types: &TypeTable, node: &NodeView, index: usize) -> Mode
         Ctor::Plus => Mode::Ana(types.num()),
         Ctor::Choose => mode_in_conditional(types, node, index),
         Ctor::Pair => mode_in_pair(types, node, index),
-        _ => Mode::Syn,
+        Ctor::Root | Ctor::Fst | Ctor::Snd => Mode::Syn,
+        Ctor::Var(_) | Ctor::Num(_) | Ctor::LitTrue | Ctor::LitFalse => Mode::Syn,
+        Ctor::PVar(_) | Ctor::TNum | Ctor::TBool | Ctor::TArrow | Ctor::TProd => Mode::Syn,
     }
 }
 

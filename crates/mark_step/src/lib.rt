@@ -15,7 +15,7 @@ pub use laws::{
     look_ups_are_innermost, no_expression_has_two_marks, numbers_keep_their_meaning,
 };
 pub use no_memory::NoMemory;
-pub use node::{Binder, Demand, Mark, Mode, NodeView, Settled, WIDEST};
+pub use node::{Binder, Demand, Mark, Mode, NodeView, Settled};
 pub use settling::settle;
 
 #[cfg(test)]

@@ -1,12 +1,10 @@
 ghost use Rattle.std.specs.Prelude.{◌≡◌, Some, None, IsSome};
 ghost use Rattle.std.specs.List.{slice_index_or};
+ghost use Rattle.mark_step.specs.Expression.{has_mark};
 
 use ctx_table::CtxId;
-use grove_sorts::{Ctor, Ident};
+use grove_sorts::{Ctor, Ident, WIDEST};
 use type_core::TypeId;
-
-/// How many positions a constructor has at most.
-pub const WIDEST: usize = 3;
 
 /// What is wanted of an expression.
 #[derive(Clone, Copy, Debug, PartialEq, Eq)]
@@ -38,6 +36,15 @@ pub enum Mark {
     PairAgainst,
     /// An expression whose type is inconsistent with the one wanted.
     Inconsistent,
+}
+
+impl Mark {
+    /// Whether something is wrong.
+    pub fn is_some(self) -> bool
+        ensures { result ≡ has_mark self }
+    {
+        !matches!(self, Mark::None)
+    }
 }
 
 /// What a function binds. Other constructors bind nothing, and do not use it.

@@ -60,9 +60,19 @@ fn analyse(
         Ctor::Lam => function_against(alloc, types, node.binder.typ, typ),
         Ctor::Choose => Ok(unmarked(typ)),
         Ctor::Pair => Ok(pair_against(types, typ)),
-        _ => {
+        Ctor::Var(_)
+        | Ctor::Ap
+        | Ctor::Num(_)
+        | Ctor::Plus
+        | Ctor::LitTrue
+        | Ctor::LitFalse
+        | Ctor::Fst
+        | Ctor::Snd => {
             let found = synthesise(alloc, types, ctxs, node)?;
             against(alloc, types, found, typ)
+        }
+        Ctor::Root | Ctor::PVar(_) | Ctor::TNum | Ctor::TBool | Ctor::TArrow | Ctor::TProd => {
+            unreachable!()
         }
     }
 }
