@@ -16,10 +16,10 @@ use Rattle.judging.specs.Machine as machine
 use Rattle.judging.specs.declared.frame.Closed.{Closed}
 use Rattle.judging.specs.Frames.{frames_at, frames_in, added_at, IsClosedOf}
 use Rattle.judging.proofs.Kept.{mode_kept, wanted_kept, some_number_kept, frames_kept, frames_at-kept}
-use Rattle.mark_rules.specs.declared.marked_node.MarkedNode.{MarkedNode}
+use Rattle.marking.specs.declared.marked_node.MarkedNode.{MarkedNode}
 use Rattle.mark_rules.specs.declared.taking.Walk.{Walk}
-use Rattle.mark_rules.specs.Reading.{meant, meant_nodes}
-use Rattle.mark_rules.specs.Numbers.{IsMarkedNodeOf, AreMarkedNodesOf}
+use Rattle.marking.specs.Reading.{meant, meant_nodes}
+use Rattle.marking.specs.Numbers.{IsMarkedNodeOf, AreMarkedNodesOf}
 use Rattle.mark_rules.specs.Walking.{state_at, IsWalkOf}
 
 module _ (old new : List Typ) (keeps : KeepsTypes old new) where

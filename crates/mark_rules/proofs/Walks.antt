@@ -22,10 +22,10 @@ use Rattle.judging.specs.declared.frame.Closed.{Closed}
 use Rattle.judging.specs.Machine as machine
 use Rattle.judging.specs.Frames.{given_at, opened_at, left_of, frames_at, frames_in, added_at, AreFramesOf, IsClosedOf}
 use Rattle.judging.proofs.Frames as frames
-use Rattle.mark_rules.specs.declared.marked_node.MarkedNode.{MarkedNode}
+use Rattle.marking.specs.declared.marked_node.MarkedNode.{MarkedNode}
 use Rattle.mark_rules.specs.declared.taking.Walk.{Walk}
-use Rattle.mark_rules.specs.Reading.{meant, meant_nodes}
-use Rattle.mark_rules.specs.Numbers.{IsMarkedNodeOf, AreMarkedNodesOf}
+use Rattle.marking.specs.Reading.{meant, meant_nodes}
+use Rattle.marking.specs.Numbers.{IsMarkedNodeOf, AreMarkedNodesOf}
 use Rattle.mark_rules.specs.Walking.{state_at, given_on, IsWalkOf}
 use Rattle.mark_rules.proofs.Kept.{state_at-kept, meant_nodes_kept, marked_nodes_kept, settled_at, meant_nodes-settled, are_marked-settled, meant_nodes-push, are_marked-push, length-meant}
 

@@ -6,8 +6,8 @@ use Rattle.judging.specs.declared.frame.Given.{Given}
 use Rattle.judging.specs.Frames.{given_at, frames_at, frames_in, AreFramesOf}
 use Rattle.judging.specs.Machine as machine
 use Rattle.mark_rules.specs.declared.taking.Walk.{Walk}
-use Rattle.mark_rules.specs.Reading.{meant_nodes}
-use Rattle.mark_rules.specs.Numbers.{AreMarkedNodesOf}
+use Rattle.marking.specs.Reading.{meant_nodes}
+use Rattle.marking.specs.Numbers.{AreMarkedNodesOf}
 
 abbrev pub state_at : List Typ → List Context → Walk → machine.State
 state_at types ctxs w = machine.at (frames_at types ctxs w.frames.items) (meant_nodes types w.out)

@@ -1,11 +1,9 @@
 ghost use Rattle.std.specs.Prelude.{◌≡◌, ◌++◌, map, IfOk, OnOk};
-ghost use Rattle.mark_rules.specs.Reading.{bare_nodes};
+ghost use Rattle.marking.specs.Reading.{bare_nodes};
 
-use crate::marked_grove::MarkedGrove;
-use crate::marked_tree::MarkedTree;
-use crate::marked_tree_list::MarkedTreeList;
 use crate::no_memory::NoMemory;
 use grove_terms::{Grove, Tree, TreeList};
+use marking::{MarkedGrove, MarkedTree, MarkedTreeList};
 use std::alloc::Global;
 
 /// The grove without what marking added.

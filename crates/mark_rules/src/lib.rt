@@ -3,19 +3,12 @@
 #![tactic(auto)]
 
 mod erasing;
-mod marked_grove;
-mod marked_node;
-mod marked_tree;
-mod marked_tree_list;
 mod marking_trees;
 mod no_memory;
 mod taking;
 
 pub use erasing::erase;
-pub use marked_grove::MarkedGrove;
-pub use marked_node::MarkedNode;
-pub use marked_tree::MarkedTree;
-pub use marked_tree_list::MarkedTreeList;
+pub use marking::{MarkedGrove, MarkedNode, MarkedTree, MarkedTreeList};
 pub use marking_trees::{mark_grove, mark_tree};
 pub use no_memory::NoMemory;
 

@@ -2,17 +2,15 @@ ghost use Rattle.std.specs.Prelude.{◌≡◌, map, IfOk};
 ghost use Rattle.type_core.specs.TypeTable.{KeepsTypes};
 ghost use Rattle.ctx_table.specs.CtxTable.{KeepsContexts};
 ghost use Rattle.marking.specs.Grove.{IsMarkedTree, AreMarkedTrees, IsMarkedGrove};
-ghost use Rattle.mark_rules.specs.Reading.{meant_nodes, meant_grove};
-ghost use Rattle.mark_rules.specs.Numbers.{AreMarkedNodesOf, AreMarkedListsOf, IsMarkedGroveOf};
+ghost use Rattle.marking.specs.Reading.{meant_nodes, meant_grove};
+ghost use Rattle.marking.specs.Numbers.{AreMarkedNodesOf, AreMarkedListsOf, IsMarkedGroveOf};
 ghost use Rattle.marking.specs.Sorted.{IsSortedTree, AreSortedTrees, IsSortedGrove};
 
-use crate::marked_grove::MarkedGrove;
-use crate::marked_tree::MarkedTree;
-use crate::marked_tree_list::MarkedTreeList;
 use crate::no_memory::NoMemory;
 use crate::taking::{Walk, take};
 use ctx_table::CtxTable;
 use grove_terms::{Grove, Tree, TreeList};
+use marking::{MarkedGrove, MarkedTree, MarkedTreeList};
 use std::alloc::Global;
 use type_core::TypeTable;
 

@@ -37,3 +37,9 @@ impl From<judging::NoMemory> for NoMemory {
         NoMemory
     }
 }
+
+impl From<marking::NoMemory> for NoMemory {
+    fn from(_error: marking::NoMemory) -> NoMemory {
+        NoMemory
+    }
+}

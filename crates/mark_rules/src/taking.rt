@@ -6,21 +6,20 @@ ghost use Rattle.type_core.specs.TypeTable.{KeepsTypes};
 ghost use Rattle.ctx_table.specs.CtxTable.{KeepsContexts};
 ghost use Rattle.mark_step.specs.Node.{wanted_at, demanded_at, IsModeOf, IsDemandOf};
 ghost use Rattle.marking.specs.Marking.{marked_plain, marked_tree};
-ghost use Rattle.mark_rules.specs.Reading.{meant, meant_nodes};
+ghost use Rattle.marking.specs.Reading.{meant, meant_nodes};
 ghost use Rattle.judging.specs.Machine as machine;
 ghost use Rattle.judging.specs.Machine.{deliver, opened, taken, step};
 ghost use Rattle.judging.specs.Frames.{given_at, opened_at, left_of, frame_at, frames_at, IsGivenOf, IsOpenOf, IsFrameOf};
-ghost use Rattle.mark_rules.specs.Numbers.{IsMarkedNodeOf, AreMarkedNodesOf};
+ghost use Rattle.marking.specs.Numbers.{IsMarkedNodeOf, AreMarkedNodesOf};
 ghost use Rattle.mark_rules.specs.Walking.{state_at, given_on, IsWalkOf};
 
-use crate::marked_node::MarkedNode;
-use crate::marked_tree::MarkedTree;
 use crate::no_memory::NoMemory;
 use ctx_table::CtxTable;
 use grove_sorts::{Sort, position_count, sort_of};
 use grove_terms::{Node, What};
 use judging::{Frame, Given, OpenVertex, close, demand_next, fill, fresh, nothing};
 use mark_step::{Demand, Mark, Mode};
+use marking::{MarkedNode, MarkedTree};
 use std::alloc::Global;
 use type_core::TypeTable;
 

@@ -1,11 +1,8 @@
 use crate::erasing::erase;
-use crate::marked_grove::MarkedGrove;
-use crate::marked_node::MarkedNode;
-use crate::marked_tree::MarkedTree;
-use crate::marked_tree_list::MarkedTreeList;
 use grove_sorts::{Position, Sort};
 use grove_terms::{Node, What};
 use mark_step::{Mark, Mode};
+use marking::{MarkedGrove, MarkedNode, MarkedTree, MarkedTreeList};
 use std::test::Fail;
 use type_core::TypeTable;
 

@@ -17,6 +17,7 @@ use Rattle.mark_step.specs.declared.node.Mark.{Mark}
 use Rattle.mark_step.specs.declared.node.Mark.TheVariants as mark
 use Rattle.mark_step.specs.Scope.{Scope}
 use Rattle.mark_step.specs.Expression.{Wanted, Synthesise, Expression, Demanded, Marked}
+pub use Rattle.mark_step.specs.Expression.{has_mark}
 use Rattle.mark_step.specs.Step.{demand, settled}
 use Rattle.mark_step.specs.Rows.{is_exp}
 use Rattle.marking.specs.Types.{if_sole, tree_type, bound_in}
@@ -27,10 +28,6 @@ pub record MarkedNode : Type 0 where
   pub wanted : Option Wanted
   pub typ : Option Typ
   pub mark : Mark
-
-abbrev pub has_mark : Mark → Bool
-has_mark mark.None = false
-has_mark _ = true
 
 -- no node has a mark
 abbrev pub HasNoMark : List MarkedNode → Type 0

@@ -2,7 +2,7 @@
 use Rattle.std.specs.Prelude.{ℕ, zero, suc, Option, None, Some, if◌then◌else◌}
 use Rattle.grove_sorts.specs.declared.ident.Ident.{Ident}
 use Rattle.grove_sorts.specs.declared.ctor.Ctor.{Ctor}
-use Rattle.grove_sorts.specs.declared.ctor.Ctor.TheVariants.{PVar, TNum, TBool, TArrow, TProd}
+use Rattle.grove_sorts.specs.declared.ctor.Ctor.TheVariants as ctor
 use Rattle.grove_sorts.specs.declared.position.Position.{Position}
 use Rattle.grove_sorts.specs.declared.position.Position.TheVariants.{Param, Annot, Left, Right, Dom, Cod}
 use Rattle.grove_sorts.specs.Position.{is_same_position}
@@ -20,11 +20,23 @@ if_sole (suc (suc _)) found other = other
 
 -- the type that a constructor of types makes of the types at its positions
 abbrev pub type_made : Ctor → (Position → Typ) → Typ
-type_made TNum at = Num
-type_made TBool at = Boolean
-type_made TArrow at = Pair Arrow (at Dom) (at Cod)
-type_made TProd at = Pair Product (at Left) (at Right)
-type_made _ at = Unknown
+type_made ctor.Root at = Unknown
+type_made (ctor.Var x) at = Unknown
+type_made ctor.Lam at = Unknown
+type_made ctor.Ap at = Unknown
+type_made (ctor.Num n) at = Unknown
+type_made ctor.Plus at = Unknown
+type_made ctor.LitTrue at = Unknown
+type_made ctor.LitFalse at = Unknown
+type_made ctor.Choose at = Unknown
+type_made ctor.Pair at = Unknown
+type_made ctor.Fst at = Unknown
+type_made ctor.Snd at = Unknown
+type_made (ctor.PVar x) at = Unknown
+type_made ctor.TNum at = Num
+type_made ctor.TBool at = Boolean
+type_made ctor.TArrow at = Pair Arrow (at Dom) (at Cod)
+type_made ctor.TProd at = Pair Product (at Left) (at Right)
 
 -- the type of the tree that is a child at a position; a reference has none
 abbrev pub child_type : Forest → Position → Typ
@@ -43,8 +55,23 @@ abbrev pub tree_type : Ctor → Forest → Typ
 tree_type ctor f = type_made ctor (type_in f)
 
 abbrev pub pattern_name : Ctor → Option Ident
-pattern_name (PVar x) = Some x
-pattern_name _ = None
+pattern_name ctor.Root = None
+pattern_name (ctor.Var x) = None
+pattern_name ctor.Lam = None
+pattern_name ctor.Ap = None
+pattern_name (ctor.Num n) = None
+pattern_name ctor.Plus = None
+pattern_name ctor.LitTrue = None
+pattern_name ctor.LitFalse = None
+pattern_name ctor.Choose = None
+pattern_name ctor.Pair = None
+pattern_name ctor.Fst = None
+pattern_name ctor.Snd = None
+pattern_name (ctor.PVar x) = Some x
+pattern_name ctor.TNum = None
+pattern_name ctor.TBool = None
+pattern_name ctor.TArrow = None
+pattern_name ctor.TProd = None
 
 -- the name of the pattern that is a child at a position; a reference has none
 abbrev pub child_name : Forest → Position → Option Ident

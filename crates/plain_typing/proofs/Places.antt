@@ -2,7 +2,8 @@
 use Rattle.std.proofs.Common.{◌≡◌, ◌↔◌, ℕ, zero, suc, ◌<◌, ◌≤◌, false, List, [], ◌∷◌, ◌++◌, length, refl, ap, arith}
 use Rattle.grove_sorts.specs.declared.position.Position.{Position}
 use Rattle.grove_sorts.specs.declared.sort.Sort.{Sort}
-use Rattle.marking.specs.Marking.{MarkedNode, has_mark, HasNoMark}
+use Rattle.mark_step.specs.Expression.{has_mark}
+use Rattle.marking.specs.Marking.{MarkedNode, HasNoMark}
 use Rattle.judging.specs.Machine as machine
 use Rattle.judging.specs.Machine.{Of, Several}
 use Rattle.judging.specs.Frames.{frame_of}

@@ -13,9 +13,9 @@ use Rattle.grove_terms.specs.declared.node.Node.{Node}
 use Rattle.grove_terms.specs.declared.node.What.{What}
 use Rattle.grove_terms.specs.declared.node.What.TheVariants as whats
 use Rattle.mark_step.specs.declared.node.Demand.{Demand}
-use Rattle.mark_step.specs.Expression.{Demanded}
+use Rattle.mark_step.specs.Expression.{Demanded, has_mark}
 use Rattle.mark_step.specs.Node.{demanded_at}
-use Rattle.marking.specs.Marking.{MarkedNode, has_mark, HasNoMark, marked_plain, synthesised_in}
+use Rattle.marking.specs.Marking.{MarkedNode, HasNoMark, marked_plain, synthesised_in}
 use Rattle.judging.specs.declared.frame.Given.{Given}
 use Rattle.judging.specs.declared.frame.OpenVertex.{OpenVertex}
 use Rattle.judging.specs.declared.frame.Frame.{Frame}

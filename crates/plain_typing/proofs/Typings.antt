@@ -14,12 +14,12 @@ use Rattle.grove_terms.specs.declared.node.What.TheVariants.{Vertex, MultiRef, C
 use Rattle.grove_terms.specs.Forest.{Forest, none, multi_ref, cycle_ref, tree, child_edges, IsWellSorted}
 use Rattle.grove_terms.specs.Nodes.{child_node, head_node, count_at}
 use Rattle.type_core.specs.Typ.{Typ, Unknown}
-use Rattle.mark_step.specs.Expression.{Synthesise, Expression, Demanded, Marked, unmarked}
+use Rattle.mark_step.specs.Expression.{Synthesise, Expression, Demanded, Marked, unmarked, has_mark}
 use Rattle.mark_step.specs.Step.{demand, settled}
 use Rattle.mark_step.specs.Rows.{judgements_after, judgements, child_types, expression_count}
 use Rattle.mark_step.proofs.RowLemmas.{functions_follow_rows, rows_demand, rows_give}
 use Rattle.marking.specs.Types.{if_sole}
-use Rattle.marking.specs.Marking.{MarkedNode, has_mark, HasNoMark, expression, types_at, judged_child, judged_in, children_types, marked_plain, marked_vertex, marked_place, marked_places, marked_children, synthesised_in, by_itself, marked_tree}
+use Rattle.marking.specs.Marking.{MarkedNode, HasNoMark, expression, types_at, judged_child, judged_in, children_types, marked_plain, marked_vertex, marked_place, marked_places, marked_children, synthesised_in, by_itself, marked_tree}
 use Rattle.marking.specs.Rules.{Whether, AreJudged}
 use Rattle.plain_typing.specs.Typed.{HasTypeByRule, PlaceHasType, EachHasType, HasTypeAt, IsTypedOfSort, IsTyped}
 use Rattle.plain_typing.proofs.UnmarkedRows.{row_of_rule, rule_of_row}

@@ -20,9 +20,9 @@ use Rattle.grove_terms.specs.Nodes.{count_at}
 use Rattle.type_core.specs.Typ.{Typ}
 use Rattle.mark_step.specs.declared.node.Mark.{Mark}
 use Rattle.mark_step.specs.declared.node.Mark.TheVariants as mark
-use Rattle.mark_step.specs.Expression.{Wanted, Expression, Demanded}
+use Rattle.mark_step.specs.Expression.{Wanted, Expression, Demanded, has_mark}
 use Rattle.mark_step.specs.Step.{demand}
-use Rattle.marking.specs.Marking.{MarkedNode, has_mark, HasNoMark, expression, judged_in, marked_plain, marked_vertex, marked_place, marked_places, marked_children, synthesised_in}
+use Rattle.marking.specs.Marking.{MarkedNode, HasNoMark, expression, judged_in, marked_plain, marked_vertex, marked_place, marked_places, marked_children, synthesised_in}
 
 -- ---- nodes without marks
 

@@ -2,7 +2,8 @@
 use Rattle.std.specs.Prelude.{◌≡◌, ◌↔◌, ℕ, zero, suc, ◌<◌, false, List, [], ◌∷◌, length, Option, None, Some}
 use Rattle.type_core.specs.Typ.{Typ}
 use Rattle.ctx_table.specs.Context.{Context}
-use Rattle.marking.specs.Marking.{MarkedNode, has_mark, HasNoMark}
+use Rattle.mark_step.specs.Expression.{has_mark}
+use Rattle.marking.specs.Marking.{MarkedNode, HasNoMark}
 use Rattle.judging.specs.declared.frame.Given.{Given}
 use Rattle.judging.specs.Machine as machine
 use Rattle.judging.specs.Machine.{Of, Several}

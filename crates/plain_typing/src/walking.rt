@@ -3,7 +3,7 @@ ghost use Rattle.std.specs.Option.{option_map};
 ghost use Rattle.type_core.specs.TypeTable.{KeepsTypes};
 ghost use Rattle.ctx_table.specs.CtxTable.{KeepsContexts};
 ghost use Rattle.mark_step.specs.Node.{demanded_at, IsDemandOf};
-ghost use Rattle.marking.specs.Marking.{MarkedNode, has_mark};
+ghost use Rattle.marking.specs.Marking.{MarkedNode};
 ghost use Rattle.judging.specs.Machine.{State, deliver, opened, taken, step};
 ghost use Rattle.judging.specs.Frames.{given_at, opened_at, left_of, frame_at, frames_at, frames_in, IsGivenOf, IsOpenOf, IsFrameOf, AreFramesOf};
 ghost use Rattle.plain_typing.specs.Walking.{IsUnmarkedAt, AreUnsettled, IsNoted, StandsFor};
@@ -13,7 +13,7 @@ use ctx_table::CtxTable;
 use grove_sorts::position_count;
 use grove_terms::{Node, What};
 use judging::{Frame, Given, OpenVertex, close, demand_next, fill, fresh, nothing};
-use mark_step::{Demand, Mark, Mode};
+use mark_step::{Demand, Mode};
 use std::alloc::Global;
 use type_core::TypeTable;
 
@@ -22,12 +22,6 @@ use type_core::TypeTable;
 pub(crate) struct Walk {
     pub(crate) frames: Vec<Frame>,
     pub(crate) has_mark: bool,
-}
-
-fn is_mark(mark: Mark) -> bool
-    ensures { result ≡ has_mark mark }
-{
-    !matches!(mark, Mark::None)
 }
 
 // Opens the vertex where some of its positions are left, and else closes it and tells what it gives.
@@ -55,7 +49,7 @@ fn go_on(
         return Ok(None);
     }
     let closed = close(alloc, types, ctxs, vertex)?;
-    walk.has_mark |= is_mark(closed.mark);
+    walk.has_mark |= closed.mark.is_some();
     Ok(Some(closed.given))
 }
 

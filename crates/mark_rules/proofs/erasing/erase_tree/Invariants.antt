@@ -1,5 +1,5 @@
 use Rattle.std.proofs.Common.{◌≡◌, ◌++◌, drop}
-use Rattle.mark_rules.specs.Reading.{bare_nodes}
+use Rattle.marking.specs.Reading.{bare_nodes}
 use Rattle.mark_rules.proofs.erasing.erase_tree.Given as goal
 
 abbrev pub invariant-loop-node : goal.invariant-loop-node

@@ -3,7 +3,7 @@ use Rattle.judging.specs.declared.frame.Frame.TheVariants.{Open}
 use Rattle.judging.specs.Frames.{frames_in}
 use Rattle.judging.proofs.Kept.{frames_kept, contexts-itself}
 use Rattle.judging.proofs.Frames.{stays_open, placed}
-use Rattle.mark_rules.specs.Reading.{meant_nodes}
+use Rattle.marking.specs.Reading.{meant_nodes}
 use Rattle.mark_rules.proofs.Kept.{settles}
 use Rattle.mark_rules.proofs.Walks.{is_closed, still_marked}
 use Rattle.mark_rules.proofs.taking.go_on.Goals as goal

@@ -1,5 +1,5 @@
 use Rattle.std.proofs.Common.{◌≡◌, Some, ◌∙◌}
-use Rattle.mark_rules.specs.Reading.{meant_nodes}
+use Rattle.marking.specs.Reading.{meant_nodes}
 use Rattle.judging.specs.Frames.{given_at, frames_in}
 use Rattle.judging.proofs.Kept.{types-then}
 use Rattle.judging.proofs.Frames.{popped, rest_are, off_is, frame_off}

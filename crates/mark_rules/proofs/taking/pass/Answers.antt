@@ -1,6 +1,6 @@
 use Rattle.std.proofs.Common.{◌≡◌, ◌-◌, arith}
 use Rattle.judging.specs.declared.frame.Frame.TheVariants.{Open, Several}
-use Rattle.mark_rules.specs.Reading.{meant_nodes}
+use Rattle.marking.specs.Reading.{meant_nodes}
 use Rattle.judging.specs.Frames.{given_at, frames_at}
 use Rattle.judging.proofs.Results.{if_ok_then}
 use Rattle.judging.proofs.Frames.{given_is, given_fills, given_several, several_is, placed}

@@ -16,7 +16,7 @@ returns-then-vertex-position_count-clause-frames c =
 pub returns-clause-state : goal.returns-clause-state
 returns-clause-state c = λ place frames nodes open_here is are noted.
     stands_closed c.args.types.now c.close.new.types c.args.ctxs.now c.args.vertex.now c.in_ok-closed.closed c.args.walk.now _ place frames nodes c.in_ok-closed.ensures.kept c.requires.frames (omega arith)
-    c.in_ok-closed.ensures.added c.in_ok-closed.ensures.given refl (ap (λ b. c.args.walk.now.has_mark || b) c.is_mark.ensures) open_here is are noted
+    c.in_ok-closed.ensures.added c.in_ok-closed.ensures.given refl (ap (λ b. c.args.walk.now.has_mark || b) c.is_some.ensures) open_here is are noted
 
 pub returns-clause-frames : goal.returns-clause-frames
 returns-clause-frames c = frames_kept c.args.types.now c.close.new.types c.args.ctxs.now c.args.ctxs.now c.in_ok-closed.ensures.kept (contexts-itself c.args.ctxs.now) c.args.walk.now.frames.items c.requires.frames

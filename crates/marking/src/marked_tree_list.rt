@@ -14,7 +14,7 @@ pub struct MarkedTreeList {
 
 impl Model for MarkedTreeList {
     ghost use Rattle.std.specs.Prelude.{List};
-    ghost use Rattle.mark_rules.specs.declared.marked_node.MarkedNode.{MarkedNode};
+    ghost use Rattle.marking.specs.declared.marked_node.MarkedNode.{MarkedNode};
 
     ghost Value = { List (List MarkedNode) };
 

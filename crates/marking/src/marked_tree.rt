@@ -1,5 +1,5 @@
 ghost use Rattle.std.specs.Prelude.{◌≡◌, ◌<◌, ◌^◌, [], ◌∷◌, ◌++◌, length, set, slice_get, Some, None, IfOk, OnOk, OnErr};
-ghost use Rattle.mark_rules.specs.declared.marked_node.MarkedNode.{MarkedNode};
+ghost use Rattle.marking.specs.declared.marked_node.MarkedNode.{MarkedNode};
 
 use crate::marked_node::MarkedNode;
 use crate::no_memory::NoMemory;
@@ -16,7 +16,7 @@ pub struct MarkedTree {
 
 impl Model for MarkedTree {
     ghost use Rattle.std.specs.Prelude.{List};
-    ghost use Rattle.mark_rules.specs.declared.marked_node.MarkedNode.{MarkedNode};
+    ghost use Rattle.marking.specs.declared.marked_node.MarkedNode.{MarkedNode};
 
     ghost Value = { List MarkedNode };
 
@@ -51,14 +51,8 @@ impl MarkedTree {
         Ok(())
     }
 
-    // Puts what marking adds to the node at an index, if there is one.
-    pub(crate) fn settle(
-        &mut self,
-        index: usize,
-        mode: Option<Mode>,
-        typ: Option<TypeId>,
-        mark: Mark,
-    )
+    /// Puts what marking adds to the node at an index, if there is one.
+    pub fn settle(&mut self, index: usize, mode: Option<Mode>, typ: Option<TypeId>, mark: Mark)
         ensures placed { (marked : MarkedNode) → slice_get self.old index ≡ Some marked
             → self.new ≡ set self.old index (record { node = marked.node; mode = mode; typ = typ; mark = mark }) }
         ensures past { slice_get self.old index ≡ None → self.new ≡ self.old }

@@ -1,0 +1,24 @@
+-- Marked nodes whose numbers are of a table of types.
+use Rattle.std.specs.Prelude.{List, [], ◌∷◌, IfSome}
+use Rattle.type_core.specs.Typ.{Typ}
+use Rattle.type_core.specs.TypeTable.{IsTypeOf}
+use Rattle.mark_step.specs.Node.{IsModeOf}
+use Rattle.marking.specs.declared.marked_node.MarkedNode.{MarkedNode}
+use Rattle.marking.specs.declared.marked_grove.MarkedGrove.{MarkedGrove}
+
+pub record IsMarkedNodeOf (types : List Typ) (m : MarkedNode) : Type 0 where
+  pub mode : IfSome m.mode (IsModeOf types)
+  pub typ : IfSome m.typ (IsTypeOf types)
+
+abbrev pub AreMarkedNodesOf : List Typ → List MarkedNode → Type 0
+AreMarkedNodesOf types [] = Unit {0}
+AreMarkedNodesOf types (m ∷ ms) = IsMarkedNodeOf types m × AreMarkedNodesOf types ms
+
+abbrev pub AreMarkedListsOf : List Typ → List (List MarkedNode) → Type 0
+AreMarkedListsOf types [] = Unit {0}
+AreMarkedListsOf types (t ∷ ts) = AreMarkedNodesOf types t × AreMarkedListsOf types ts
+
+pub record IsMarkedGroveOf (types : List Typ) (grove : MarkedGrove) : Type 0 where
+  pub none : AreMarkedListsOf types grove.none
+  pub multi : AreMarkedListsOf types grove.multi
+  pub cycle : AreMarkedListsOf types grove.cycle
