@@ -30,8 +30,5 @@ pub(crate) fn read_edits(alloc: Global, text: &[u8]) -> Result<EditList, TextFau
         }
         Err(FinishFault::Rest { line }) => return Err(TextFault::Rest { line }),
     }
-    match edits.into_canonical(alloc) {
-        Ok(canonical) => Ok(canonical),
-        Err(_) => Err(TextFault::NoMemory),
-    }
+    Ok(edits.into_canonical())
 }
