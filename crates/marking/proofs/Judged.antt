@@ -1,20 +1,18 @@
 -- By the rules each expression of a tree has exactly one type.
-use Rattle.std.proofs.Common.{◌≡◌, ℕ, zero, suc, Bool, true, false, cond, List, [], ◌∷◌, ◌++◌, length, refl, sym, ap, subst, ◌∙◌, append-nil, append_assoc}
-use Rattle.std.specs.Prelude.{◌&&◌, if◌then◌else◌, Option, Some, None, is_none, IsTrue}
+use Rattle.std.proofs.Common.{◌≡◌, ℕ, zero, suc, Bool, true, false, cond, List, [], ◌∷◌, ◌++◌, length, refl, sym, ap, subst, ◌∙◌, append-nil, append_assoc, arith}
+use Rattle.std.specs.Prelude.{◌+◌, fold, if◌then◌else◌, Some, None}
 use Rattle.std.specs.List.{AllByRecursion}
 use Rattle.grove_sorts.specs.declared.position.Position.{Position}
 use Rattle.grove_sorts.specs.declared.sort.Sort.{Sort}
 use Rattle.grove_sorts.specs.declared.sort.Sort.TheVariants.{Top, Exp, Pat, Typ as TypeSort}
 use Rattle.grove_sorts.specs.declared.ctor.Ctor.{Ctor}
-use Rattle.grove_sorts.specs.declared.ctor.Ctor.TheVariants.{Root, Var, Lam, Ap, Num, Plus, LitTrue, LitFalse, Choose, Pair, Fst, Snd, PVar, TNum, TBool, TArrow, TProd}
 use Rattle.grove_sorts.specs.Ctor.{positions, sort_at, sort_of_ctor}
 use Rattle.grove_edits.specs.declared.vertex.Vertex.{Vertex}
 use Rattle.grove_edits.specs.declared.edge.Edge.{Edge}
-use Rattle.grove_edits.specs.declared.edge.EdgeFault.TheVariants.{BadVertex, NoPosition, WrongSort}
-use Rattle.grove_edits.specs.Edge.{has_good_vertices, has_position, has_sort, is_sort}
-use Rattle.grove_sorts.proofs.Orders.{equal_from_test, position_cmp_exact}
-use Rattle.grove_sorts.specs.Position.{position_cmp, is_same_position}
-use Rattle.std.proofs.lemmas.Bool.{false≢true}
+use Rattle.grove_edits.proofs.WellFormed.{place_fits}
+use Rattle.grove_sorts.specs.Position.{is_same_position}
+use Rattle.grove_sorts.proofs.Orders.{one_position}
+use Rattle.grove_sorts.proofs.Rows.{places_found}
 use Rattle.grove_terms.specs.Forest.{Forest, none, multi_ref, cycle_ref, tree, child_edges, IsChildOf, IsWellSorted}
 use Rattle.grove_terms.specs.Nodes.{count_at}
 use Rattle.type_core.specs.Typ.{Typ, Unknown}
@@ -47,23 +45,24 @@ types_at-new e judge (p ∷ ps) before =
 
 -- there are as many as expressions among the positions
 pub length-new : (c : Ctor) (e : Expression) (judge : Position → Demanded → Typ) → length (new_types e judge (positions c) []) ≡ expression_count c
-length-new Root e judge = refl
-length-new (Var x) e judge = refl
-length-new Lam e judge = refl
-length-new Ap e judge = refl
-length-new (Num n) e judge = refl
-length-new Plus e judge = refl
-length-new LitTrue e judge = refl
-length-new LitFalse e judge = refl
-length-new Choose e judge = refl
-length-new Pair e judge = refl
-length-new Fst e judge = refl
-length-new Snd e judge = refl
-length-new (PVar x) e judge = refl
-length-new TNum e judge = refl
-length-new TBool e judge = refl
-length-new TArrow e judge = refl
-length-new TProd e judge = refl
+length-new c e judge =
+    let none_before : length (new_types e judge (positions c) []) ≡ 0 + length (new_types e judge (positions c) []) = omega arith in
+    none_before ∙ as_many (positions c) [] 0
+  where
+    one_more : (n m : ℕ) → n + suc m ≡ n + 1 + m
+    one_more n m = omega arith
+
+    none_more : (n m : ℕ) → n + m ≡ n + 0 + m
+    none_more n m = omega arith
+
+    as_many : (ps : List (Position × Sort)) (before : List Typ) (n : ℕ) → n + length (new_types e judge ps before) ≡ fold (λ a p. a + cond (is_exp p.1) 1 0) n ps
+    as_many [] before n = omega arith
+    as_many ((q, Exp) ∷ ps) before n =
+        let more : List Typ = before ++ judge q (demand e before) ∷ [] in
+        one_more n (length (new_types e judge ps more)) ∙ as_many ps more (n + 1)
+    as_many ((q, Top) ∷ ps) before n = none_more n (length (new_types e judge ps before)) ∙ as_many ps before (n + 0)
+    as_many ((q, Pat) ∷ ps) before n = none_more n (length (new_types e judge ps before)) ∙ as_many ps before (n + 0)
+    as_many ((q, TypeSort) ∷ ps) before n = none_more n (length (new_types e judge ps before)) ∙ as_many ps before (n + 0)
 
 -- ---- as judgements
 
@@ -109,59 +108,34 @@ one_list e Has judge (p ∷ ps) before ts only are =
 
 -- ---- expressions stand at positions of expressions
 
-both_true : (a b : Bool) → (a && b) ≡ true → (a ≡ true) × (b ≡ true)
-both_true true b h = (refl, h)
-both_true false b h = absurd cc
-
-sort_from_test : (wanted s : Sort) → is_sort (Some wanted) s ≡ true → s ≡ wanted
-sort_from_test Top Top h = refl
-sort_from_test Exp Exp h = refl
-sort_from_test Pat Pat h = refl
-sort_from_test TypeSort TypeSort h = refl
-sort_from_test wanted s h = absurd cc
-
-has_sort_by : (good place sort : Bool) → IsTrue (is_none (if good then (if place then (if sort then None else Some WrongSort) else Some NoPosition) else Some BadVertex)) → sort ≡ true
-has_sort_by true true true h = refl
-has_sort_by true true false h = absurd (false≢true h)
-has_sort_by true false sort h = absurd (false≢true h)
-has_sort_by false place sort h = absurd (false≢true h)
+-- the sort of a child's position is found by the position
+child_fits : (v : Vertex) (e : Edge) (others : List Edge) (p : Position) → IsChildOf v e others → is_same_position e.position p ≡ true → sort_at v.ctor p ≡ Some (sort_of_ctor e.target.ctor)
+child_fits v e others p is same =
+    ap (sort_at v.ctor) (sym (one_position e.position p same)) ∙ ap (λ (w : Vertex). sort_at w.ctor e.position) (sym is.source) ∙ place_fits e is.well_formed
 
 pub child_has_sort : (v : Vertex) (e : Edge) (others : List Edge) (p : Position) (s : Sort) → IsChildOf v e others → is_same_position e.position p ≡ true → sort_at v.ctor p ≡ Some s → sort_of_ctor e.target.ctor ≡ s
-child_has_sort v e others p s is same wants =
-    let at : sort_at e.source.ctor e.position ≡ Some s = ap (λ (w : Vertex). sort_at w.ctor e.position) is.source ∙ ap (sort_at v.ctor) (position_cmp_exact e.position p (equal_from_test (position_cmp e.position p) same)) ∙ wants in
-    let sorted = has_sort_by (has_good_vertices e) (has_position e) (has_sort e) is.well_formed in
-    sort_from_test s (sort_of_ctor e.target.ctor) (ap (λ (found : Option Sort). is_sort found (sort_of_ctor e.target.ctor)) (sym at) ∙ sorted)
+child_has_sort v e others p s is same wants = one (sort_of_ctor e.target.ctor) s (sym (child_fits v e others p is same) ∙ wants) where
+  one : (a b : Sort) → Some a ≡ Some b → a ≡ b
+  one a b h = cc
 
 -- no well-formed edge stands at a position that its source does not have
 pub has_sort_there : (v : Vertex) (e : Edge) (others : List Edge) (p : Position) → IsChildOf v e others → is_same_position e.position p ≡ true → sort_at v.ctor p ≡ None → ⊥
-has_sort_there v e others p is same lacks =
-    let at : sort_at e.source.ctor e.position ≡ None = ap (λ (w : Vertex). sort_at w.ctor e.position) is.source ∙ ap (sort_at v.ctor) (position_cmp_exact e.position p (equal_from_test (position_cmp e.position p) same)) ∙ lacks in
-    let sorted = has_sort_by (has_good_vertices e) (has_position e) (has_sort e) is.well_formed in
-    not_none (sort_of_ctor e.target.ctor) (ap (λ (found : Option Sort). is_sort found (sort_of_ctor e.target.ctor)) (sym at) ∙ sorted) where
-      not_none : (s : Sort) → is_sort None s ≡ true → ⊥
-      not_none Top h = absurd cc
-      not_none Exp h = absurd cc
-      not_none Pat h = absurd cc
-      not_none TypeSort h = absurd cc
+has_sort_there v e others p is same lacks = none_is_not (sort_of_ctor e.target.ctor) (sym lacks ∙ child_fits v e others p is same) where
+  none_is_not : (s : Sort) → None ≡ Some s → ⊥
+  none_is_not s h = cc
 
+-- each position of an expression is found as one
 wants_exp : (c : Ctor) → AllByRecursion (λ p. is_exp p.1 ≡ true → sort_at c p.0 ≡ Some Exp) (positions c)
-wants_exp Root = (λ _. refl, tt)
-wants_exp (Var x) = tt
-wants_exp Lam = (λ h. absurd cc, (λ h. absurd cc, (λ _. refl, tt)))
-wants_exp Ap = (λ _. refl, (λ _. refl, tt))
-wants_exp (Num n) = tt
-wants_exp Plus = (λ _. refl, (λ _. refl, tt))
-wants_exp LitTrue = tt
-wants_exp LitFalse = tt
-wants_exp Choose = (λ _. refl, (λ _. refl, (λ _. refl, tt)))
-wants_exp Pair = (λ _. refl, (λ _. refl, tt))
-wants_exp Fst = (λ _. refl, tt)
-wants_exp Snd = (λ _. refl, tt)
-wants_exp (PVar x) = tt
-wants_exp TNum = tt
-wants_exp TBool = tt
-wants_exp TArrow = (λ h. absurd cc, (λ h. absurd cc, tt))
-wants_exp TProd = (λ h. absurd cc, (λ h. absurd cc, tt))
+wants_exp c = among (positions c) (places_found c) where
+  exp : (s : Sort) → is_exp s ≡ true → s ≡ Exp
+  exp Exp h = refl
+  exp Top h = absurd cc
+  exp Pat h = absurd cc
+  exp TypeSort h = absurd cc
+
+  among : (ps : List (Position × Sort)) → AllByRecursion (λ p. sort_at c p.0 ≡ Some p.1) ps → AllByRecursion (λ p. is_exp p.1 ≡ true → sort_at c p.0 ≡ Some Exp) ps
+  among [] all = tt
+  among (p ∷ ps) all = (λ h. all.0 ∙ ap Some (exp p.1 h), among ps all.1)
 
 -- ---- the type by the rules
 

@@ -1,5 +1,5 @@
 -- Trees that are marked by hand.
-use Rattle.std.specs.Prelude.{ℕ, List, [], ◌∷◌, Option, map}
+use Rattle.std.specs.Prelude.{ℕ, List, Option, map}
 use Rattle.grove_sorts.specs.declared.ident.Ident.{Ident}
 use Rattle.grove_sorts.specs.declared.ctor.Ctor.{Ctor}
 use Rattle.grove_sorts.specs.declared.ctor.Ctor.TheVariants.{Root, Var, Lam, Num, Plus, LitTrue, Choose, PVar, TNum}

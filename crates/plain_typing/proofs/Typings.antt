@@ -23,7 +23,8 @@ use Rattle.marking.specs.Marking.{MarkedNode, HasNoMark, expression, types_at, j
 use Rattle.marking.specs.Rules.{Whether, AreJudged}
 use Rattle.plain_typing.specs.Typed.{HasTypeByRule, PlaceHasType, EachHasType, HasTypeAt, IsTypedOfSort, IsTyped}
 use Rattle.plain_typing.proofs.UnmarkedRows.{row_of_rule, rule_of_row}
-use Rattle.plain_typing.proofs.Unmarked.{no_mark-join, no_mark-first, no_mark-rest, unmarked_by_test, unmarked_plain, child_sort, IsOtherSort, AreUnder, positions_under, unmarked_place, OthersUnmarked, unmarked_places, others_unmarked}
+use Rattle.marking.proofs.Judged.{types_at-new, length-new, child_has_sort}
+use Rattle.plain_typing.proofs.Unmarked.{no_mark-join, no_mark-first, no_mark-rest, unmarked_by_test, unmarked_plain, IsOtherSort, AreUnder, positions_under, unmarked_place, OthersUnmarked, unmarked_places, others_unmarked}
 
 -- each child has a type
 abbrev EachTyped : Forest → Position → Demanded → Type 0
@@ -176,23 +177,7 @@ module _ (e : Expression) (c : Ctor) (f : Forest) (one : OneType c f) (clean : A
       (t ∷ rest.0, rest.1 ∙ append_assoc before (t ∷ []) rest.0, ((clean q d depth under.0.0).1 (no_mark-first (place f q d depth Exp) (places ps (before ++ t ∷ [])) clear), rest.2))
 
 types_count : (c : Ctor) (e : Expression) (judge : Position → Demanded → Typ) → length (types_at e judge (positions c) []) ≡ expression_count c
-types_count ctor.Root e judge = refl
-types_count (ctor.Var x) e judge = refl
-types_count ctor.Lam e judge = refl
-types_count ctor.Ap e judge = refl
-types_count (ctor.Num n) e judge = refl
-types_count ctor.Plus e judge = refl
-types_count ctor.LitTrue e judge = refl
-types_count ctor.LitFalse e judge = refl
-types_count ctor.Choose e judge = refl
-types_count ctor.Pair e judge = refl
-types_count ctor.Fst e judge = refl
-types_count ctor.Snd e judge = refl
-types_count (ctor.PVar x) e judge = refl
-types_count ctor.TNum e judge = refl
-types_count ctor.TBool e judge = refl
-types_count ctor.TArrow e judge = refl
-types_count ctor.TProd e judge = refl
+types_count c e judge = ap (λ (ts : List Typ). length ts) (types_at-new e judge (positions c) []) ∙ length-new c e judge
 
 -- the nodes of an expression with these children have no mark
 abbrev WholeUnmarked : Expression → Forest → ℕ → Type 0
@@ -311,7 +296,7 @@ each_clean v (tree e below rest) p d sorted wants depth =
     λ q y at wanted. place_clean below q y at (λ z. sole_has_own e.target below q z sorted.1 wanted) (λ z. each_clean e.target below q z sorted.1 wanted) in
     either_clean (is_same_position e.position p) _ _ _ _
     (λ here. tree_clean (expression e.target.ctor d.scope d.wanted below) below (depth + 1) (child_node depth p e (Vertex e.target)) (marked_children rest depth p d) (EachTyped rest p d)
-    (child_sort v e (child_edges rest) p Exp sorted.0 here wants) (λ q y u wanted. has_one_type e.target below q y u sorted.1 wanted) clean (others_unmarked e.target below sorted.1) later)
+    (child_has_sort v e (child_edges rest) p Exp sorted.0 here wants) (λ q y u wanted. has_one_type e.target below q y u sorted.1 wanted) clean (others_unmarked e.target below sorted.1) later)
     later
 
 -- ---- whole trees

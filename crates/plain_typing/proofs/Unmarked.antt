@@ -1,28 +1,27 @@
 -- Nodes without marks, and the positions under which none has one: those for patterns and types.
-use Rattle.std.proofs.Common.{◌≡◌, ℕ, zero, suc, ◌+◌, Bool, true, false, cond, List, [], ◌∷◌, ◌++◌, Some, None, refl, sym, ap, subst, ◌∙◌}
-use Rattle.std.specs.Prelude.{is_none}
+use Rattle.std.proofs.Common.{◌≡◌, ℕ, zero, suc, ◌+◌, Bool, true, false, cond, List, [], ◌∷◌, ◌++◌, Some, refl, sym, subst}
+use Rattle.std.proofs.lemmas.Bool.{both_ways}
 use Rattle.std.specs.List.{AllByRecursion}
 use Rattle.grove_sorts.specs.declared.ctor.Ctor.{Ctor}
-use Rattle.grove_sorts.specs.declared.ctor.Ctor.TheVariants as ctor
 use Rattle.grove_sorts.specs.declared.position.Position.{Position}
 use Rattle.grove_sorts.specs.declared.sort.Sort.{Sort}
 use Rattle.grove_sorts.specs.declared.sort.Sort.TheVariants.{Top, Exp, Pat, Typ as TypeSort}
 use Rattle.grove_sorts.specs.Ctor.{positions, sort_at, sort_of_ctor}
 use Rattle.grove_edits.specs.declared.vertex.Vertex.{Vertex as VertexOf}
-use Rattle.grove_edits.specs.declared.edge.Edge.{Edge}
-use Rattle.grove_edits.specs.declared.edge.EdgeFault.TheVariants.{BadVertex, NoPosition, WrongSort}
-use Rattle.grove_edits.specs.Edge.{IsWellFormed, has_good_vertices, has_position, has_sort, is_sort}
 use Rattle.grove_sorts.specs.Position.{is_same_position}
-use Rattle.grove_sorts.proofs.Orders.{one_position}
+use Rattle.grove_sorts.proofs.Rows.{places_found}
 use Rattle.grove_terms.specs.declared.node.Node.{Node}
-use Rattle.grove_terms.specs.Forest.{Forest, none, multi_ref, cycle_ref, tree, child_edges, IsChildOf, IsWellSorted}
+use Rattle.grove_terms.specs.Forest.{Forest, none, multi_ref, cycle_ref, tree, child_edges, IsWellSorted}
 use Rattle.grove_terms.specs.Nodes.{count_at}
 use Rattle.type_core.specs.Typ.{Typ}
 use Rattle.mark_step.specs.declared.node.Mark.{Mark}
 use Rattle.mark_step.specs.declared.node.Mark.TheVariants as mark
 use Rattle.mark_step.specs.Expression.{Wanted, Expression, Demanded, has_mark}
 use Rattle.mark_step.specs.Step.{demand}
+use Rattle.mark_step.specs.Rows.{is_exp}
 use Rattle.marking.specs.Marking.{MarkedNode, HasNoMark, expression, judged_in, marked_plain, marked_vertex, marked_place, marked_places, marked_children, synthesised_in}
+use Rattle.marking.proofs.Judged.{child_has_sort}
+use Rattle.marking.proofs.ByRows.{HasNoExpression, type_judges_none, pattern_judges_none, HasNoTop, no_top_in}
 
 -- ---- nodes without marks
 
@@ -53,30 +52,6 @@ unmarked_plain TypeSort w n = refl
 unmarked_plain Pat w n = refl
 unmarked_plain Top w n = refl
 
--- ---- the sort of a child
-
-one_sort : (s t : Sort) → is_sort (Some s) t ≡ true → t ≡ s
-one_sort Top Top h = refl
-one_sort Exp Exp h = refl
-one_sort Pat Pat h = refl
-one_sort TypeSort TypeSort h = refl
-one_sort _ _ h = absurd cc
-
-has_sort_of : (e : Edge) → IsWellFormed e → has_sort e ≡ true
-has_sort_of e well = by_tests (has_good_vertices e) (has_position e) (has_sort e) well where
-  by_tests : (good placed sorted : Bool) → is_none (cond good (cond placed (cond sorted None (Some WrongSort)) (Some NoPosition)) (Some BadVertex)) ≡ true → sorted ≡ true
-  by_tests true true true h = refl
-  by_tests true true false h = absurd cc
-  by_tests true false sorted h = absurd cc
-  by_tests false placed sorted h = absurd cc
-
--- a child has the sort of its position
-pub child_sort : (v : VertexOf) (e : Edge) (others : List Edge) (p : Position) (s : Sort) → IsChildOf v e others → is_same_position e.position p ≡ true → sort_at v.ctor p ≡ Some s
-    → sort_of_ctor e.target.ctor ≡ s
-child_sort v e others p s child here known =
-    let at : sort_at e.source.ctor e.position ≡ Some s = ap (λ (u : VertexOf). sort_at u.ctor e.position) child.source ∙ ap (sort_at v.ctor) (one_position e.position p here) ∙ known in
-    one_sort s (sort_of_ctor e.target.ctor) (ap (λ t. is_sort t (sort_of_ctor e.target.ctor)) (sym at) ∙ has_sort_of e child.well_formed)
-
 -- ---- patterns and types
 
 -- the sort of patterns, or that of types
@@ -96,23 +71,27 @@ abbrev pub AreUnder : Ctor → List (Position × Sort) → Type 0
 AreUnder c ps = AllByRecursion (λ p. (sort_at c p.0 ≡ Some p.1) × MayBeUnder (sort_of_ctor c) p.1) ps
 
 pub positions_under : (c : Ctor) → AreUnder c (positions c)
-positions_under ctor.Root = ((refl, tt), tt)
-positions_under (ctor.Var x) = tt
-positions_under ctor.Lam = ((refl, tt), ((refl, tt), ((refl, tt), tt)))
-positions_under ctor.Ap = ((refl, tt), ((refl, tt), tt))
-positions_under (ctor.Num n) = tt
-positions_under ctor.Plus = ((refl, tt), ((refl, tt), tt))
-positions_under ctor.LitTrue = tt
-positions_under ctor.LitFalse = tt
-positions_under ctor.Choose = ((refl, tt), ((refl, tt), ((refl, tt), tt)))
-positions_under ctor.Pair = ((refl, tt), ((refl, tt), tt))
-positions_under ctor.Fst = ((refl, tt), tt)
-positions_under ctor.Snd = ((refl, tt), tt)
-positions_under (ctor.PVar x) = tt
-positions_under ctor.TNum = tt
-positions_under ctor.TBool = tt
-positions_under ctor.TArrow = ((refl, tt), ((refl, tt), tt))
-positions_under ctor.TProd = ((refl, tt), ((refl, tt), tt))
+positions_under c = among (positions c) (places_found c) (no_top_in c) no_expression where
+  no_expression : IsOtherSort (sort_of_ctor c) → HasNoExpression (positions c)
+  no_expression other = by_sort (sort_of_ctor c) refl other where
+    by_sort : (s : Sort) → sort_of_ctor c ≡ s → IsOtherSort s → HasNoExpression (positions c)
+    by_sort Pat is other = pattern_judges_none c is
+    by_sort TypeSort is other = type_judges_none c is
+    by_sort Exp is other = absurd other
+    by_sort Top is other = absurd other
+
+  under : (s t : Sort) → (t ≡ Top → ⊥) → (IsOtherSort s → is_exp t ≡ false) → MayBeUnder s t
+  under s Top top other = absurd (top refl)
+  under Pat Exp top other = absurd (both_ways true (other tt) refl)
+  under TypeSort Exp top other = absurd (both_ways true (other tt) refl)
+  under Exp Exp top other = tt
+  under Top Exp top other = tt
+  under s Pat top other = tt
+  under s TypeSort top other = tt
+
+  among : (ps : List (Position × Sort)) → AllByRecursion (λ p. sort_at c p.0 ≡ Some p.1) ps → HasNoTop ps → (IsOtherSort (sort_of_ctor c) → HasNoExpression ps) → AreUnder c ps
+  among [] found top other = tt
+  among (p ∷ ps) found top other = ((found.0, under (sort_of_ctor c) p.1 top.0 (λ h. (other h).0)), among ps found.1 top.1 (λ h. (other h).1))
 
 other_under : (s t : Sort) → IsOtherSort s → MayBeUnder s t → IsOtherSort t
 other_under Pat Pat other under = tt
@@ -162,7 +141,7 @@ others_unmarked v (tree e below rest) sorted p s known other depth d =
     let later = others_unmarked v rest sorted.2 p s known other depth d in
     let x = expression e.target.ctor d.scope d.wanted below in
     let sort : is_same_position e.position p ≡ true → IsOtherSort (sort_of_ctor e.target.ctor) =
-    λ here. subst IsOtherSort (sym (child_sort v e (child_edges rest) p s sorted.0 here known)) other in
+    λ here. subst IsOtherSort (sym (child_has_sort v e (child_edges rest) p s sorted.0 here known)) other in
     let places : is_same_position e.position p ≡ true → HasNoMark (marked_places x (count_at below) (marked_children below) (judged_in below) (depth + 1) (positions e.target.ctor) []) =
     λ here. unmarked_places x e.target.ctor below (depth + 1) (positions e.target.ctor) [] (others_unmarked e.target below sorted.1) (sort here) (positions_under e.target.ctor) in
     no_mark-either (is_same_position e.position p) _ (marked_children rest depth p d)

@@ -1,4 +1,4 @@
-use Rattle.std.proofs.Common.{List, [], ◌∷◌, Bool, Option, Some, None, refl, ap}
+use Rattle.std.proofs.Common.{List, [], ◌∷◌, Bool, Some, None, refl, ap}
 use Rattle.std.specs.Prelude.{if◌then◌else◌}
 use Rattle.type_core.specs.declared.former.Former.TheVariants.{Arrow}
 use Rattle.type_core.specs.Typ.{Num, Pair}
