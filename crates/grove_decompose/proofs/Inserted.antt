@@ -1,5 +1,5 @@
 -- An edge that is inserted where it was Absent is live, beside those that were.
-use Rattle.std.proofs.Common.{◌≡◌, Bool, true, false, cond, List, [], ◌∷◌, refl, sym, ap, ◌∙◌}
+use Rattle.std.proofs.Common.{◌≡◌, Bool, true, false, cond, List, [], ◌∷◌, refl, sym, ap, subst, ◌∙◌}
 use Rattle.std.specs.Prelude.{◌||◌}
 use Rattle.edge_lattice.specs.declared.state.State.{State}
 use Rattle.edge_lattice.specs.declared.state.State.TheVariants.{Absent, Live, Deleted}
@@ -49,3 +49,10 @@ inserted_live g h edit edge live of_edge inserts new joined are = record {
   is_live e true same held = at e ∙ ap (λ b. after b (g e)) same ∙ ap (after true) (ap g (sym (one_edge edge e same)) ∙ new)
   is_live e false other held =
       at e ∙ ap (λ b. after b (g e)) other ∙ kept (g e) ∙ are.no_other e (sym (ap (λ b. b || holds_edge e live) other) ∙ held)
+
+-- the same where room was made first
+pub one_more_live : (g reserved h : Graph) (edit : Edit) (edge : Edge) (held kept_held more : List Edge) → edit_edge edit ≡ edge → edit_kind edit ≡ Insert → g edge ≡ Absent → IsSame reserved g
+    → IsSame h (graph_join reserved (graph (edit ∷ []))) → kept_held ≡ held → more ≡ with_edge edge kept_held → AreLive g held → AreLive h more
+one_more_live g reserved h edit edge held kept_held more of_edge inserts new same joined unchanged added are =
+    subst (AreLive h) (ap (with_edge edge) (sym unchanged) ∙ sym added)
+    (inserted_live g h edit edge held of_edge inserts new (λ e. joined e ∙ ap (λ (s : State). state_join s (graph (edit ∷ []) e)) (same e)) are)
