@@ -15,10 +15,6 @@ use Rattle.walks.specs.Live.{holds_edge}
 use Rattle.walks.specs.Whole.{AreLive}
 use Rattle.edge_index.specs.Ordered.{with_edge}
 use Rattle.edge_index.proofs.Ordered.{holds-with_edge, in_order-with_edge}
-use Rattle.graph_store.specs.Store.{state_in}
-
-pub none_live : AreLive (state_in []) []
-none_live = record { in_order = tt; each = λ e is. absurd cc; no_other = λ e held. absurd cc }
 
 abbrev after : Bool → State → State
 after here s = state_join s (state_join (cond here Live Absent) Absent)

@@ -1,4 +1,4 @@
--- What is left to be listed of a tree: tasks, the last one first.
+-- Inner model, which no public contract cites: what is left to be listed of a tree, as tasks, the last one first.
 use Rattle.std.specs.Prelude.{◌≡◌, ℕ, ◌+◌, ◌≤◌, suc, Bool, true, false, ◌||◌, List, [], ◌∷◌, ◌++◌, length, Some}
 use Rattle.grove_sorts.specs.declared.position.Position.{Position}
 use Rattle.grove_sorts.specs.declared.sort.Sort.{Sort}
