@@ -1,11 +1,9 @@
-//! How the bindings of contexts are found. Going outward from binding to binding is quick where scopes are shallow, and needs
-//! nothing but the links. Where the way out would get long, a context and those on the way get maps.
-ghost use Rattle.std.specs.Prelude.{◌≡◌, ℕ, ◌+◌, ◌<◌, length, IfOk};
+//! How the bindings of contexts are found. Where scopes are shallow a search goes outward from binding to binding, which needs
+//! nothing but the links. Where it would go over many contexts, they get maps.
+ghost use Rattle.std.specs.Prelude.{◌≡◌, ◌+◌, ◌<◌, length, IfOk};
 ghost use Rattle.std.specs.Map.{keys_of};
 ghost use Rattle.ctx_table.specs.CtxTable.{context_at};
 ghost use Rattle.ctx_table.specs.Links.{contexts_of};
-ghost use Rattle.ctx_table.specs.Names.{KeepsNumbers};
-ghost use Rattle.ctx_table.specs.Scopes.{KeepsScopes};
 ghost use Rattle.ctx_table.specs.Tables.{way_at, IsMapOf, IsMapped, IsNear};
 
 use crate::ctx_id::CtxId;
@@ -65,7 +63,7 @@ pub(crate) fn nearest(links: &IndexMap<Link, Way>, ctx: CtxId) -> Near
 }
 
 // The root of the map of a context, which gets one where it has none, as do the contexts around it on the way to one that has. It
-// calls itself once for each of them, and `extend` lets them be few.
+// calls itself once for each of them: `steps_inside` lets them be no more than LONGEST.
 fn map_of(
     links: &mut IndexMap<Link, Way>,
     names: &mut BTreeMap<Ident, u64>,

@@ -195,15 +195,16 @@ fn second_part(types: &TypeTable, pair: TypeId) -> Settled
 // A function that ascribes a type, against another.
 fn function_against(
     alloc: Global,
-    types: &TypeTable,
+    types: &mut TypeTable,
     ascribed: TypeId,
     typ: TypeId,
 ) -> Result<Settled, NoMemory>
-    requires ascribed { IsTypeOf types.now ascribed }
-    requires typ { IsTypeOf types.now typ }
+    requires ascribed { IsTypeOf types.old ascribed }
+    requires typ { IsTypeOf types.old typ }
     ensures typ { IfOk result (λ s. s.typ ≡ typ) }
     ensures mark { IfOk result (λ s. s.mark
-        ≡ function_mark (type_at types.now ascribed) (matched_parts Arrow (type_at types.now typ))) }
+        ≡ function_mark (type_at types.old ascribed) (matched_parts Arrow (type_at types.old typ))) }
+    ensures unchanged { types.new ≡ types.old }
 {
     let Some((from, _)) = types.matched_arrow(typ) else {
         return Ok(Settled {
@@ -211,7 +212,7 @@ fn function_against(
             mark: Mark::LamAgainst,
         });
     };
-    if !types.consistent(alloc, ascribed, from)? {
+    if !types.relate(alloc, ascribed, from)? {
         return Ok(Settled {
             typ,
             mark: Mark::Ascription,
@@ -235,17 +236,18 @@ fn pair_against(types: &TypeTable, typ: TypeId) -> Settled
 // What was synthesised, against a type. A mark of synthesis goes first.
 fn against(
     alloc: Global,
-    types: &TypeTable,
+    types: &mut TypeTable,
     found: Settled,
     typ: TypeId,
 ) -> Result<Settled, NoMemory>
-    requires found { IsTypeOf types.now found.typ }
-    requires typ { IsTypeOf types.now typ }
+    requires found { IsTypeOf types.old found.typ }
+    requires typ { IsTypeOf types.old typ }
     ensures typ { IfOk result (λ s. s.typ ≡ found.typ) }
     ensures mark { IfOk result (λ s. s.mark
-        ≡ mark_against found.mark (is_consistent (type_at types.now found.typ) (type_at types.now typ))) }
+        ≡ mark_against found.mark (is_consistent (type_at types.old found.typ) (type_at types.old typ))) }
+    ensures unchanged { types.new ≡ types.old }
 {
-    if found.mark == Mark::None && !types.consistent(alloc, found.typ, typ)? {
+    if found.mark == Mark::None && !types.relate(alloc, found.typ, typ)? {
         return Ok(Settled {
             typ: found.typ,
             mark: Mark::Inconsistent,

@@ -6,3 +6,4 @@ pub mod PairingEq
 pub mod PairingLemmas
 pub mod MeetLemmas
 pub mod TextLemmas
+pub mod RelationLemmas

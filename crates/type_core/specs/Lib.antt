@@ -3,6 +3,7 @@ pub mod Meets
 pub mod Nodes
 pub mod Pairings
 pub mod Pieces
+pub mod Relations
 pub mod Typ
 pub mod TypeTable
 pub mod TypCode

@@ -2,10 +2,11 @@ ghost use Rattle.std.specs.Prelude.{◌≡◌, ◌<◌, ◌++◌, ◌∷◌, [],
 ghost use Rattle.type_core.specs.Typ.{is_consistent, IsAtom};
 ghost use Rattle.type_core.specs.TypeTable.{IsTypeOf, type_at};
 ghost use Rattle.type_core.specs.Heads.{IsPairingOf};
-ghost use Rattle.type_core.specs.Pairings.{HasAddedPairing, Visits};
+ghost use Rattle.type_core.specs.Pairings.{HasAddedPairing, is_consistent_pairing, Visits};
 
 use crate::heads::{Heads, Pairing};
 use crate::no_memory::NoMemory;
+use crate::relations::consistency;
 use crate::table::TypeTable;
 use crate::type_id::TypeId;
 use indexmap::IndexSet;
@@ -33,8 +34,41 @@ impl TypeTable {
         match self.heads(pairing) {
             Heads::Met(_) => Ok(true),
             Heads::Clash => Ok(false),
-            Heads::Parts(..) => self.all_parts_consistent(alloc, pairing),
+            Heads::Parts(..) => match self.known_consistency(pairing) {
+                Some(answer) => Ok(answer),
+                None => self.all_parts_consistent(alloc, pairing),
+            },
         }
+    }
+
+    /// Whether two types are consistent, as `consistent` says. The table keeps what it found, so that it need not go over the parts
+    /// of these two again.
+    pub fn relate(&mut self, alloc: Global, a: TypeId, b: TypeId) -> Result<bool, NoMemory>
+        requires left { IsTypeOf self.old a }
+        requires right { IsTypeOf self.old b }
+        ensures consistent { IfOk result (λ answer. answer ≡ is_consistent (type_at self.old a) (type_at self.old b)) }
+        ensures unchanged { self.new ≡ self.old }
+    {
+        let pairing = Pairing { left: a, right: b };
+        match self.heads(pairing) {
+            Heads::Met(_) => Ok(true),
+            Heads::Clash => Ok(false),
+            Heads::Parts(..) => self.relate_parts(alloc, pairing),
+        }
+    }
+
+    // Whether two types are consistent, which is kept.
+    fn relate_parts(&mut self, alloc: Global, pairing: Pairing) -> Result<bool, NoMemory>
+        requires { IsPairingOf self.old pairing }
+        ensures consistent { IfOk result (λ answer. answer ≡ is_consistent_pairing self.old pairing) }
+        ensures unchanged { self.new ≡ self.old }
+    {
+        if let Some(answer) = self.known_consistency(pairing) {
+            return Ok(answer);
+        }
+        let consistent = self.all_parts_consistent(alloc, pairing)?;
+        self.keep(pairing, consistency(consistent))?;
+        Ok(consistent)
     }
 
     // Goes over the pairings of parts, parts of parts and so on, each of them once.

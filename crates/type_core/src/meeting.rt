@@ -8,6 +8,7 @@ ghost use Rattle.type_core.specs.Meets.{AreMeets, IsMeetOf, meet_in, StepOf, Has
 
 use crate::heads::{Heads, Pairing};
 use crate::no_memory::NoMemory;
+use crate::relations::Relation;
 use crate::table::TypeTable;
 use crate::type_id::TypeId;
 use indexmap::IndexMap;
@@ -39,12 +40,28 @@ impl TypeTable {
             Heads::Met(m) => Ok(Some(m)),
             Heads::Clash => Ok(None),
             Heads::Parts(..) => {
-                if !self.consistent(alloc, a, b)? {
+                if !self.relate(alloc, a, b)? {
                     return Ok(None);
                 }
-                Ok(Some(self.meet_of_consistent(alloc, pairing)?))
+                Ok(Some(self.kept_meet(alloc, pairing)?))
             }
         }
+    }
+
+    // The meet of two consistent types, which is found once and then kept.
+    fn kept_meet(&mut self, alloc: Global, pairing: Pairing) -> Result<TypeId, NoMemory>
+        requires within { IsPairingOf self.old pairing }
+        requires consistent { is_consistent_pairing self.old pairing ≡ true }
+        ensures meet { IfOk result (λ m. meet_of self.old pairing ≡ Some (type_at self.new m)) }
+        ensures number { IfOk result (IsTypeOf self.new) }
+        ensures kept { KeepsTypes self.old self.new }
+    {
+        if let Some(Relation::Meets(m)) = self.known(pairing) {
+            return Ok(m);
+        }
+        let m = self.meet_of_consistent(alloc, pairing)?;
+        self.keep(pairing, Relation::Meets(m))?;
+        Ok(m)
     }
 
     // The meet of two consistent types: each pairing of parts is met once, and waits until those of its own parts are.

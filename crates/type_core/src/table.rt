@@ -5,11 +5,14 @@ ghost use Rattle.type_core.specs.TypeTable.{IsTypeOf, type_at, base_types, Keeps
 ghost use Rattle.type_core.specs.Nodes.{type_of_node, node_at, PartsAreBelow, StandOnce, HasAddedNode};
 
 use crate::former::Former;
+use crate::heads::Pairing;
 use crate::no_memory::NoMemory;
 use crate::node::Node;
+use crate::relations::Relation;
 use crate::type_id::TypeId;
 use indexmap::IndexSet;
 use std::alloc::Global;
+use std::collections::BTreeMap;
 use std::marker::Model;
 
 // The places of the base types in every table.
@@ -23,6 +26,8 @@ const BOOLEAN: u64 = 2;
 #[derive(Drop)]
 pub struct TypeTable {
     nodes: IndexSet<Node>,
+    // What was found of pairs of types. Ordered, so that nobody makes it slow by the types that they choose.
+    pub(crate) relations: BTreeMap<Pairing, Relation>,
 }
 
 impl Model for TypeTable {
@@ -35,11 +40,12 @@ impl Model for TypeTable {
 
     ghost coded = { coded_list typ_code };
 
-    ghost use Rattle.type_core.specs.Nodes.{types_of, IsTable};
+    ghost use Rattle.type_core.specs.Nodes.{types_of};
+    ghost use Rattle.type_core.specs.Relations.{IsWhole};
 
     ghost view = { λ t. types_of t.nodes.keys };
 
-    ghost invariant = { λ t. IsTable t.nodes.keys };
+    ghost invariant = { λ t. IsWhole t.nodes.keys t.relations.entries };
 }
 
 // The nodes of a table of the unknown type and the base types.
@@ -71,7 +77,10 @@ impl TypeTable {
         ensures types { IfOk result (λ table. table ≡ base_types) }
     {
         let nodes = base_nodes(alloc)?;
-        Ok(TypeTable { nodes })
+        Ok(TypeTable {
+            nodes,
+            relations: BTreeMap::new(alloc),
+        })
     }
 
     /// Two numbers of one table are equal exactly where their types are: a law, which runs no code.

@@ -101,6 +101,9 @@ fn shared_parts_are_met_once(rt: HostRuntime) -> Result<(), Fail> {
     let v = doubled(&mut table, boolean, 40)?;
     assert_eq!(rt; table.meet(rt.alloc(), t, v)?, None);
     assert_eq!(rt; table.consistent(rt.alloc(), u, v)?, true);
+    // What was found before is found again.
+    assert_eq!(rt; table.relate(rt.alloc(), t, v)?, false);
+    assert_eq!(rt; table.meet(rt.alloc(), t, u)?, Some(t));
     Ok(())
 }
 

@@ -11,4 +11,4 @@ bounds-as_slice-id c =
     omega (arith, c.requires, ap length c.self.view_is, ap length c.as_slice.ensures.keys, length-types_of c.self.inside.nodes.keys)
 
 pub returns-clause-typ : goal.returns-clause-typ
-returns-clause-typ c = type_at-read _ _ _ c.self.view_is c.as_slice.ensures.keys c.self.invariant _ c.requires
+returns-clause-typ c = type_at-read _ _ _ c.self.view_is c.as_slice.ensures.keys c.self.invariant.table _ c.requires

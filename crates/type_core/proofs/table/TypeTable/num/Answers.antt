@@ -3,7 +3,7 @@ use Rattle.type_core.proofs.NodeLemmas.{base_within, base_type}
 use Rattle.type_core.proofs.table.TypeTable.num.Goals as goal
 
 pub returns-clause-number : goal.returns-clause-number
-returns-clause-number c = base_within _ _ c.self.view_is c.self.invariant 1 (omega arith)
+returns-clause-number c = base_within _ _ c.self.view_is c.self.invariant.table 1 (omega arith)
 
 pub returns-clause-typ : goal.returns-clause-typ
-returns-clause-typ c = base_type _ _ c.self.view_is c.self.invariant 1 (omega arith) _ c.self.invariant.num
+returns-clause-typ c = base_type _ _ c.self.view_is c.self.invariant.table 1 (omega arith) _ c.self.invariant.table.num

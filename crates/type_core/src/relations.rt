@@ -1,0 +1,62 @@
+ghost use Rattle.std.specs.Prelude.{◌≡◌, true, false, IfSome};
+ghost use Rattle.type_core.specs.Heads.{IsPairingOf};
+ghost use Rattle.type_core.specs.Pairings.{is_consistent_pairing};
+ghost use Rattle.type_core.specs.Relations.{IsRelationOf};
+
+use crate::heads::Pairing;
+use crate::no_memory::NoMemory;
+use crate::table::TypeTable;
+use crate::type_id::TypeId;
+
+// What was found of two types.
+#[derive(Clone, Copy)]
+pub(crate) enum Relation {
+    // They are not consistent.
+    Apart,
+    // They are consistent, and nobody has asked for their meet.
+    Consistent,
+    // This is their meet.
+    Meets(TypeId),
+}
+
+// What it is to be consistent or not.
+pub(crate) fn consistency(is_consistent: bool) -> Relation
+    ensures consistent { is_consistent ≡ true → result ≡ Relation.Consistent }
+    ensures apart { is_consistent ≡ false → result ≡ Relation.Apart }
+{
+    if is_consistent {
+        Relation::Consistent
+    } else {
+        Relation::Apart
+    }
+}
+
+impl TypeTable {
+    // What was found of two types before.
+    pub(crate) fn known(&self, pairing: Pairing) -> Option<Relation>
+        ensures { IfSome result (IsRelationOf self.now pairing) }
+    {
+        self.relations.get(&pairing).copied()
+    }
+
+    // Whether two types are consistent, where that was found before.
+    pub(crate) fn known_consistency(&self, pairing: Pairing) -> Option<bool>
+        ensures { IfSome result (λ answer. answer ≡ is_consistent_pairing self.now pairing) }
+    {
+        match self.known(pairing)? {
+            Relation::Apart => Some(false),
+            Relation::Consistent => Some(true),
+            Relation::Meets(_) => Some(true),
+        }
+    }
+
+    // Keeps what was found of two types.
+    pub(crate) fn keep(&mut self, pairing: Pairing, relation: Relation) -> Result<(), NoMemory>
+        requires within { IsPairingOf self.old pairing }
+        requires relation { IsRelationOf self.old pairing relation }
+        ensures unchanged { self.new ≡ self.old }
+    {
+        self.relations.insert(pairing, relation)?;
+        Ok(())
+    }
+}
