@@ -1,4 +1,4 @@
-use Rattle.std.proofs.Common.{◌≡◌, [], ◌+◌, ◌*◌, ◌≤◌, Option, Some, ap, refl, subst, sym, ◌∙◌, length, arith, rules}
+use Rattle.std.proofs.Common.{◌≡◌, [], ◌+◌, ◌≤◌, Option, Some, ap, refl, subst, sym, ◌∙◌, length, arith, rules}
 use Rattle.std.proofs.lemmas.List.{get_or_read}
 use Rattle.grove_edits.specs.declared.vertex.Vertex.{Vertex}
 use Rattle.grove_edits.specs.Vertex.{stands_in}
