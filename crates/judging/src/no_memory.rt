@@ -24,3 +24,9 @@ impl From<mark_step::NoMemory> for NoMemory {
         NoMemory
     }
 }
+
+impl From<ctx_table::NoMemory> for NoMemory {
+    fn from(_error: ctx_table::NoMemory) -> NoMemory {
+        NoMemory
+    }
+}

@@ -43,3 +43,21 @@ impl From<marking::NoMemory> for NoMemory {
         NoMemory
     }
 }
+
+impl From<type_core::NoMemory> for NoMemory {
+    fn from(_error: type_core::NoMemory) -> NoMemory {
+        NoMemory
+    }
+}
+
+impl From<ctx_table::NoMemory> for NoMemory {
+    fn from(_error: ctx_table::NoMemory) -> NoMemory {
+        NoMemory
+    }
+}
+
+impl From<mark_step::NoMemory> for NoMemory {
+    fn from(_error: mark_step::NoMemory) -> NoMemory {
+        NoMemory
+    }
+}

@@ -1,6 +1,10 @@
 use crate::erasing::erase;
-use grove_sorts::{Position, Sort};
-use grove_terms::{Node, What};
+use crate::marking_trees::mark_grove;
+use ctx_table::CtxTable;
+use grove_edits::Vertex;
+use grove_names::Name;
+use grove_sorts::{Ctor, Position, Sort};
+use grove_terms::{Grove, Node, Tree, TreeList, What};
 use mark_step::{Mark, Mode};
 use marking::{MarkedGrove, MarkedNode, MarkedTree, MarkedTreeList};
 use std::test::Fail;
@@ -35,5 +39,46 @@ fn a_hole_is_a_hole_again(rt: HostRuntime) -> Result<(), Fail> {
     assert_eq!(rt; grove.none.len(), 1);
     assert_eq!(rt; grove.none.get(0).and_then(|tree| tree.get(0)), Some(node));
     assert_eq!(rt; grove.multi.len() + grove.cycle.len(), 0);
+    Ok(())
+}
+
+const SEVEN: Node = Node {
+    depth: 0,
+    position: None,
+    edge: None,
+    what: What::Vertex(Vertex {
+        name: Name {
+            author: 1,
+            counter: 1,
+        },
+        ctor: Ctor::Num(7),
+    }),
+};
+
+#[test]
+fn a_number_is_marked(rt: HostRuntime) -> Result<(), Fail> {
+    let mut types = TypeTable::new(rt.alloc())?;
+    let mut ctxs = CtxTable::new(rt.alloc())?;
+    let mut tree = Tree::new(rt.alloc());
+    tree.push(SEVEN)?;
+    let mut none = TreeList::new(rt.alloc());
+    none.push(tree)?;
+    let grove = Grove {
+        none,
+        multi: TreeList::new(rt.alloc()),
+        cycle: TreeList::new(rt.alloc()),
+    };
+    let marked = mark_grove(rt.alloc(), &grove, &mut types, &mut ctxs)?;
+    assert_eq!(rt;
+        marked.none.get(0).and_then(|tree| tree.get(0)),
+        Some(MarkedNode {
+            node: SEVEN,
+            mode: Some(Mode::Syn),
+            typ: Some(types.num()),
+            mark: Mark::None,
+        })
+    );
+    assert_eq!(rt; marked.none.len(), 1);
+    assert_eq!(rt; marked.multi.len() + marked.cycle.len(), 0);
     Ok(())
 }

@@ -63,7 +63,7 @@ pub struct NodeView {
     pub ctx: CtxId,
     pub mode: Mode,
     pub binder: Binder,
-    /// The types of the expressions among its children that are marked already, by the index of their position.
+    /// The types of its children that are marked already, by the index of their position. Only those of expressions are read.
     pub done: [Option<TypeId>; WIDEST],
 }
 

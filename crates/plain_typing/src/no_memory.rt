@@ -25,3 +25,27 @@ impl From<judging::NoMemory> for NoMemory {
         NoMemory
     }
 }
+
+impl From<grove_terms::NoMemory> for NoMemory {
+    fn from(_error: grove_terms::NoMemory) -> NoMemory {
+        NoMemory
+    }
+}
+
+impl From<type_core::NoMemory> for NoMemory {
+    fn from(_error: type_core::NoMemory) -> NoMemory {
+        NoMemory
+    }
+}
+
+impl From<ctx_table::NoMemory> for NoMemory {
+    fn from(_error: ctx_table::NoMemory) -> NoMemory {
+        NoMemory
+    }
+}
+
+impl From<mark_step::NoMemory> for NoMemory {
+    fn from(_error: mark_step::NoMemory) -> NoMemory {
+        NoMemory
+    }
+}
