@@ -1,5 +1,4 @@
 pub mod Heads
 pub mod Reported
 pub mod SameGraph
-pub mod Sorted
 pub mod Written

@@ -17,3 +17,6 @@ pub use check::check_text;
 pub use laws::same_graphs_have_one_text;
 pub use no_memory::NoMemory;
 pub use show::print_text;
+
+#[cfg(test)]
+mod tests;

@@ -74,6 +74,12 @@ impl From<ctx_table::NoMemory> for NoMemory {
     }
 }
 
+impl From<marking::NoMemory> for NoMemory {
+    fn from(_error: marking::NoMemory) -> NoMemory {
+        NoMemory
+    }
+}
+
 impl From<mark_rules::NoMemory> for NoMemory {
     fn from(_error: mark_rules::NoMemory) -> NoMemory {
         NoMemory

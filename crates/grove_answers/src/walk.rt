@@ -6,8 +6,8 @@ ghost use Rattle.grove_terms.specs.Grove.{IsTreeOf};
 ghost use Rattle.grove_decompose.specs.Trees.{OnlyInner};
 ghost use Rattle.marking.specs.Grove.{IsMarkedTree};
 ghost use Rattle.marking.specs.Sorted.{IsSortedTree};
-ghost use Rattle.mark_rules.specs.Reading.{meant_nodes};
-ghost use Rattle.mark_rules.specs.Numbers.{AreMarkedNodesOf};
+ghost use Rattle.marking.specs.Reading.{meant_nodes};
+ghost use Rattle.marking.specs.Numbers.{AreMarkedNodesOf};
 ghost use Rattle.grove_answers.specs.Program.{IsHead};
 
 use crate::no_memory::NoMemory;
@@ -15,7 +15,8 @@ use ctx_table::CtxTable;
 use graph_table::{GraphTable, Numbered};
 use grove_decompose::{Seen, tree_by_number};
 use grove_terms::Tree;
-use mark_rules::{MarkedTree, mark_tree};
+use mark_rules::mark_tree;
+use marking::MarkedTree;
 use std::alloc::Global;
 use type_core::TypeTable;
 

@@ -13,8 +13,8 @@ use Rattle.grove_terms.specs.declared.node.What.TheVariants.{Vertex, Hole, Confl
 use Rattle.type_core.specs.Typ.{Typ, type_text}
 use Rattle.mark_step.specs.declared.node.Mark.{Mark}
 use Rattle.mark_step.specs.declared.node.Mark.TheVariants as mark
-use Rattle.mark_step.specs.Expression.{Wanted, Synthesise, Analyse}
-use Rattle.marking.specs.Marking.{MarkedNode, has_mark}
+use Rattle.mark_step.specs.Expression.{Wanted, Synthesise, Analyse, has_mark}
+use Rattle.marking.specs.Marking.{MarkedNode}
 use Rattle.marking.specs.Grove.{MarkedTrees}
 use Rattle.grove_printer.specs.declared.section.Section.{Section}
 use Rattle.grove_printer.specs.declared.section.Section.TheVariants.{NoParent, Multi, Cycle}

@@ -1,12 +1,12 @@
 ghost use Rattle.std.specs.Prelude.{◌≡◌, ◌++◌, take, OnOk, OnErr};
-ghost use Rattle.mark_rules.specs.Reading.{meant};
-ghost use Rattle.mark_rules.specs.Numbers.{IsMarkedNodeOf};
+ghost use Rattle.marking.specs.Reading.{meant};
+ghost use Rattle.marking.specs.Numbers.{IsMarkedNodeOf};
 ghost use Rattle.grove_printer.specs.Print.{Extends, node_line};
 
 use crate::columns::append_columns;
 use crate::marks::append_marks;
 use crate::no_memory::NoMemory;
-use mark_rules::MarkedNode;
+use marking::MarkedNode;
 use type_core::TypeTable;
 
 /// Appends the line of a node; after an error a part of it may stand.

@@ -1,12 +1,11 @@
 ghost use Rattle.std.specs.Prelude.{◌≡◌, ◌++◌, map, OnOk, OnErr};
-ghost use Rattle.mark_rules.specs.Reading.{meant_nodes, meant_grove};
-ghost use Rattle.mark_rules.specs.Numbers.{AreMarkedNodesOf, AreMarkedListsOf, IsMarkedGroveOf};
+ghost use Rattle.marking.specs.Reading.{meant_nodes, meant_grove};
+ghost use Rattle.marking.specs.Numbers.{AreMarkedNodesOf, AreMarkedListsOf, IsMarkedGroveOf};
 ghost use Rattle.grove_printer.specs.Print.{Extends, tree_marked_lines, trees_marked_lines, marked_lines};
 
 use crate::line::{append_line, whole_or_nothing};
-use crate::marks::has_mark;
 use crate::no_memory::NoMemory;
-use mark_rules::{MarkedGrove, MarkedNode, MarkedTree};
+use marking::{MarkedGrove, MarkedNode, MarkedTree};
 use type_core::TypeTable;
 
 /// Appends the lines of the print text whose nodes have a mark, without headings.
@@ -80,7 +79,7 @@ fn append_of_tree(
     ensures in_part { OnErr result (Extends out.old.items out.new.items) }
 {
     for node in nodes {
-        if has_mark(node.mark) {
+        if node.mark.is_some() {
             append_line(node, types, out)?;
         }
     }

@@ -2,16 +2,15 @@ ghost use Rattle.std.specs.Prelude.{◌≡◌, ◌++◌, OnOk, OnErr, IfSome};
 ghost use Rattle.std.specs.Option.{option_map};
 ghost use Rattle.type_core.specs.TypeTable.{IsTypeOf, type_at};
 ghost use Rattle.mark_step.specs.Node.{IsModeOf, wanted_at};
-ghost use Rattle.mark_rules.specs.Reading.{meant};
-ghost use Rattle.mark_rules.specs.Numbers.{IsMarkedNodeOf};
-ghost use Rattle.marking.specs.Marking.{has_mark};
+ghost use Rattle.marking.specs.Reading.{meant};
+ghost use Rattle.marking.specs.Numbers.{IsMarkedNodeOf};
 ghost use Rattle.grove_printer.specs.Print.{Extends, sort_of_node, mode_column, type_column, mark_text, mark_columns};
 
 use crate::no_memory::NoMemory;
 use grove_sorts::{Sort, sort_of, write_sort};
 use grove_terms::What;
-use mark_rules::MarkedNode;
 use mark_step::{Mark, Mode};
+use marking::MarkedNode;
 use type_core::{TypeId, TypeTable};
 
 /// How many levels of a type are printed.
@@ -79,12 +78,6 @@ fn sort_of_node(what: &What) -> Sort
         }
         What::Hole(sort) | What::Conflict(sort, _) => *sort,
     }
-}
-
-pub(crate) fn has_mark(mark: Mark) -> bool
-    ensures { result ≡ has_mark mark }
-{
-    !matches!(mark, Mark::None)
 }
 
 fn mark_word(mark: Mark) -> &'static [u8]

@@ -68,8 +68,8 @@ impl From<mark_step::NoMemory> for NoMemory {
     }
 }
 
-impl From<mark_rules::NoMemory> for NoMemory {
-    fn from(_error: mark_rules::NoMemory) -> NoMemory {
+impl From<marking::NoMemory> for NoMemory {
+    fn from(_error: marking::NoMemory) -> NoMemory {
         NoMemory
     }
 }

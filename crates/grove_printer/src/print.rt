@@ -1,12 +1,12 @@
 ghost use Rattle.std.specs.Prelude.{◌≡◌, ◌++◌, length, map, OnOk, OnErr};
-ghost use Rattle.mark_rules.specs.Reading.{meant_nodes, meant_grove};
-ghost use Rattle.mark_rules.specs.Numbers.{AreMarkedNodesOf, AreMarkedListsOf, IsMarkedGroveOf};
+ghost use Rattle.marking.specs.Reading.{meant_nodes, meant_grove};
+ghost use Rattle.marking.specs.Numbers.{AreMarkedNodesOf, AreMarkedListsOf, IsMarkedGroveOf};
 ghost use Rattle.grove_printer.specs.Print.{Extends, tree_text, trees_text, heading, print_text};
 
 use crate::line::{append_line, whole_or_nothing};
 use crate::no_memory::NoMemory;
 use crate::section::Section;
-use mark_rules::{MarkedGrove, MarkedNode, MarkedTree, MarkedTreeList};
+use marking::{MarkedGrove, MarkedNode, MarkedTree, MarkedTreeList};
 use text_parts::write_number;
 use type_core::TypeTable;
 

@@ -1,14 +1,14 @@
 ghost use Rattle.std.specs.Prelude.{List, IfOk};
 ghost use Rattle.type_core.specs.Typ.{Typ};
-ghost use Rattle.mark_rules.specs.Numbers.{IsMarkedNodeOf, AreMarkedNodesOf, IsMarkedGroveOf};
+ghost use Rattle.marking.specs.Numbers.{IsMarkedNodeOf, AreMarkedNodesOf, IsMarkedGroveOf};
 
 use super::*;
 use grove_edits::{Edge, Vertex};
 use grove_names::Name;
 use grove_sorts::{Ctor, Position, Sort};
 use grove_terms::{Node, What};
-use mark_rules::{MarkedGrove, MarkedNode, MarkedTree, MarkedTreeList};
 use mark_step::{Mark, Mode};
+use marking::{MarkedGrove, MarkedNode, MarkedTree, MarkedTreeList};
 use std::alloc::Global;
 use std::test::Fail;
 use type_core::TypeTable;
@@ -73,7 +73,13 @@ fn a_marked_grove_is_printed(rt: HostRuntime) -> Result<(), Fail> {
     print_grove(&marked, &types, &mut text)?;
     assert_eq!(rt;
         text.as_slice(),
-        b"none 1\n0 - - 0.0 root top - -\n1 main - - hole ana:bool num inconsistent\nmulti 0\ncycle 0\n".as_slice()
+        b"none 1
+0 - - 0.0 root top - -
+1 main - - hole ana:bool num inconsistent
+multi 0
+cycle 0
+"
+            .as_slice()
     );
     Ok(())
 }
@@ -94,12 +100,17 @@ fn a_tree_is_printed_by_itself(rt: HostRuntime) -> Result<(), Fail> {
     };
     let tree = root_and(rt.alloc(), free)?;
     let mut text = Vec::new(rt.alloc());
-    print_heading(b"none ", 1, &mut text)?;
+    print_heading(Section::NoParent, 1, &mut text)?;
     print_tree(&tree, &types, &mut text)?;
     print_marked_lines_of(&tree, &types, &mut text)?;
     assert_eq!(rt;
         text.as_slice(),
-        b"none 1\n0 - - 0.0 root top - -\n1 main - - hole syn ? free\n1 main - - hole syn ? free\n".as_slice()
+        b"none 1
+0 - - 0.0 root top - -
+1 main - - hole syn ? free
+1 main - - hole syn ? free
+"
+            .as_slice()
     );
     Ok(())
 }

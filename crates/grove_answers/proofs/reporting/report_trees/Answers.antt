@@ -4,7 +4,7 @@ use Rattle.std.proofs.lemmas.Grind.{common_steps}
 use Rattle.graph_table.specs.declared.numbered.Numbered.{Numbered}
 use Rattle.graph_table.specs.Table.{live}
 use Rattle.grove_decompose.specs.Trees.{vertices_of}
-use Rattle.mark_rules.specs.Reading.{meant_nodes}
+use Rattle.marking.specs.Reading.{meant_nodes}
 use Rattle.grove_answers.specs.Program.{IsHead}
 use Rattle.grove_answers.proofs.Heads.{vertices-append}
 use Rattle.grove_answers.proofs.Reported.{reported_none, reported_one_more}

@@ -1,6 +1,6 @@
 use Rattle.std.proofs.Common.{◌≡◌, ◌++◌, drop}
-use Rattle.mark_rules.specs.Reading.{meant_nodes}
-use Rattle.mark_rules.specs.Numbers.{AreMarkedNodesOf}
+use Rattle.marking.specs.Reading.{meant_nodes}
+use Rattle.marking.specs.Numbers.{AreMarkedNodesOf}
 use Rattle.grove_printer.specs.Print.{Extends, tree_marked_lines}
 use Rattle.grove_printer.proofs.marked_lines.append_of_tree.Given as goal
 

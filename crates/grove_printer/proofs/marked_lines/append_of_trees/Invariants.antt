@@ -1,6 +1,6 @@
 use Rattle.std.proofs.Common.{◌≡◌, ◌++◌, drop, map}
-use Rattle.mark_rules.specs.Reading.{meant_nodes}
-use Rattle.mark_rules.specs.Numbers.{AreMarkedListsOf}
+use Rattle.marking.specs.Reading.{meant_nodes}
+use Rattle.marking.specs.Numbers.{AreMarkedListsOf}
 use Rattle.grove_printer.specs.Print.{Extends, trees_marked_lines}
 use Rattle.grove_printer.proofs.marked_lines.append_of_trees.Given as goal
 

@@ -1,6 +1,6 @@
 use Rattle.std.proofs.Common.{List, ℕ, ◌++◌, refl, sym, ap, ◌∙◌, inr, add-zero, append-nil}
 use Rattle.std.proofs.lemmas.Bool.{false≢true}
-use Rattle.mark_rules.specs.Reading.{meant_nodes}
+use Rattle.marking.specs.Reading.{meant_nodes}
 use Rattle.grove_printer.specs.Print.{tree_marked_lines}
 use Rattle.grove_answers.proofs.check.CheckedReport.take.Goals as goal
 

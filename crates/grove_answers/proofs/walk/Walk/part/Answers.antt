@@ -1,9 +1,7 @@
-use Rattle.graph_table.specs.Table.{live}
-use Rattle.grove_answers.proofs.Sorted.{sorted_tree}
 use Rattle.grove_answers.proofs.walk.Walk.part.Goals as goal
 
 pub mark_tree-requires : goal.mark_tree-requires
-mark_tree-requires c = record { sorted = sorted_tree c.args.table.now.edits (live c.args.table.now) c.args.head.now.vertex c.in_ok-tree.tree c.requires.whole c.in_ok-tree.ensures.tree }
+mark_tree-requires c = let tree = c.in_ok-tree.ensures.sorted in record { sorted = record { head = tree.head; forest = tree.forest; well_sorted = tree.well_sorted; listed = tree.listed } }
 
 pub returns-clause-sorted : goal.returns-clause-sorted
-returns-clause-sorted c = sorted_tree c.args.table.now.edits (live c.args.table.now) c.args.head.now.vertex c.in_ok-tree.tree c.requires.whole c.in_ok-tree.ensures.tree
+returns-clause-sorted c = let tree = c.in_ok-tree.ensures.sorted in record { head = tree.head; forest = tree.forest; well_sorted = tree.well_sorted; listed = tree.listed }
