@@ -1,7 +1,7 @@
 ghost use Rattle.std.specs.Prelude.{◌≡◌, ℕ, List, [], ◌∷◌, ◌++◌, OnOk};
 ghost use Rattle.grove_terms.specs.declared.node.Node.{Node};
 ghost use Rattle.marking.specs.Marking.{MarkedNode};
-ghost use Rattle.marking.specs.Sorted.{IsSortedTree};
+ghost use Rattle.grove_terms.specs.Sorted.{IsSortedTree};
 ghost use Rattle.marking.specs.Reading.{meant_nodes};
 ghost use Rattle.marking.specs.Numbers.{AreMarkedNodesOf};
 ghost use Rattle.grove_printer.specs.declared.section.Section.{Section};

@@ -5,7 +5,7 @@ ghost use Rattle.graph_table.specs.Table.{live};
 ghost use Rattle.grove_terms.specs.Grove.{IsTreeOf};
 ghost use Rattle.grove_decompose.specs.Trees.{OnlyInner};
 ghost use Rattle.marking.specs.Grove.{IsMarkedTree};
-ghost use Rattle.marking.specs.Sorted.{IsSortedTree};
+ghost use Rattle.grove_terms.specs.Sorted.{IsSortedTree};
 ghost use Rattle.marking.specs.Reading.{meant_nodes};
 ghost use Rattle.marking.specs.Numbers.{AreMarkedNodesOf};
 ghost use Rattle.grove_answers.specs.Program.{IsHead};

@@ -4,7 +4,7 @@ ghost use Rattle.ctx_table.specs.CtxTable.{KeepsContexts};
 ghost use Rattle.marking.specs.Grove.{IsMarkedTree, AreMarkedTrees, IsMarkedGrove};
 ghost use Rattle.marking.specs.Reading.{meant_nodes, meant_grove};
 ghost use Rattle.marking.specs.Numbers.{AreMarkedNodesOf, AreMarkedListsOf, IsMarkedGroveOf};
-ghost use Rattle.marking.specs.Sorted.{IsSortedTree, AreSortedTrees, IsSortedGrove};
+ghost use Rattle.grove_terms.specs.Sorted.{IsSortedTree, AreSortedTrees, IsSortedGrove};
 
 use crate::no_memory::NoMemory;
 use crate::taking::{Walk, take};

@@ -8,7 +8,7 @@ use Rattle.grove_terms.specs.Nodes.{tree_nodes}
 use Rattle.type_core.specs.Typ.{Typ}
 use Rattle.ctx_table.specs.Context.{Context}
 use Rattle.marking.specs.Marking.{HasNoMark, marked_tree}
-use Rattle.marking.specs.Sorted.{IsSortedTree}
+use Rattle.grove_terms.specs.Sorted.{IsSortedTree}
 use Rattle.judging.specs.Machine.{State, at, step, run}
 use Rattle.judging.specs.Frames.{frames_at}
 use Rattle.judging.proofs.Running.{tree_marked}

@@ -1,7 +1,7 @@
 ghost use Rattle.std.specs.Prelude.{◌↔◌, IfOk, IsTrue};
 ghost use Rattle.type_core.specs.TypeTable.{KeepsTypes};
 ghost use Rattle.ctx_table.specs.CtxTable.{KeepsContexts};
-ghost use Rattle.marking.specs.Sorted.{IsSortedTree};
+ghost use Rattle.grove_terms.specs.Sorted.{IsSortedTree};
 ghost use Rattle.plain_typing.specs.Typed.{IsTypedTree};
 
 use crate::no_memory::NoMemory;

@@ -2,7 +2,7 @@ use Rattle.std.proofs.Common.{drop}
 use Rattle.type_core.specs.TypeTable.{KeepsTypes}
 use Rattle.ctx_table.specs.CtxTable.{KeepsContexts}
 use Rattle.marking.specs.Numbers.{AreMarkedListsOf}
-use Rattle.marking.specs.Sorted.{AreSortedTrees}
+use Rattle.grove_terms.specs.Sorted.{AreSortedTrees}
 use Rattle.mark_rules.proofs.Marks.{AreSoFar}
 use Rattle.mark_rules.proofs.marking_trees.mark_trees.Given as goal
 
