@@ -10,6 +10,7 @@ use Rattle.std.specs.Ordering.{is_eq, ordering_reverse}
 use Rattle.std.specs.Cmp.{IsTotalOrder}
 use Rattle.std.proofs.Math.Dec.{eqb-suc-zero}
 use Rattle.std.proofs.lemmas.Cmp.{tied_itself}
+use Rattle.grove_sorts.proofs.Truths.{or_swap}
 use Rattle.smallvec.specs.SmallVec.{SmallVec, small_vec_len}
 use Rattle.grove_sorts.proofs.Orders.{equal_from_test}
 use Rattle.grove_edits.specs.declared.edge.Edge.{Edge}
@@ -38,11 +39,6 @@ from_bool-le false = omega arith
 or_again : (a b : Bool) → (a || b) ≡ (a || (a || b))
 or_again true b = refl
 or_again false b = refl
-
-or_swap : (a b c : Bool) → (a || (b || c)) ≡ (b || (a || c))
-or_swap true true c = refl
-or_swap true false c = refl
-or_swap false b c = refl
 
 -- ---- an edge taken out of a list and put back
 

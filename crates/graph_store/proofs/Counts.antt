@@ -10,11 +10,10 @@ use Rattle.grove_edits.specs.declared.vertex.Vertex.{Vertex}
 use Rattle.grove_edits.specs.declared.edge.Edge.{Edge}
 use Rattle.grove_edits.specs.contracts.vertex.VertexOrd.TheImpl as vertex_impl
 use Rattle.grove_edits.specs.contracts.edge.EdgeOrd.TheImpl as edge_impl
-use Rattle.grove_edits.specs.Vertex.{vertex_cmp, is_same_vertex}
+use Rattle.grove_edits.specs.Vertex.{is_same_vertex}
 use Rattle.grove_edits.specs.Graph.{is_same_edge}
-use Rattle.grove_edits.proofs.Orders.{vertex_cmp_exact, cmp_is_vertex_cmp, one_edge}
-use Rattle.grove_sorts.proofs.Orders.{equal_from_test}
-use Rattle.grove_edits.proofs.Vertices.{same_vertex_laws}
+use Rattle.grove_edits.proofs.Orders.{one_edge}
+use Rattle.grove_edits.proofs.Vertices.{same_vertex_laws, same_vertex_exact, order_is_same_vertex}
 use Rattle.graph_store.specs.Counts.{once, ends_at, weight, uses, count_at, count_of, KeepsCounts, IsCounted}
 use Rattle.graph_store.specs.Room.{GetsRoom, GetsEntry}
 use Rattle.graph_store.specs.Named.{is_present}
@@ -23,15 +22,9 @@ use Rattle.graph_store.proofs.Lookups.{lookup_congr, test_is_same_edge, entry_ke
 
 -- ---- one number set
 
-pub one_vertex : (a b : Vertex) → is_same_vertex a b ≡ true → a ≡ b
-one_vertex a b same = vertex_cmp_exact a b (equal_from_test (vertex_cmp a b) same)
-
-test_is_same_vertex : (v k : Vertex) → is_at (vertex_impl.ghosts.cmp v) k ≡ is_same_vertex v k
-test_is_same_vertex v k = ap is_eq (cmp_is_vertex_cmp v k)
-
 -- the code's look-up finds the number of a vertex
 pub get_vertex : (counts : List (Vertex × ℕ)) (v : Vertex) → lookup (is_at (vertex_impl.ghosts.cmp v)) counts ≡ count_at counts v
-get_vertex counts v = lookup_congr (is_at (vertex_impl.ghosts.cmp v)) (is_same_vertex v) (test_is_same_vertex v) counts
+get_vertex counts v = lookup_congr (is_at (vertex_impl.ghosts.cmp v)) (is_same_vertex v) (order_is_same_vertex v) counts
 
 pub count_set : (k : Vertex) (n : ℕ) (es fs : List (Vertex × ℕ)) → IsSome (count_at es k) → fs ≡ set_value (is_at (vertex_impl.ghosts.cmp k)) es n → (v : Vertex)
     → count_at fs v ≡ cond (is_same_vertex k v) (Some n) (count_at es v)
@@ -40,10 +33,10 @@ count_set k n es fs room is v =
     let there : IsSome (lookup test es) = ap is_some (get_vertex es k) ∙ room in
     ap (λ (xs : List (Vertex × ℕ)). count_at xs v) is
     ∙ lookup-set_value same_vertex_laws test alike v n es there
-    ∙ ap (λ b. cond b (Some n) (count_at es v)) (test_is_same_vertex k v)
+    ∙ ap (λ b. cond b (Some n) (count_at es v)) (order_is_same_vertex k v)
   where
     alike : (x y : Vertex) → is_at (vertex_impl.ghosts.cmp k) x ≡ true → is_at (vertex_impl.ghosts.cmp k) y ≡ is_same_vertex x y
-    alike x y at = test_is_same_vertex k y ∙ same_vertex_laws.congr k x y (sym (test_is_same_vertex k x) ∙ at)
+    alike x y at = order_is_same_vertex k y ∙ same_vertex_laws.congr k x y (sym (order_is_same_vertex k x) ∙ at)
 
 pub counts_kept : (k : Vertex) (n : ℕ) (es fs : List (Vertex × ℕ)) → IsSome (count_at es k) → fs ≡ set_value (is_at (vertex_impl.ghosts.cmp k)) es n → KeepsCounts es fs
 counts_kept k n es fs room is v had = ap is_some (count_set k n es fs room is v) ∙ by_test (is_same_vertex k v) where
@@ -55,14 +48,14 @@ pub counted_up : (k : Vertex) (n : ℕ) (es fs : List (Vertex × ℕ)) → IsSom
     → count_of fs v ≡ count_of es v + once (is_same_vertex k v)
 counted_up k n es fs room is more v = ap (λ o. unwrap_or o 0) (count_set k n es fs room is v) ∙ by_test (is_same_vertex k v) refl where
   by_test : (b : Bool) → is_same_vertex k v ≡ b → unwrap_or (cond b (Some n) (count_at es v)) 0 ≡ count_of es v + once b
-  by_test true same = more ∙ ap (λ w. count_of es w + 1) (one_vertex k v same)
+  by_test true same = more ∙ ap (λ w. count_of es w + 1) (same_vertex_exact k v same)
   by_test false other = omega arith
 
 pub counted_down : (k : Vertex) (n : ℕ) (es fs : List (Vertex × ℕ)) → IsSome (count_at es k) → fs ≡ set_value (is_at (vertex_impl.ghosts.cmp k)) es n → n + 1 ≡ count_of es k → (v : Vertex)
     → count_of fs v + once (is_same_vertex k v) ≡ count_of es v
 counted_down k n es fs room is less v = ap (λ o. unwrap_or o 0 + once (is_same_vertex k v)) (count_set k n es fs room is v) ∙ by_test (is_same_vertex k v) refl where
   by_test : (b : Bool) → is_same_vertex k v ≡ b → unwrap_or (cond b (Some n) (count_at es v)) 0 + once b ≡ count_of es v
-  by_test true same = less ∙ ap (λ w. count_of es w) (one_vertex k v same)
+  by_test true same = less ∙ ap (λ w. count_of es w) (same_vertex_exact k v same)
   by_test false other = omega arith
 
 -- ---- one state set

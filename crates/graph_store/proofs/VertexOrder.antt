@@ -31,8 +31,7 @@ use Rattle.graph_store.specs.Vertices.{IsCountedFrom, IsCountedNamed, IsVertexNa
 use Rattle.graph_store.specs.declared.vertices.Named.TheVariants.{Zero, One, More}
 use Rattle.graph_store.proofs.Joins.{in_edge_order}
 use Rattle.graph_store.proofs.Names.{root_le, absent_not_present, present_from_state, less_from_test}
-use Rattle.grove_edits.proofs.Vertices.{same_vertex_laws}
-use Rattle.graph_store.proofs.Counts.{one_vertex}
+use Rattle.grove_edits.proofs.Vertices.{same_vertex_laws, same_vertex_exact}
 use Rattle.graph_store.proofs.Leasts.{pick, holds, found_later, found_behind, Fits, AreByName, pick_is_least, least_same, sorted_part, found_part}
 
 abbrev pub is_counted : ℕ → Bool
@@ -126,8 +125,8 @@ used_by : (s : State) (e : Edge) (v : Vertex) → 0 < weight s e v → (is_prese
 used_by s e v h = by_tests (is_present s) (is_same_vertex e.source v) (is_same_vertex e.target v) refl refl h where
   by_tests : (p a b : Bool) → is_same_vertex e.source v ≡ a → is_same_vertex e.target v ≡ b → 0 < cond p (once a + once b) 0 → (p ≡ true) × ((e.source ≡ v) ⊎ (e.target ≡ v))
   by_tests false a b sa sb h = absurd (omega arith)
-  by_tests true true b sa sb h = (refl, inl (one_vertex e.source v sa))
-  by_tests true false true sa sb h = (refl, inr (one_vertex e.target v sb))
+  by_tests true true b sa sb h = (refl, inl (same_vertex_exact e.source v sa))
+  by_tests true false true sa sb h = (refl, inr (same_vertex_exact e.target v sb))
   by_tests true false false sa sb h = absurd (omega arith)
 
 weight_above : (s : State) (e : Edge) (v : Vertex) → is_present s ≡ true → (e.source ≡ v) ⊎ (e.target ≡ v) → 0 < weight s e v

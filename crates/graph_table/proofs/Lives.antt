@@ -1,9 +1,9 @@
 -- The insertions of an ascending list are the live edges of its graph.
 use Rattle.std.proofs.Common.{◌≡◌, Bool, true, false, cond, List, [], ◌∷◌, ◌||◌, refl, sym, ap, subst, ◌∙◌}
 use Rattle.std.specs.List.{AllByRecursion}
-use Rattle.std.specs.declared.cmp.Ordering.{Ordering}
 use Rattle.std.specs.declared.cmp.Ordering.TheVariants.{Less}
-use Rattle.std.specs.Ordering.{is_eq, ordering_reverse}
+use Rattle.std.specs.Ordering.{is_eq}
+use Rattle.grove_edits.proofs.Unique.{greater_from}
 use Rattle.edge_lattice.specs.declared.state.State.{State}
 use Rattle.edge_lattice.specs.declared.state.State.TheVariants.{Absent, Live, Deleted}
 use Rattle.edge_lattice.specs.State.{state_join}
@@ -44,14 +44,11 @@ in_order (x ∷ xs) up = by_kind (is_insertion (edit_kind x)) (inserted_all (λ 
   by_kind true later rest = (later, rest)
   by_kind false later rest = rest
 
-not_equal_from_less : (o : Ordering) → o ≡ Less → is_eq (ordering_reverse o) ≡ false
-not_equal_from_less o e = rw e refl
-
 -- an edge before those of all edits is Absent
 absent_below : (e : Edge) (edits : List Edit) → AllByRecursion (λ later. edge_cmp e (edit_edge later) ≡ Less) edits → graph edits e ≡ Absent
 absent_below e [] below = refl
 absent_below e (x ∷ xs) below =
-    let other : is_same_edge (edit_edge x) e ≡ false = ap is_eq (edge_cmp_total.antisymm (edit_edge x) e) ∙ not_equal_from_less (edge_cmp e (edit_edge x)) below.0 in
+    let other : is_same_edge (edit_edge x) e ≡ false = ap is_eq (edge_cmp_total.antisymm (edit_edge x) e) ∙ greater_from (edge_cmp e (edit_edge x)) below.0 in
     rw other (Absent-state_join (graph xs e) ∙ absent_below e xs below.1)
 
 abbrev is_live : State → Bool

@@ -9,3 +9,4 @@ pub mod Listing
 pub mod Noted
 pub mod ByNumber
 pub mod Inserted
+pub mod Vectors

@@ -2,6 +2,7 @@
 use Rattle.std.proofs.Common.{◌≡◌, ℕ, zero, suc, ◌+◌, ◌<◌, Bool, true, false, cond, List, [], ◌∷◌, ◌++◌, length, refl, sym, ap, subst, ◌∙◌, append-nil, append_assoc, arith}
 use Rattle.std.specs.Prelude.{◌||◌, filter}
 use Rattle.std.specs.List.{AllByRecursion}
+use Rattle.grove_sorts.proofs.Truths.{or_left, or_right}
 use Rattle.grove_sorts.specs.declared.position.Position.{Position}
 use Rattle.grove_sorts.specs.declared.sort.Sort.{Sort}
 use Rattle.grove_sorts.specs.declared.ctor.Ctor.{Ctor}
@@ -44,14 +45,6 @@ distinct_from_rises low (p ∷ ps) rises =
 
 positions_distinct : (c : Ctor) → AreDistinct (positions c)
 positions_distinct c = distinct_from_rises 0 (positions c) (positions_rise c)
-
-or_right : (a b : Bool) → b ≡ true → (a || b) ≡ true
-or_right true b h = refl
-or_right false b h = h
-
-or_left : (a b : Bool) → a ≡ true → (a || b) ≡ true
-or_left true b h = refl
-or_left false b h = absurd cc
 
 or_split : (a b : Bool) → (a || b) ≡ true → (c : Bool) → a ≡ c → (c ≡ false → b ≡ true)
 or_split a b h true e f = absurd cc

@@ -1,6 +1,7 @@
 -- Under a root that heads a tree, only the root itself is the root of a cycle.
 use Rattle.std.proofs.Common.{◌≡◌, suc, Bool, true, false, List, [], ◌∷◌, refl, sym, ap, ◌∙◌}
 use Rattle.std.specs.Prelude.{◌||◌, Option, Some, None}
+use Rattle.grove_edits.proofs.Orders.{one_edge}
 use Rattle.grove_edits.specs.declared.vertex.Vertex.{Vertex}
 use Rattle.grove_edits.specs.declared.edge.Edge.{Edge}
 use Rattle.grove_edits.specs.Graph.{is_same_edge}
@@ -12,7 +13,7 @@ use Rattle.walks.specs.Class.{is_cycle_root, class_by, class}
 use Rattle.walks.proofs.Up.{up, next_above, up-shift}
 use Rattle.unicycle_roots.proofs.Cycles.{no_root_below_none, one_root}
 use Rattle.grove_terms.specs.declared.node.What.TheVariants as whats
-use Rattle.grove_terms.proofs.InLive.{stands_among, same_edge_exact, target_has_parent}
+use Rattle.grove_terms.proofs.InLive.{stands_among, target_has_parent}
 use Rattle.grove_decompose.specs.Tasks.{what_by, are_several, is_shared, IsUnder}
 
 -- ---- what a child is
@@ -38,7 +39,7 @@ root_of_tree live t s r outer under is root = by_next (above live r) refl where
 
 sole_by : (e : Edge) (ps : List Edge) → holds_edge e ps ≡ true → are_several ps ≡ false → only_source ps ≡ Some e.source
 sole_by e [] held few = absurd cc
-sole_by e (p ∷ []) held few = ap Some (ap (λ (y : Edge). y.source) (same_edge_exact p e (only (is_same_edge p e) held))) where
+sole_by e (p ∷ []) held few = ap Some (ap (λ (y : Edge). y.source) (one_edge p e (only (is_same_edge p e) held))) where
   only : (a : Bool) → (a || false) ≡ true → a ≡ true
   only true h = refl
   only false h = absurd cc

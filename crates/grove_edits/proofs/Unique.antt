@@ -57,7 +57,7 @@ graph-permutation xs ys moved =
 
 -- ---- one canonical list
 
-greater_from : (o : Ordering) → o ≡ Less → is_eq (ordering_reverse o) ≡ false
+pub greater_from : (o : Ordering) → o ≡ Less → is_eq (ordering_reverse o) ≡ false
 greater_from o e = rw e refl
 
 -- an edge before all edges of a list is Absent in its graph

@@ -1,5 +1,5 @@
 -- What a well-formed edge has: good vertices, a position of its source, and a target of the sort that the position wants.
-use Rattle.std.proofs.Common.{◌≡◌, Bool, true, false, cond, Option, Some, None, is_none, is_some, refl, sym, ap, ◌∙◌}
+use Rattle.std.proofs.Common.{◌≡◌, Bool, true, false, cond, Option, Some, None, is_none, refl, sym, ap}
 use Rattle.grove_sorts.specs.declared.sort.Sort.{Sort}
 use Rattle.grove_sorts.specs.declared.sort.Sort.TheVariants.{Top, Exp, Pat, Typ}
 use Rattle.grove_sorts.specs.Ctor.{sort_of_ctor, sort_at}

@@ -4,3 +4,4 @@ pub mod Places
 pub mod Words
 pub mod Texts
 pub mod Rows
+pub mod Truths

@@ -1,5 +1,5 @@
 -- The texts of constructors and positions: each has one, and none has a byte below the digits.
-use Rattle.std.proofs.Common.{◌≡◌, ◌≢◌, ℕ, ◌+◌, ◌*◌, ◌<◌, List, [], ◌∷◌, length, Bool, true, false, ◌&&◌, codes, decimal, nat_eq, nat_le, get_or, refl, ap, inl, arith}
+use Rattle.std.proofs.Common.{◌≡◌, ◌≢◌, ℕ, ◌+◌, ◌*◌, ◌<◌, List, [], ◌∷◌, length, Bool, true, ◌&&◌, codes, decimal, nat_eq, nat_le, get_or, refl, ap, inl, arith}
 use Rattle.std.specs.List.{list_all}
 use Rattle.std.proofs.lemmas.Bool.{false≢true}
 use Rattle.std.proofs.lemmas.Bool.Decides.{nat_tests}
@@ -7,6 +7,7 @@ use Rattle.std.proofs.lemmas.Fmt.{decimal_injective}
 use Rattle.text_parts.specs.Separated.{Lacks}
 use Rattle.text_parts.proofs.Numbers.{Lacks-decimal}
 use Rattle.text_parts.proofs.Parts.{Lacks-append}
+use Rattle.grove_sorts.proofs.Truths.{both_true}
 use Rattle.grove_sorts.specs.Identifier.{is_lowercase_letter, is_inner_byte, IsIdentifier}
 use Rattle.grove_sorts.specs.Ident.{ident_bytes}
 use Rattle.grove_sorts.specs.Ctor.{InRange, ctor_text}
@@ -63,10 +64,6 @@ position_text_injective Dom Dom e = refl
 position_text_injective Cod Cod e = refl
 position_text_injective _ b e = absurd (false≢true (ap (λ text. nat_eq (text_key text) (text_key (position_text b))) e))
 
-both_parts : (a b : Bool) → (a && b) ≡ true → (a ≡ true) × (b ≡ true)
-both_parts true b e = (refl, e)
-both_parts false b e = absurd (false≢true e)
-
 inner_byte_above : (byte c : ℕ) → is_inner_byte byte ≡ true → c < 48 → byte ≢ c
 inner_byte_above byte c inner low e = grind (arith, nat_tests)
 
@@ -76,14 +73,14 @@ letter_above byte c letter low e = grind (arith, nat_tests)
 Lacks-inner : (c : ℕ) (bytes : List ℕ) → c < 48 → list_all is_inner_byte bytes ≡ true → Lacks c bytes
 Lacks-inner c [] low inner = tt
 Lacks-inner c (byte ∷ bytes) low inner =
-    let parts = both_parts (is_inner_byte byte) (list_all is_inner_byte bytes) inner in
+    let parts = both_true (is_inner_byte byte) (list_all is_inner_byte bytes) inner in
     (inner_byte_above byte c parts.0 low, Lacks-inner c bytes low parts.1)
 
 Lacks-identifier : (c : ℕ) (bytes : List ℕ) → c < 48 → IsIdentifier bytes → Lacks c bytes
 Lacks-identifier c [] low h = tt
 Lacks-identifier c (byte ∷ bytes) low h =
-    let parts = both_parts (is_lowercase_letter byte && list_all is_inner_byte bytes) (nat_le (length bytes) 31) h in
-    let bytes_inner = both_parts (is_lowercase_letter byte) (list_all is_inner_byte bytes) parts.0 in
+    let parts = both_true (is_lowercase_letter byte && list_all is_inner_byte bytes) (nat_le (length bytes) 31) h in
+    let bytes_inner = both_true (is_lowercase_letter byte) (list_all is_inner_byte bytes) parts.0 in
     (letter_above byte c bytes_inner.0 low, Lacks-inner c bytes low bytes_inner.1)
 
 -- an identifier has no byte below the digits, as a space or a line feed is
@@ -97,7 +94,7 @@ are_above = list_all (nat_le 48)
 Lacks-above : (c : ℕ) (bytes : List ℕ) → c < 48 → are_above bytes ≡ true → Lacks c bytes
 Lacks-above c [] low above = tt
 Lacks-above c (byte ∷ bytes) low above =
-    let parts = both_parts (nat_le 48 byte) (are_above bytes) above in
+    let parts = both_true (nat_le 48 byte) (are_above bytes) above in
     let apart : byte ≢ c = λ e. absurd (grind (arith, nat_tests)) in
     (apart, Lacks-above c bytes low parts.1)
 

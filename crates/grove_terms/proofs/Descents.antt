@@ -1,6 +1,7 @@
 -- Descents from a root through inner vertices: no vertex stands on one twice, so none is longer than there are edges.
 use Rattle.std.proofs.Common.{◌≡◌, suc, ◌≤◌, Bool, true, false, List, [], ◌∷◌, length, refl, sym, ap, ◌∙◌, arith}
 use Rattle.std.specs.Prelude.{◌||◌, Some}
+use Rattle.grove_sorts.proofs.Truths.{or_left, or_right}
 use Rattle.grove_edits.specs.declared.vertex.Vertex.{Vertex}
 use Rattle.grove_edits.specs.declared.edge.Edge.{Edge}
 use Rattle.walks.specs.declared.class.Class.TheVariants.{Inner}
@@ -20,14 +21,6 @@ or_split : (a b : Bool) → (a || b) ≡ true → (c : Bool) → a ≡ c → (c 
 or_split true b h true e f = f refl
 or_split true b h false e f = absurd cc
 or_split false b h c e f = h
-
-or_left : (a b : Bool) → a ≡ true → (a || b) ≡ true
-or_left true b h = refl
-or_left false b h = absurd cc
-
-or_right : (a b : Bool) → b ≡ true → (a || b) ≡ true
-or_right true b h = refl
-or_right false b h = h
 
 -- where an inner vertex stands on a descent, the vertex above it stands on the descent behind it
 above_later : (live : List Edge) (r t v : Vertex) (x : Vertex) (xs : List Vertex) → (class live r ≡ Inner → ⊥) → IsDescent live r (x ∷ xs) → class live t ≡ Inner → above live t ≡ Some v

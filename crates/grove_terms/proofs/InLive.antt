@@ -5,6 +5,7 @@ use Rattle.std.specs.List.{AllByRecursion}
 use Rattle.std.specs.Ordering.{is_eq}
 use Rattle.std.specs.declared.cmp.Ordering.{Ordering}
 use Rattle.std.specs.declared.cmp.Ordering.TheVariants.{Less, Equal, Greater}
+use Rattle.grove_sorts.proofs.Truths.{or_left, or_right, both_true}
 use Rattle.grove_sorts.specs.declared.position.Position.{Position}
 use Rattle.grove_sorts.specs.declared.sort.Sort.{Sort}
 use Rattle.grove_sorts.specs.Ctor.{positions}
@@ -13,7 +14,7 @@ use Rattle.grove_edits.specs.declared.edge.Edge.{Edge}
 use Rattle.grove_edits.specs.Edge.{edge_cmp}
 use Rattle.grove_edits.specs.Graph.{is_same_edge}
 use Rattle.std.proofs.lemmas.Cmp.{tied_itself}
-use Rattle.grove_edits.proofs.Orders.{edge_cmp_exact, edge_cmp_total}
+use Rattle.grove_edits.proofs.Orders.{edge_cmp_exact, edge_cmp_total, one_edge}
 use Rattle.walks.specs.declared.class.Class.TheVariants.{NoParent, Inner}
 use Rattle.walks.specs.Live.{holds_edge, parents_of, children_of}
 use Rattle.grove_edits.specs.Vertex.{is_same_vertex}
@@ -23,15 +24,6 @@ use Rattle.walks.specs.Class.{is_cycle_root, class_by, class}
 use Rattle.grove_edits.proofs.Vertices.{same_vertex_itself, same_vertex_exact}
 use Rattle.grove_terms.specs.Forest.{edges_from, edges_under}
 
-equal_from_test : (o : Ordering) → is_eq o ≡ true → o ≡ Equal
-equal_from_test Less e = absurd cc
-equal_from_test Equal e = refl
-equal_from_test Greater e = absurd cc
-
--- edges that the test finds the same are one
-pub same_edge_exact : (a b : Edge) → is_same_edge a b ≡ true → a ≡ b
-same_edge_exact a b h = edge_cmp_exact a b (equal_from_test (edge_cmp a b) h)
-
 pub same_edge_itself : (a : Edge) → is_same_edge a a ≡ true
 same_edge_itself a = ap is_eq (tied_itself edge_cmp_total a)
 
@@ -40,25 +32,13 @@ pub record IsFrom (live : List Edge) (v : Vertex) (e : Edge) : Type 0 where
   pub held : holds_edge e live ≡ true
   pub source : e.source ≡ v
 
-or_left : (a b : Bool) → a ≡ true → (a || b) ≡ true
-or_left true b h = refl
-or_left false b h = absurd cc
-
-or_right : (a b : Bool) → b ≡ true → (a || b) ≡ true
-or_right true b h = refl
-or_right false b h = h
-
-both_true : (a b : Bool) → (a && b) ≡ true → (a ≡ true) × (b ≡ true)
-both_true true b h = (refl, h)
-both_true false b h = absurd cc
-
 -- ---- the parents of the target
 
 pub stands_among : (e : Edge) (live : List Edge) → holds_edge e live ≡ true → holds_edge e (parents_of e.target live) ≡ true
 stands_among e [] h = absurd cc
 stands_among e (x ∷ xs) h =
     elim (is_same_edge x e) as (λ b. is_same_edge x e ≡ b → (b || holds_edge e xs) ≡ true → holds_edge e (cond (is_same_vertex x.target e.target) (x ∷ parents_of e.target xs) (parents_of e.target xs)) ≡ true) [
-      | true ↦ λ same _. first same (is_same_vertex x.target e.target) (ap (λ (y : Edge). is_same_vertex y.target e.target) (same_edge_exact x e same) ∙ same_vertex_itself e.target)
+      | true ↦ λ same _. first same (is_same_vertex x.target e.target) (ap (λ (y : Edge). is_same_vertex y.target e.target) (one_edge x e same) ∙ same_vertex_itself e.target)
       | false ↦ λ _ rest. later (is_same_vertex x.target e.target) (stands_among e xs rest)
     ] refl h where
       first : is_same_edge x e ≡ true → (b : Bool) → b ≡ true → holds_edge e (cond b (x ∷ parents_of e.target xs) (parents_of e.target xs)) ≡ true
@@ -81,7 +61,7 @@ target_has_parent live e held is = not_none_by e (parents_of e.target live) (is_
 
 source_by : (e : Edge) (ps : List Edge) (b : Bool) → holds_edge e ps ≡ true → class_by ps b ≡ Inner → only_source ps ≡ Some e.source
 source_by e [] b held is = absurd cc
-source_by e (p ∷ []) b held is = ap Some (ap (λ (y : Edge). y.source) (same_edge_exact p e (only (is_same_edge p e) held))) where
+source_by e (p ∷ []) b held is = ap Some (ap (λ (y : Edge). y.source) (one_edge p e (only (is_same_edge p e) held))) where
   only : (a : Bool) → (a || false) ≡ true → a ≡ true
   only true h = refl
   only false h = absurd cc

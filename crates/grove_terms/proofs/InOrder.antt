@@ -7,6 +7,8 @@ use Rattle.std.specs.declared.cmp.Ordering.{Ordering}
 use Rattle.std.specs.declared.cmp.Ordering.TheVariants.{Less, Equal, Greater}
 use Rattle.std.specs.Ordering.{is_eq, ordering_reverse}
 use Rattle.std.proofs.lemmas.Cmp.{tied_itself}
+use Rattle.grove_sorts.proofs.Orders.{equal_from_test}
+use Rattle.grove_sorts.proofs.Truths.{or_left, or_right, or_swap}
 
 -- an order in which things that compare equal are one
 pub record IsExactOrder {K : Type 0} (R : K → K → Ordering) : Type 0 where
@@ -21,25 +23,12 @@ abbrev pub holds : {K : Type 0} → (K → K → Ordering) → K → List K → 
 holds R k [] = false
 holds R k (x ∷ xs) = is_eq (R x k) || holds R k xs
 
-equal_from_test : (o : Ordering) → is_eq o ≡ true → o ≡ Equal
-equal_from_test Less e = absurd cc
-equal_from_test Equal e = refl
-equal_from_test Greater e = absurd cc
-
 one_from_test : {K : Type 0} (R : K → K → Ordering) → IsExactOrder R → (x y : K) → is_eq (R x y) ≡ true → x ≡ y
 one_from_test R o x y h = o.exact x y (equal_from_test (R x y) h)
 
 -- the test finds each thing the same as itself
 pub test_itself : {K : Type 0} (R : K → K → Ordering) → IsExactOrder R → (x : K) → is_eq (R x x) ≡ true
 test_itself R o x = ap is_eq (tied_itself o.total x)
-
-or_left : (a b : Bool) → a ≡ true → (a || b) ≡ true
-or_left true b h = refl
-or_left false b h = absurd cc
-
-or_right : (a b : Bool) → b ≡ true → (a || b) ≡ true
-or_right true b h = refl
-or_right false b h = h
 
 or_other : (a b : Bool) → a ≡ false → (a || b) ≡ true → b ≡ true
 or_other true b e h = absurd cc
@@ -118,11 +107,6 @@ put_by Greater k x xs later = x ∷ later
 abbrev pub put : {K : Type 0} → (K → K → Ordering) → K → List K → List K
 put R k [] = k ∷ []
 put R k (x ∷ xs) = put_by (R k x) k x xs (put R k xs)
-
-or_swap : (a b c : Bool) → (a || (b || c)) ≡ (b || (a || c))
-or_swap true true c = refl
-or_swap true false c = refl
-or_swap false b c = refl
 
 or_twice : (a b : Bool) → (a || b) ≡ (a || (a || b))
 or_twice true b = refl

@@ -2,6 +2,7 @@
 use Rattle.std.proofs.Common.{◌≡◌, ◌≢◌, ◌⊎◌, inl, inr, Bool, true, false, cond, List, [], ◌∷◌, refl, sym, ap, subst, ◌∙◌}
 use Rattle.std.specs.Prelude.{◌||◌, ◌&&◌, filter, map}
 use Rattle.std.specs.List.{AllByRecursion}
+use Rattle.grove_sorts.proofs.Truths.{both_true, or_left, or_right}
 use Rattle.edge_lattice.specs.declared.state.State.{State}
 use Rattle.edge_lattice.specs.declared.state.State.TheVariants.{Absent, Live, Deleted}
 use Rattle.edge_lattice.specs.State.{state_join}
@@ -15,7 +16,7 @@ use Rattle.grove_edits.specs.Edge.{edge_cmp}
 use Rattle.grove_edits.specs.Edit.{edit_edge, edit_kind}
 use Rattle.grove_edits.specs.Graph.{Graph, graph, state_of, is_same_edge, IsSame, HasSameEdits}
 use Rattle.grove_edits.proofs.Graphs.{graph-same_edits}
-use Rattle.grove_edits.proofs.Orders.{vertex_cmp_total, vertex_cmp_exact, edge_cmp_total, edge_cmp_exact}
+use Rattle.grove_edits.proofs.Orders.{vertex_cmp_total, vertex_cmp_exact, edge_cmp_total, edge_cmp_exact, one_edge}
 use Rattle.walks.specs.declared.class.Class.{Class}
 use Rattle.walks.specs.declared.class.Class.TheVariants.{NoParent, Multi, Cycle, Inner}
 use Rattle.walks.specs.Live.{IsInEdgeOrder, holds_edge}
@@ -27,7 +28,6 @@ use Rattle.grove_terms.specs.declared.grove.Grove.{Grove}
 use Rattle.grove_terms.specs.Nodes.{tree_nodes}
 use Rattle.grove_terms.specs.Grove.{IsTreeOf, AreTreesOf, IsGrove}
 use Rattle.grove_terms.proofs.InOrder.{IsExactOrder, IsInOrder, holds, put, one_in_order, test_itself, in_order_put, holds-put, in_order_filter, holds-filter}
-use Rattle.grove_terms.proofs.InLive.{same_edge_exact}
 use Rattle.grove_terms.proofs.Forests.{forest_of, root_stands, one_forest}
 
 -- ---- lists of edges and of vertices, as lists in an order
@@ -174,10 +174,6 @@ holds-named (edit ∷ edits) e =
     ∙ ap (λ b. b || is_present (graph edits e)) (sym (present-only (is_same_edge (edit_edge edit) e) (edit_kind edit)))
     ∙ sym (present-join (cond (is_same_edge (edit_edge edit) e) (state_of (edit_kind edit)) Absent) (graph edits e))
 
-both_true : (a b : Bool) → (a && b) ≡ true → (a ≡ true) × (b ≡ true)
-both_true true b h = (refl, h)
-both_true false b h = absurd cc
-
 and_true : (a b : Bool) → a ≡ true → b ≡ true → (a && b) ≡ true
 and_true true b e f = f
 and_true false b e f = absurd cc
@@ -214,14 +210,6 @@ holds-ends e es v =
 or_split : (a b : Bool) → (a || b) ≡ true → (a ≡ true) ⊎ (b ≡ true)
 or_split true b h = inl refl
 or_split false b h = inr h
-
-or_left : (a b : Bool) → a ≡ true → (a || b) ≡ true
-or_left true b h = refl
-or_left false b h = absurd cc
-
-or_right : (a b : Bool) → b ≡ true → (a || b) ≡ true
-or_right true b h = refl
-or_right false b h = h
 
 -- the root, or an end of an edge of the list
 abbrev IsEndIn : List Edge → Vertex → Type 0
@@ -262,7 +250,7 @@ end_held (x ∷ xs) e v h end = holds-ends x xs v ∙ by_test (or_split (is_same
       (or_left (is_same_vertex x.target v) (holds vertex_cmp v (ends_of xs)) (ap (λ (y : Edge). is_same_vertex y.target v) one ∙ ap (is_same_vertex e.target) (sym is) ∙ same_vertex_itself e.target))
 
   by_test : (is_same_edge x e ≡ true) ⊎ (holds edge_cmp e xs ≡ true) → (holds edge_cmp e xs ≡ true → holds vertex_cmp v (ends_of xs) ≡ true) → (is_same_vertex x.source v || (is_same_vertex x.target v || holds vertex_cmp v (ends_of xs))) ≡ true
-  by_test (inl same) later = at_end (same_edge_exact x e same) end
+  by_test (inl same) later = at_end (one_edge x e same) end
   by_test (inr rest) later = or_right (is_same_vertex x.source v) (is_same_vertex x.target v || holds vertex_cmp v (ends_of xs)) (or_right (is_same_vertex x.target v) (holds vertex_cmp v (ends_of xs)) (later rest))
 
 abbrev pub vertices_of : List Edit → List Vertex

@@ -30,3 +30,33 @@ impl From<ctx_table::NoMemory> for NoMemory {
         NoMemory
     }
 }
+
+impl From<grove_names::NoMemory> for NoMemory {
+    fn from(_error: grove_names::NoMemory) -> NoMemory {
+        NoMemory
+    }
+}
+
+impl From<grove_sorts::NoMemory> for NoMemory {
+    fn from(_error: grove_sorts::NoMemory) -> NoMemory {
+        NoMemory
+    }
+}
+
+impl From<grove_edits::NoMemory> for NoMemory {
+    fn from(_error: grove_edits::NoMemory) -> NoMemory {
+        NoMemory
+    }
+}
+
+impl From<grove_terms::NoMemory> for NoMemory {
+    fn from(_error: grove_terms::NoMemory) -> NoMemory {
+        NoMemory
+    }
+}
+
+impl From<marking::NoMemory> for NoMemory {
+    fn from(_error: marking::NoMemory) -> NoMemory {
+        NoMemory
+    }
+}

@@ -37,3 +37,9 @@ impl From<ctx_table::NoMemory> for NoMemory {
         NoMemory
     }
 }
+
+impl From<grove_sorts::NoMemory> for NoMemory {
+    fn from(_error: grove_sorts::NoMemory) -> NoMemory {
+        NoMemory
+    }
+}

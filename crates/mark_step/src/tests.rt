@@ -138,14 +138,31 @@ fn analysed_branches_are_analysed(rt: HostRuntime) -> Result<(), Fail> {
             name: None,
             typ: types.unknown(),
         },
+        done: [Some(types.boolean()), Some(types.num()), None],
+    };
+    let branch = child_demand(rt.alloc(), &mut types, &mut ctxs, &node, 2)?;
+    assert_eq!(rt; branch.mode, Mode::Ana(types.num()));
+    Ok(())
+}
+
+#[test]
+fn an_analysed_conditional_has_the_type_that_is_wanted(rt: HostRuntime) -> Result<(), Fail> {
+    let mut types = TypeTable::new(rt.alloc())?;
+    let ctxs = CtxTable::new(rt.alloc())?;
+    let node = NodeView {
+        ctor: Ctor::Choose,
+        ctx: ctxs.empty(),
+        mode: Mode::Ana(types.num()),
+        binder: Binder {
+            name: None,
+            typ: types.unknown(),
+        },
         done: [
             Some(types.boolean()),
             Some(types.num()),
             Some(types.boolean()),
         ],
     };
-    let branch = child_demand(rt.alloc(), &mut types, &mut ctxs, &node, 2)?;
-    assert_eq!(rt; branch.mode, Mode::Ana(types.num()));
     let given = settle(rt.alloc(), &mut types, &ctxs, &node)?;
     assert_eq!(rt;
         given,

@@ -85,7 +85,7 @@ are_judged e Has judge (p ∷ ps) before right =
       by_test true is one other = (right.0 is (demand e before), one)
       by_test false is one other = other
 
-none_after : (e : Expression) (before ts : List Typ) → judgements_after e before ts ≡ [] → ts ≡ []
+pub none_after : (e : Expression) (before ts : List Typ) → judgements_after e before ts ≡ [] → ts ≡ []
 none_after e before [] is = refl
 none_after e before (t ∷ ts) is = absurd cc
 

@@ -31,3 +31,21 @@ impl From<edge_index::NoMemory> for NoMemory {
         NoMemory
     }
 }
+
+impl From<grove_names::NoMemory> for NoMemory {
+    fn from(_error: grove_names::NoMemory) -> NoMemory {
+        NoMemory
+    }
+}
+
+impl From<grove_sorts::NoMemory> for NoMemory {
+    fn from(_error: grove_sorts::NoMemory) -> NoMemory {
+        NoMemory
+    }
+}
+
+impl From<grove_edits::NoMemory> for NoMemory {
+    fn from(_error: grove_edits::NoMemory) -> NoMemory {
+        NoMemory
+    }
+}

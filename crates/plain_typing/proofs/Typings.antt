@@ -23,7 +23,7 @@ use Rattle.marking.specs.Marking.{MarkedNode, HasNoMark, expression, types_at, j
 use Rattle.marking.specs.Rules.{Whether, AreJudged}
 use Rattle.plain_typing.specs.Typed.{HasTypeByRule, PlaceHasType, EachHasType, HasTypeAt, IsTypedOfSort, IsTyped}
 use Rattle.plain_typing.proofs.UnmarkedRows.{row_of_rule, rule_of_row}
-use Rattle.marking.proofs.Judged.{types_at-new, length-new, child_has_sort}
+use Rattle.marking.proofs.Judged.{types_at-new, length-new, child_has_sort, none_after}
 use Rattle.plain_typing.proofs.Unmarked.{no_mark-join, no_mark-first, no_mark-rest, unmarked_by_test, unmarked_plain, IsOtherSort, AreUnder, positions_under, unmarked_place, OthersUnmarked, unmarked_places, others_unmarked}
 
 -- each child has a type
@@ -61,10 +61,6 @@ none_is_judged (tree e below rest) p d count = by_test (is_same_position e.posit
 -- the expressions at the positions of a constructor have no other type than that with which the marking goes on
 abbrev OneType : Ctor → Forest → Type 0
 OneType c f = (q : Position) (d : Demanded) (u : Typ) → sort_at c q ≡ Some Exp → HasTypeAt f q d u → u ≡ judged_in f q d
-
-none_after : (e : Expression) (before ts : List Typ) → judgements_after e before ts ≡ [] → ts ≡ []
-none_after e before [] is = refl
-none_after e before (t ∷ ts) is = absurd cc
 
 module _ (e : Expression) (c : Ctor) (f : Forest) (one : OneType c f) where
   pub types_judged : (ps : List (Position × Sort)) (before ts : List Typ) → AreUnder c ps → AreJudged (HasTypeAt f) ps (judgements_after e before ts)

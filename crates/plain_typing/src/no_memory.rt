@@ -49,3 +49,27 @@ impl From<mark_step::NoMemory> for NoMemory {
         NoMemory
     }
 }
+
+impl From<grove_names::NoMemory> for NoMemory {
+    fn from(_error: grove_names::NoMemory) -> NoMemory {
+        NoMemory
+    }
+}
+
+impl From<grove_sorts::NoMemory> for NoMemory {
+    fn from(_error: grove_sorts::NoMemory) -> NoMemory {
+        NoMemory
+    }
+}
+
+impl From<grove_edits::NoMemory> for NoMemory {
+    fn from(_error: grove_edits::NoMemory) -> NoMemory {
+        NoMemory
+    }
+}
+
+impl From<marking::NoMemory> for NoMemory {
+    fn from(_error: marking::NoMemory) -> NoMemory {
+        NoMemory
+    }
+}

@@ -1,10 +1,11 @@
 -- The hare and the tortoise: where they stand after some rounds, and what that says of the walk.
 use Rattle.std.proofs.Common.{◌≡◌, ℕ, zero, suc, ◌+◌, ◌-◌, ◌*◌, ◌/◌, ◌%◌, ◌<◌, ◌≤◌, Bool, true, false, length, refl, sym, ap, subst, ◌∙◌, arith}
-use Rattle.std.specs.Prelude.{◌&&◌, leb, List, Option, None, Some}
+use Rattle.std.specs.Prelude.{leb, List, Option, None, Some}
 use Rattle.std.proofs.lemmas.Bool.{leb-true, leb-false}
 use Rattle.std.specs.declared.cmp.Ordering.{Ordering}
 use Rattle.std.specs.declared.cmp.Ordering.TheVariants.{Less, Equal, Greater}
 use Rattle.std.specs.Ordering.{is_gt}
+use Rattle.grove_sorts.proofs.Truths.{both_true}
 use Rattle.grove_edits.specs.declared.vertex.Vertex.{Vertex}
 use Rattle.grove_edits.specs.declared.edge.Edge.{Edge}
 use Rattle.grove_edits.specs.Vertex.{vertex_cmp, is_same_vertex}
@@ -25,10 +26,6 @@ pub record IsRound (edges : List Edge) (v hare tortoise : Vertex) (k : ℕ) : Ty
   pub apart : (i : ℕ) → 0 < i → i ≤ k → up edges i (Some v) ≡ up edges (i + i) (Some v) → ⊥
 
 -- ---- the walk does not come back
-
-both_true : (a b : Bool) → (a && b) ≡ true → (a ≡ true) × (b ≡ true)
-both_true true b h = (refl, h)
-both_true false b h = absurd cc
 
 false_from : (b : Bool) → (b ≡ true → ⊥) → b ≡ false
 false_from b refuted = elim b as (λ x. b ≡ x → x ≡ false) [ true ↦ λ is. absurd (refuted is) | false ↦ λ _. refl ] refl

@@ -3,6 +3,7 @@ use Rattle.std.proofs.Common.{◌≡◌, ℕ, zero, suc, ◌+◌, ◌<◌, Bool,
 use native.Mathlib.Numerals.{unary_clauses}
 use Rattle.std.specs.Prelude.{◌||◌, ◌&&◌, ◌⊎◌, not, Option, None, Some}
 use Rattle.std.specs.Ordering.{is_gt}
+use Rattle.grove_sorts.proofs.Truths.{both_true}
 use Rattle.grove_edits.specs.declared.vertex.Vertex.{Vertex}
 use Rattle.grove_edits.specs.declared.edge.Edge.{Edge}
 use Rattle.grove_edits.specs.Vertex.{vertex_cmp, is_same_vertex, stands_in}
@@ -93,10 +94,6 @@ goes_last edges passed o x [] g = up_after edges o x zero g.0
 goes_last edges passed o x (y ∷ ys) g = goes_last edges (x ∷ passed) (above edges x) y ys g.2 ∙ up_after edges o x (suc (length ys)) g.0
 
 -- ---- the least of the vertices that a walk adds
-
-both_true : (a b : Bool) → (a && b) ≡ true → (a ≡ true) × (b ≡ true)
-both_true true b h = (refl, h)
-both_true false b h = absurd cc
 
 not_true : (a : Bool) → not a ≡ true → a ≡ false
 not_true true h = absurd cc

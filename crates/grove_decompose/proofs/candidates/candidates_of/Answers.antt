@@ -1,13 +1,10 @@
 use Rattle.std.proofs.lemmas.Grind.{common_steps}
-use Rattle.std.proofs.Common.{arith, ◌≡◌, ◌∷◌, ◌+◌, List, drop, Vec, Global, ap, ◌∙◌, subst, sym}
-use Rattle.grove_edits.specs.declared.vertex.Vertex.{Vertex}
+use Rattle.std.proofs.Common.{arith, ◌≡◌, ◌∷◌, ◌+◌, List, drop, ◌∙◌, subst, sym}
+use Rattle.grove_decompose.proofs.Vectors.{items_of}
 use Rattle.graph_table.specs.declared.numbered.Numbered.{Numbered}
 use Rattle.grove_decompose.proofs.ByNumber.{AreCandidatesSoFar, no_candidate, one_candidate}
 use Rattle.grove_decompose.proofs.candidates.candidates_of.Goals as goal
 use Rattle.grove_decompose.proofs.candidates.candidates_of.Goals.{then-may_be_root+in_ok-push, else-may_be_root}
-
-items_of : {a b : Vec Vertex Global} → a ≡ b → a.items ≡ b.items
-items_of e = ap (λ (x : Vec Vertex Global). x.items) e
 
 pub loop-vertex-preserved : goal.loop-vertex-preserved
 loop-vertex-preserved c =

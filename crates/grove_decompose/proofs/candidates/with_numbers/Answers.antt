@@ -1,13 +1,10 @@
 use Rattle.std.proofs.lemmas.Grind.{common_steps}
-use Rattle.std.proofs.Common.{arith, ◌≡◌, ◌∷◌, ◌+◌, List, drop, Vec, Global, ap, ◌∙◌, refl}
+use Rattle.std.proofs.Common.{arith, ◌≡◌, ◌∷◌, ◌+◌, List, drop, ◌∙◌, refl}
+use Rattle.grove_decompose.proofs.Vectors.{items_of}
 use Rattle.grove_edits.specs.declared.vertex.Vertex.{Vertex}
-use Rattle.graph_table.specs.declared.numbered.Numbered.{Numbered}
 use Rattle.grove_decompose.proofs.ByNumber.{first_stands, one_numbered}
 use Rattle.grove_decompose.proofs.candidates.with_numbers.Goals as goal
 use Rattle.grove_decompose.proofs.candidates.with_numbers.Goals.{in-Some+in_ok-push, in_default}
-
-items_of : {a b : Vec Numbered Global} → a ≡ b → a.items ≡ b.items
-items_of e = ap (λ (x : Vec Numbered Global). x.items) e
 
 pub loop-vertex-preserved : goal.loop-vertex-preserved
 loop-vertex-preserved c =

@@ -1,13 +1,11 @@
 use Rattle.std.proofs.lemmas.Grind.{common_steps}
-use Rattle.std.proofs.Common.{arith, ◌≡◌, ◌∷◌, ◌+◌, List, drop, Vec, Global, ap, ◌∙◌}
+use Rattle.std.proofs.Common.{arith, ◌≡◌, ◌∷◌, ◌+◌, List, drop, ◌∙◌}
+use Rattle.grove_decompose.proofs.Vectors.{items_of}
 use Rattle.walks.specs.declared.class.Class.TheVariants.{NoParent, Multi}
 use Rattle.graph_table.specs.declared.numbered.Numbered.{Numbered}
 use Rattle.grove_decompose.proofs.ByNumber.{first_numbered, other_passed, one_put_down, zero_tells, one_tells, more_tells}
 use Rattle.grove_decompose.proofs.trees.heads_of.Goals as goal
 use Rattle.grove_decompose.proofs.trees.heads_of.Goals.{in-Zero+in_ok-push-in-Zero, in-One, in-More+in_ok-push-in-More}
-
-items_of : {a b : Vec Numbered Global} → a ≡ b → a.items ≡ b.items
-items_of e = ap (λ (x : Vec Numbered Global). x.items) e
 
 pub loop-vertex-preserved : goal.loop-vertex-preserved
 loop-vertex-preserved c =

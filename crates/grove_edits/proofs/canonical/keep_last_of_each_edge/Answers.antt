@@ -1,4 +1,4 @@
-use Rattle.std.proofs.Common.{◌≡◌, ◌+◌, ◌<◌, ◌≤◌, length, sym, subst, arith}
+use Rattle.std.proofs.Common.{◌+◌, ◌<◌, ◌≤◌, length, sym, subst, arith}
 use Rattle.grove_edits.specs.Graph.{graph, IsCanonical}
 use Rattle.grove_edits.proofs.CanonicalLists.{AreCompacted, compacted_first, compacted_skipped, compacted_pushed, compacted_all}
 use Rattle.grove_edits.proofs.canonical.keep_last_of_each_edge.Goals as goal
