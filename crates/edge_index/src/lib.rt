@@ -8,3 +8,6 @@ mod no_memory;
 
 pub use edge_index::{EdgeIndex, Keyed};
 pub use no_memory::NoMemory;
+
+#[cfg(test)]
+mod tests;
