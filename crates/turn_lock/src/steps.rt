@@ -12,6 +12,10 @@ use crossbeam_utils::Backoff;
 use std::marker::Brand;
 use std::sync::Wait;
 
+// How often a thread looks whether the turn is free before it queues up. Once threads sleep in the queue, each turn is handed on by
+// a wake, so they should seldom come to that.
+const MOST_LOOKS: u32 = 1000;
+
 // Draws a number. While another thread has the turn it looks for a while before it queues up: so mostly the number is served at
 // once, and the turn seldom waits for a thread that does not run. After the last number of a `u64` it waits for ever.
 pub(crate) fn draw<S: Kept, R: Wait>(rt: &R, words: &Words<S>, place: &mut Place<S>) -> u64
@@ -22,15 +26,17 @@ pub(crate) fn draw<S: Kept, R: Wait>(rt: &R, words: &Words<S>, place: &mut Place
     ensures bounded { result + 1 < 2 ^ 64 }
 {
     let backoff = Backoff::new();
+    let mut looks = 0u32;
     for _ in rt.forever() {
         let next = words.peek(TICKET);
         let is_free = words.peek(SERVING) == next;
-        if next < u64::MAX && (is_free || backoff.is_completed()) {
+        if next < u64::MAX && (is_free || looks == MOST_LOOKS) {
             let found = words.compare_exchange::<Draw>(place, TICKET, next, next + 1);
             if found == next {
                 return next;
             }
         }
+        looks = looks.saturating_add(1).min(MOST_LOOKS);
         backoff.snooze();
     }
     unreachable!()
