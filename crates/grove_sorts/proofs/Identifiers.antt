@@ -4,13 +4,15 @@ use Rattle.std.proofs.Props.{props}
 use Rattle.std.proofs.lemmas.List.{take-append-drop, length-take, length-append, length-drop, drop-replicate}
 use Rattle.std.proofs.Math.Seq.{take-append_seam, drop-append_seam}
 use Rattle.std.proofs.lemmas.Bool.Decides.{nat_tests}
-use Rattle.grove_sorts.specs.Identifier.{IsIdentifier}
+use Rattle.grove_sorts.specs.declared.version.Version.{Version}
+use Rattle.grove_sorts.specs.declared.version.Version.TheVariants.{Two}
+use Rattle.grove_sorts.specs.Identifier.{longest, IsIdentifier}
 use Rattle.grove_sorts.specs.Ident.{ident_bytes}
 use Rattle.grove_sorts.specs.declared.ident.Ident.{Ident}
 
 -- what the fields of an identifier keep
 abbrev pub Kept : List ℕ → ℕ → Type 0
-Kept bytes len = (length bytes ≡ 32) × (len ≤ 32) × IsIdentifier (take len bytes) × (drop len bytes ≡ replicate (32 - len) 0)
+Kept bytes len = (length bytes ≡ 64) × (len ≤ 64) × IsIdentifier Two (take len bytes) × (drop len bytes ≡ replicate (64 - len) 0)
 
 Kept-prop : (bytes : List ℕ) (len : ℕ) → IsProp (Kept bytes len)
 Kept-prop bytes len = hlevel props
@@ -25,16 +27,16 @@ made_same bytes len kept others n same_bytes same_len =
     (subst (λ k. (held : Kept bytes k) → made bytes len kept ≡ made bytes k held) same_len
     (λ held. ap (made bytes len) (Kept-prop bytes len kept held)))
 
-same_length : (xs ys : List ℕ) (m n : ℕ) → length xs ≡ 32 → length ys ≡ 32 → m ≤ 32 → n ≤ 32 → take m xs ≡ take n ys → m ≡ n
+same_length : (xs ys : List ℕ) (m n : ℕ) → length xs ≡ 64 → length ys ≡ 64 → m ≤ 64 → n ≤ 64 → take m xs ≡ take n ys → m ≡ n
 same_length xs ys m n p q r s e =
     omega (arith, simp length-take at (ap length e))
 
-same_padded : (xs ys : List ℕ) (m n : ℕ) → m ≡ n → take m xs ≡ take n ys → drop m xs ≡ replicate (32 - m) 0 → drop n ys ≡ replicate (32 - n) 0 → xs ≡ ys
+same_padded : (xs ys : List ℕ) (m n : ℕ) → m ≡ n → take m xs ≡ take n ys → drop m xs ≡ replicate (64 - m) 0 → drop n ys ≡ replicate (64 - n) 0 → xs ≡ ys
 same_padded xs ys m n e t p q =
-    sym (take-append-drop m xs) ∙ (let d : drop m xs ≡ drop n ys = p ∙ ap (λ k. replicate (32 - k) 0) e ∙ sym q in
+    sym (take-append-drop m xs) ∙ (let d : drop m xs ≡ drop n ys = p ∙ ap (λ k. replicate (64 - k) 0) e ∙ sym q in
     ap (λ zs. zs ++ drop m xs) t ∙ ap (λ zs. take n ys ++ zs) d) ∙ take-append-drop n ys
 
-pub identifier_spelled : (x : Ident) → IsIdentifier (ident_bytes x)
+pub identifier_spelled : (x : Ident) → IsIdentifier Two (ident_bytes x)
 identifier_spelled x = x.spelled
 
 -- an identifier is its bytes
@@ -46,18 +48,18 @@ ident_exact a b e =
     same_len
     (b.whole, b.short, b.spelled, b.padded)
 
--- an identifier has at most 32 bytes
-pub identifier_short : (xs : List ℕ) → IsIdentifier xs → length xs ≤ 32
-identifier_short [] h = omega arith
-identifier_short (x ∷ xs) h = grind (arith, nat_tests)
+-- an identifier has at most as many bytes as its version allows
+pub identifier_short : (version : Version) (xs : List ℕ) → IsIdentifier version xs → length xs ≤ longest version
+identifier_short version [] h = omega arith
+identifier_short version (x ∷ xs) h = grind (arith, nat_tests)
 
 -- a spelling and zeros after it
-pub padded_kept : (ys xs zeros : List ℕ) → ys ≡ xs → zeros ≡ replicate 32 0 → IsIdentifier xs → Kept (ys ++ drop (length xs) zeros) (length xs)
+pub padded_kept : (ys xs zeros : List ℕ) → ys ≡ xs → zeros ≡ replicate 64 0 → IsIdentifier Two xs → Kept (ys ++ drop (length xs) zeros) (length xs)
 padded_kept ys xs zeros e z h =
-    let short : length xs ≤ 32 = identifier_short xs h in
+    let short : length xs ≤ 64 = identifier_short Two xs h in
     subst (λ ys. Kept (ys ++ drop (length xs) zeros) (length xs)) (sym e) (
       simp (length-append, length-drop) (omega (arith, ap length z)),
       short,
       rw take-append_seam h,
-      rw drop-append_seam (ap (drop (length xs)) z ∙ drop-replicate (length xs) 32 0),
+      rw drop-append_seam (ap (drop (length xs)) z ∙ drop-replicate (length xs) 64 0),
     )

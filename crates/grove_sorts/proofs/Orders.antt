@@ -13,9 +13,9 @@ use Rattle.std.specs.Cmp.Lexicographic.{slice_cmp}
 use Rattle.grove_sorts.specs.Ctor.{ctor_number, payload, ctor_cmp}
 use Rattle.grove_sorts.specs.Position.{position_number, position_cmp, is_same_position}
 use Rattle.grove_sorts.specs.declared.position.Position.{Position}
-use Rattle.grove_sorts.specs.declared.position.Position.TheVariants.{Main, Param, Annot, Body, Fun, Arg, Left, Right, Test, WhenTrue, WhenFalse, First, Second, Operand, Dom, Cod}
+use Rattle.grove_sorts.specs.declared.position.Position.TheVariants.{Main, Param, Annot, Def, Body, Fun, Arg, Left, Right, Test, WhenTrue, WhenFalse, First, Second, Operand, Dom, Cod, On, LeftParam, LeftBody, RightParam, RightBody}
 use Rattle.grove_sorts.specs.declared.ctor.Ctor.{Ctor}
-use Rattle.grove_sorts.specs.declared.ctor.Ctor.TheVariants.{Root, Var, Lam, Ap, Num, Plus, LitTrue, LitFalse, Choose, Pair, Fst, Snd, PVar, TNum, TBool, TArrow, TProd}
+use Rattle.grove_sorts.specs.declared.ctor.Ctor.TheVariants.{Root, Var, Lam, Ap, Num, Plus, LitTrue, LitFalse, Choose, Pair, Fst, Snd, PVar, TNum, TBool, TArrow, TProd, Let, Inl, Inr, Case, TSum}
 use Rattle.grove_sorts.specs.contracts.ctor.CtorOrd.TheImpl as ctor_impl
 use Rattle.grove_sorts.specs.contracts.position.PositionOrd.TheImpl as position_impl
 use Rattle.grove_sorts.proofs.Identifiers.{ident_exact}
@@ -64,6 +64,11 @@ ctor_same TNum TNum t e = refl
 ctor_same TBool TBool t e = refl
 ctor_same TArrow TArrow t e = refl
 ctor_same TProd TProd t e = refl
+ctor_same Let Let t e = refl
+ctor_same Inl Inl t e = refl
+ctor_same Inr Inr t e = refl
+ctor_same Case Case t e = refl
+ctor_same TSum TSum t e = refl
 ctor_same _ _ t e = absurd (false≢true t)
 
 -- constructors that the order finds equal are one
@@ -97,6 +102,11 @@ cmp_is_ctor_cmp TNum TNum = refl
 cmp_is_ctor_cmp TBool TBool = refl
 cmp_is_ctor_cmp TArrow TArrow = refl
 cmp_is_ctor_cmp TProd TProd = refl
+cmp_is_ctor_cmp Let Let = refl
+cmp_is_ctor_cmp Inl Inl = refl
+cmp_is_ctor_cmp Inr Inr = refl
+cmp_is_ctor_cmp Case Case = refl
+cmp_is_ctor_cmp TSum TSum = refl
 cmp_is_ctor_cmp _ _ = refl
 
 -- positions of one number are one
@@ -104,6 +114,7 @@ pub position_same : (a b : Position) → IsTrue (nat_eq (position_number a) (pos
 position_same Main Main t = refl
 position_same Param Param t = refl
 position_same Annot Annot t = refl
+position_same Def Def t = refl
 position_same Body Body t = refl
 position_same Fun Fun t = refl
 position_same Arg Arg t = refl
@@ -117,6 +128,11 @@ position_same Second Second t = refl
 position_same Operand Operand t = refl
 position_same Dom Dom t = refl
 position_same Cod Cod t = refl
+position_same On On t = refl
+position_same LeftParam LeftParam t = refl
+position_same LeftBody LeftBody t = refl
+position_same RightParam RightParam t = refl
+position_same RightBody RightBody t = refl
 position_same _ _ t = absurd (false≢true t)
 
 -- positions that the order finds equal are one
@@ -147,6 +163,7 @@ pub cmp_is_position_cmp : (a b : Position) → position_impl.ghosts.cmp a b ≡ 
 cmp_is_position_cmp Main Main = refl
 cmp_is_position_cmp Param Param = refl
 cmp_is_position_cmp Annot Annot = refl
+cmp_is_position_cmp Def Def = refl
 cmp_is_position_cmp Body Body = refl
 cmp_is_position_cmp Fun Fun = refl
 cmp_is_position_cmp Arg Arg = refl
@@ -160,4 +177,9 @@ cmp_is_position_cmp Second Second = refl
 cmp_is_position_cmp Operand Operand = refl
 cmp_is_position_cmp Dom Dom = refl
 cmp_is_position_cmp Cod Cod = refl
+cmp_is_position_cmp On On = refl
+cmp_is_position_cmp LeftParam LeftParam = refl
+cmp_is_position_cmp LeftBody LeftBody = refl
+cmp_is_position_cmp RightParam RightParam = refl
+cmp_is_position_cmp RightBody RightBody = refl
 cmp_is_position_cmp _ _ = refl

@@ -11,7 +11,7 @@ use Rattle.grove_sorts.specs.declared.sort.Sort.{Sort}
 use Rattle.grove_sorts.specs.declared.sort.Sort.TheVariants.{Exp, Pat, Typ}
 use Rattle.grove_sorts.specs.declared.position.Position.{Position}
 use Rattle.grove_sorts.specs.declared.ctor.Ctor.{Ctor}
-use Rattle.grove_sorts.specs.declared.ctor.Ctor.TheVariants.{Root, Var, Lam, Ap, Num, Plus, LitTrue, LitFalse, Choose, Pair, Fst, Snd, PVar, TNum, TBool, TArrow, TProd}
+use Rattle.grove_sorts.specs.declared.ctor.Ctor.TheVariants.{Root, Var, Lam, Ap, Num, Plus, LitTrue, LitFalse, Choose, Pair, Fst, Snd, PVar, TNum, TBool, TArrow, TProd, Let, Inl, Inr, Case, TSum}
 
 pub positions_rise : (ctor : Ctor) → Rises 0 (positions ctor)
 positions_rise Root = (lit≤ tt, tt)
@@ -24,10 +24,15 @@ positions_rise Fst = (lit≤ tt, tt)
 positions_rise Snd = (lit≤ tt, tt)
 positions_rise TArrow = (lit≤ tt, (lit≤ tt, tt))
 positions_rise TProd = (lit≤ tt, (lit≤ tt, tt))
+positions_rise Let = (lit≤ tt, (lit≤ tt, (lit≤ tt, tt)))
+positions_rise Inl = (lit≤ tt, tt)
+positions_rise Inr = (lit≤ tt, tt)
+positions_rise Case = (lit≤ tt, (lit≤ tt, (lit≤ tt, (lit≤ tt, (lit≤ tt, tt)))))
+positions_rise TSum = (lit≤ tt, (lit≤ tt, tt))
 positions_rise _ = tt
 
--- no row has more than three
-pub row_short : (ctor : Ctor) → length (positions ctor) ≤ 3
+-- no row has more than five
+pub row_short : (ctor : Ctor) → length (positions ctor) ≤ 5
 row_short Root = lit≤ tt
 row_short (Var x) = lit≤ tt
 row_short Lam = lit≤ tt
@@ -45,6 +50,11 @@ row_short TNum = lit≤ tt
 row_short TBool = lit≤ tt
 row_short TArrow = lit≤ tt
 row_short TProd = lit≤ tt
+row_short Let = lit≤ tt
+row_short Inl = lit≤ tt
+row_short Inr = lit≤ tt
+row_short Case = lit≤ tt
+row_short TSum = lit≤ tt
 
 -- a look-up answers at the first entry, or in the rest
 looked_up : {X : Type 0} (test : Bool) (x y : X) (rest : Option X) → cond test (Some x) rest ≡ Some y → ((test ≡ true) × (x ≡ y)) ⊎ ((test ≡ false) × (rest ≡ Some y))
@@ -108,6 +118,13 @@ first_position_found Fst Exp = refl
 first_position_found Snd Exp = refl
 first_position_found TArrow Typ = refl
 first_position_found TProd Typ = refl
+first_position_found Let Exp = refl
+first_position_found Let Pat = refl
+first_position_found Inl Exp = refl
+first_position_found Inr Exp = refl
+first_position_found Case Exp = refl
+first_position_found Case Pat = refl
+first_position_found TSum Typ = refl
 first_position_found _ _ = tt
 
 if_some : {X : Type 0} (P : X → Type 0) (answer : Option X) → ((x : X) → answer ≡ Some x → P x) → IfSome answer P

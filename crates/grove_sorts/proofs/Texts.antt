@@ -8,20 +8,21 @@ use Rattle.text_parts.specs.Separated.{Lacks}
 use Rattle.text_parts.proofs.Numbers.{Lacks-decimal}
 use Rattle.text_parts.proofs.Parts.{Lacks-append}
 use Rattle.grove_sorts.proofs.Truths.{both_true}
+use Rattle.grove_sorts.specs.declared.version.Version.TheVariants.{Two}
 use Rattle.grove_sorts.specs.Identifier.{is_lowercase_letter, is_inner_byte, IsIdentifier}
 use Rattle.grove_sorts.specs.Ident.{ident_bytes}
 use Rattle.grove_sorts.specs.Ctor.{InRange, ctor_text}
 use Rattle.grove_sorts.specs.Position.{position_text}
 use Rattle.grove_sorts.specs.declared.ident.Ident.{Ident}
 use Rattle.grove_sorts.specs.declared.ctor.Ctor.{Ctor}
-use Rattle.grove_sorts.specs.declared.ctor.Ctor.TheVariants.{Root, Var, Lam, Ap, Num, Plus, LitTrue, LitFalse, Choose, Pair, Fst, Snd, PVar, TNum, TBool, TArrow, TProd}
+use Rattle.grove_sorts.specs.declared.ctor.Ctor.TheVariants.{Root, Var, Lam, Ap, Num, Plus, LitTrue, LitFalse, Choose, Pair, Fst, Snd, PVar, TNum, TBool, TArrow, TProd, Let, Inl, Inr, Case, TSum}
 use Rattle.grove_sorts.specs.declared.position.Position.{Position}
-use Rattle.grove_sorts.specs.declared.position.Position.TheVariants.{Main, Param, Annot, Body, Fun, Arg, Left, Right, Test, WhenTrue, WhenFalse, First, Second, Operand, Dom, Cod}
+use Rattle.grove_sorts.specs.declared.position.Position.TheVariants.{Main, Param, Annot, Def, Body, Fun, Arg, Left, Right, Test, WhenTrue, WhenFalse, First, Second, Operand, Dom, Cod, On, LeftParam, LeftBody, RightParam, RightBody}
 use Rattle.grove_sorts.proofs.Identifiers.{ident_exact}
 
--- the first two bytes of a text, by which it is known
+-- the first three bytes of a text, by which it is known
 abbrev text_key : List ℕ → ℕ
-text_key text = get_or text 0 0 * 256 + get_or text 1 0
+text_key text = (get_or text 0 0 * 256 + get_or text 1 0) * 256 + get_or text 2 0
 
 -- a constructor is its text
 pub ctor_text_injective : (a b : Ctor) → InRange a → InRange b → ctor_text a ≡ ctor_text b → a ≡ b
@@ -42,6 +43,11 @@ ctor_text_injective TNum TNum i j e = refl
 ctor_text_injective TBool TBool i j e = refl
 ctor_text_injective TArrow TArrow i j e = refl
 ctor_text_injective TProd TProd i j e = refl
+ctor_text_injective Let Let i j e = refl
+ctor_text_injective Inl Inl i j e = refl
+ctor_text_injective Inr Inr i j e = refl
+ctor_text_injective Case Case i j e = refl
+ctor_text_injective TSum TSum i j e = refl
 ctor_text_injective _ b i j e = absurd (false≢true (ap (λ text. nat_eq (text_key text) (text_key (ctor_text b))) e))
 
 -- a position is its word
@@ -49,6 +55,7 @@ pub position_text_injective : (a b : Position) → position_text a ≡ position_
 position_text_injective Main Main e = refl
 position_text_injective Param Param e = refl
 position_text_injective Annot Annot e = refl
+position_text_injective Def Def e = refl
 position_text_injective Body Body e = refl
 position_text_injective Fun Fun e = refl
 position_text_injective Arg Arg e = refl
@@ -62,6 +69,11 @@ position_text_injective Second Second e = refl
 position_text_injective Operand Operand e = refl
 position_text_injective Dom Dom e = refl
 position_text_injective Cod Cod e = refl
+position_text_injective On On e = refl
+position_text_injective LeftParam LeftParam e = refl
+position_text_injective LeftBody LeftBody e = refl
+position_text_injective RightParam RightParam e = refl
+position_text_injective RightBody RightBody e = refl
 position_text_injective _ b e = absurd (false≢true (ap (λ text. nat_eq (text_key text) (text_key (position_text b))) e))
 
 inner_byte_above : (byte c : ℕ) → is_inner_byte byte ≡ true → c < 48 → byte ≢ c
@@ -76,10 +88,10 @@ Lacks-inner c (byte ∷ bytes) low inner =
     let parts = both_true (is_inner_byte byte) (list_all is_inner_byte bytes) inner in
     (inner_byte_above byte c parts.0 low, Lacks-inner c bytes low parts.1)
 
-Lacks-identifier : (c : ℕ) (bytes : List ℕ) → c < 48 → IsIdentifier bytes → Lacks c bytes
+Lacks-identifier : (c : ℕ) (bytes : List ℕ) → c < 48 → IsIdentifier Two bytes → Lacks c bytes
 Lacks-identifier c [] low h = tt
 Lacks-identifier c (byte ∷ bytes) low h =
-    let parts = both_true (is_lowercase_letter byte && list_all is_inner_byte bytes) (nat_le (length bytes) 31) h in
+    let parts = both_true (is_lowercase_letter byte && list_all is_inner_byte bytes) (nat_le (length (byte ∷ bytes)) 64) h in
     let bytes_inner = both_true (is_lowercase_letter byte) (list_all is_inner_byte bytes) parts.0 in
     (letter_above byte c bytes_inner.0 low, Lacks-inner c bytes low bytes_inner.1)
 
@@ -110,6 +122,7 @@ pub Lacks-position_text : (c : ℕ) (position : Position) → c < 48 → Lacks c
 Lacks-position_text c Main low = Lacks-above c (position_text Main) low refl
 Lacks-position_text c Param low = Lacks-above c (position_text Param) low refl
 Lacks-position_text c Annot low = Lacks-above c (position_text Annot) low refl
+Lacks-position_text c Def low = Lacks-above c (position_text Def) low refl
 Lacks-position_text c Body low = Lacks-above c (position_text Body) low refl
 Lacks-position_text c Fun low = Lacks-above c (position_text Fun) low refl
 Lacks-position_text c Arg low = Lacks-above c (position_text Arg) low refl
@@ -123,3 +136,8 @@ Lacks-position_text c Second low = Lacks-above c (position_text Second) low refl
 Lacks-position_text c Operand low = Lacks-above c (position_text Operand) low refl
 Lacks-position_text c Dom low = Lacks-above c (position_text Dom) low refl
 Lacks-position_text c Cod low = Lacks-above c (position_text Cod) low refl
+Lacks-position_text c On low = Lacks-above c (position_text On) low refl
+Lacks-position_text c LeftParam low = Lacks-above c (position_text LeftParam) low refl
+Lacks-position_text c LeftBody low = Lacks-above c (position_text LeftBody) low refl
+Lacks-position_text c RightParam low = Lacks-above c (position_text RightParam) low refl
+Lacks-position_text c RightBody low = Lacks-above c (position_text RightBody) low refl

@@ -6,9 +6,9 @@ use Rattle.std.specs.Cmp.Lexicographic.{slice_cmp}
 use Rattle.grove_sorts.specs.declared.sort.Sort.{Sort}
 use Rattle.grove_sorts.specs.declared.sort.Sort.TheVariants.{Top, Exp, Pat, Typ}
 use Rattle.grove_sorts.specs.declared.position.Position.{Position}
-use Rattle.grove_sorts.specs.declared.position.Position.TheVariants.{Main, Param, Annot, Body, Fun, Arg, Left, Right, Test, WhenTrue, WhenFalse, First, Second, Operand, Dom, Cod}
+use Rattle.grove_sorts.specs.declared.position.Position.TheVariants.{Main, Param, Annot, Def, Body, Fun, Arg, Left, Right, Test, WhenTrue, WhenFalse, First, Second, Operand, Dom, Cod, On, LeftParam, LeftBody, RightParam, RightBody}
 use Rattle.grove_sorts.specs.declared.ctor.Ctor.{Ctor}
-use Rattle.grove_sorts.specs.declared.ctor.Ctor.TheVariants.{Root, Var, Lam, Ap, Num, Plus, LitTrue, LitFalse, Choose, Pair, Fst, Snd, PVar, TNum, TBool, TArrow, TProd}
+use Rattle.grove_sorts.specs.declared.ctor.Ctor.TheVariants.{Root, Var, Lam, Ap, Num, Plus, LitTrue, LitFalse, Choose, Pair, Fst, Snd, PVar, TNum, TBool, TArrow, TProd, Let, Inl, Inr, Case, TSum}
 use Rattle.grove_sorts.specs.Ident.{ident_bytes}
 use Rattle.grove_sorts.specs.Position.{position_number}
 use Rattle.grove_sorts.specs.Sort.{sort_number}
@@ -36,6 +36,11 @@ ctor_text TNum = codes "tnum"
 ctor_text TBool = codes "tbool"
 ctor_text TArrow = codes "tarrow"
 ctor_text TProd = codes "tprod"
+ctor_text Let = codes "let"
+ctor_text Inl = codes "inl"
+ctor_text Inr = codes "inr"
+ctor_text Case = codes "case"
+ctor_text TSum = codes "tsum"
 
 -- a constructor with neither an identifier nor a literal
 abbrev pub IsPlain : Ctor → Type 0
@@ -76,6 +81,11 @@ sort_of_ctor TNum = Typ
 sort_of_ctor TBool = Typ
 sort_of_ctor TArrow = Typ
 sort_of_ctor TProd = Typ
+sort_of_ctor Let = Exp
+sort_of_ctor Inl = Exp
+sort_of_ctor Inr = Exp
+sort_of_ctor Case = Exp
+sort_of_ctor TSum = Typ
 
 -- the positions of a constructor in table order, each with the sort of its children
 abbrev pub positions : Ctor → List (Position × Sort)
@@ -96,6 +106,11 @@ positions TNum = []
 positions TBool = []
 positions TArrow = (Dom, Typ) ∷ (Cod, Typ) ∷ []
 positions TProd = (Left, Typ) ∷ (Right, Typ) ∷ []
+positions Let = (Param, Pat) ∷ (Def, Exp) ∷ (Body, Exp) ∷ []
+positions Inl = (Operand, Exp) ∷ []
+positions Inr = (Operand, Exp) ∷ []
+positions Case = (On, Exp) ∷ (LeftParam, Pat) ∷ (LeftBody, Exp) ∷ (RightParam, Pat) ∷ (RightBody, Exp) ∷ []
+positions TSum = (Left, Typ) ∷ (Right, Typ) ∷ []
 
 -- the numbers of a row's positions rise, each at least a number, so no position stands twice
 abbrev pub Rises : ℕ → List (Position × Sort) → Type 0
@@ -138,6 +153,11 @@ ctor_number TNum = 13
 ctor_number TBool = 14
 ctor_number TArrow = 15
 ctor_number TProd = 16
+ctor_number Let = 17
+ctor_number Inl = 18
+ctor_number Inr = 19
+ctor_number Case = 20
+ctor_number TSum = 21
 
 -- what a constructor carries beside its number: an identifier's bytes, or a literal
 abbrev pub payload : Ctor → List ℕ

@@ -1,6 +1,8 @@
 -- Which bytes are an identifier.
 use Rattle.std.specs.Prelude.{ℕ, Bool, false, ◌&&◌, ◌||◌, nat_le, ◌==◌, List, [], ◌∷◌, length, IsTrue}
 use Rattle.std.specs.List.{list_all}
+use Rattle.grove_sorts.specs.declared.version.Version.{Version}
+use Rattle.grove_sorts.specs.declared.version.Version.TheVariants.{One, Two}
 
 abbrev pub is_lowercase_letter : ℕ → Bool
 is_lowercase_letter byte = nat_le 97 byte && nat_le byte 122
@@ -9,10 +11,15 @@ is_lowercase_letter byte = nat_le 97 byte && nat_le byte 122
 abbrev pub is_inner_byte : ℕ → Bool
 is_inner_byte byte = is_lowercase_letter byte || (nat_le 48 byte && nat_le byte 57) || (byte == 95)
 
--- 1 to 32 bytes: a lower-case letter, then lower-case letters, digits and underscores
-abbrev pub is_identifier : List ℕ → Bool
-is_identifier [] = false
-is_identifier (byte ∷ bytes) = is_lowercase_letter byte && list_all is_inner_byte bytes && nat_le (length bytes) 31
+-- how many bytes an identifier may have
+abbrev pub longest : Version → ℕ
+longest One = 32
+longest Two = 64
 
-abbrev pub IsIdentifier : List ℕ → Type 0
-IsIdentifier bytes = IsTrue (is_identifier bytes)
+-- a lower-case letter, then lower-case letters, digits and underscores, and no more bytes than the version allows
+abbrev pub is_identifier : Version → List ℕ → Bool
+is_identifier version [] = false
+is_identifier version (byte ∷ bytes) = is_lowercase_letter byte && list_all is_inner_byte bytes && nat_le (length (byte ∷ bytes)) (longest version)
+
+abbrev pub IsIdentifier : Version → List ℕ → Type 0
+IsIdentifier version bytes = IsTrue (is_identifier version bytes)

@@ -3,3 +3,4 @@ pub mod Ident
 pub mod Sort
 pub mod Ctor
 pub mod Position
+pub mod Version

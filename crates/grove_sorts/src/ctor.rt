@@ -21,11 +21,18 @@ pub enum Ctor {
     TBool,
     TArrow,
     TProd,
+    Let,
+    /// In the left part of a sum.
+    Inl,
+    /// In its right part.
+    Inr,
+    Case,
+    TSum,
 }
 
 impl Ctor {
     // The constructors with neither an identifier nor a literal.
-    pub(crate) const PLAIN: [Ctor; 14] = [
+    pub(crate) const PLAIN: [Ctor; 19] = [
         Ctor::Root,
         Ctor::Lam,
         Ctor::Ap,
@@ -40,5 +47,10 @@ impl Ctor {
         Ctor::TBool,
         Ctor::TArrow,
         Ctor::TProd,
+        Ctor::Let,
+        Ctor::Inl,
+        Ctor::Inr,
+        Ctor::Case,
+        Ctor::TSum,
     ];
 }

@@ -1,29 +1,30 @@
 ghost use Rattle.std.specs.Prelude.{◌≡◌, ◌-◌, ◌≤◌, length, take, drop, replicate};
 ghost use Rattle.grove_sorts.specs.Identifier.{IsIdentifier};
+ghost use Rattle.grove_sorts.specs.declared.version.Version.TheVariants.{Two};
 
 use std::cmp::Ordering;
 use std::hash::{Hash, Hasher};
 
-/// How many bytes an identifier may have.
-pub const LONGEST: usize = 32;
+// How many bytes an identifier of any version may have.
+const LONGEST: usize = 64;
 
 /// Why bytes are no identifier.
 #[derive(Clone, Copy, Debug, PartialEq, Eq)]
 pub enum IdentFault {
-    /// There are none or more than 32, the first is no lower-case letter, or another is neither such a letter nor a digit nor an underscore.
+    /// There are none or more than the version allows, the first is no lower-case letter, or another is neither such a letter nor a digit nor an underscore.
     NotAnIdent,
 }
 
-/// An identifier of 1 to 32 bytes, held inline.
+/// An identifier of 1 to 64 bytes, held inline.
 #[derive(Clone, Copy, Debug)]
 pub struct Ident {
     // Zero past the end, so that equal identifiers are equal values.
-    bytes: [u8; 32],
+    bytes: [u8; LONGEST],
     len: u8,
-    ghost whole: { length bytes ≡ 32 },
-    ghost short: { len ≤ 32 },
-    ghost spelled: { IsIdentifier (take len bytes) },
-    ghost padded: { drop len bytes ≡ replicate (32 - len) 0 },
+    ghost whole: { length bytes ≡ 64 },
+    ghost short: { len ≤ 64 },
+    ghost spelled: { IsIdentifier Two (take len bytes) },
+    ghost padded: { drop len bytes ≡ replicate (64 - len) 0 },
 }
 
 impl Ident {
@@ -31,7 +32,7 @@ impl Ident {
 
     // The identifier of these bytes.
     pub(crate) fn new(spelling: &[u8]) -> Ident
-        requires { IsIdentifier spelling.now }
+        requires { IsIdentifier Two spelling.now }
         ensures { ident_bytes result ≡ spelling.now }
     {
         let mut bytes = [0; LONGEST];

@@ -4,6 +4,7 @@ ghost use Rattle.std.specs.Cmp.{IsTotalOrder};
 ghost use Rattle.std.specs.declared.cmp.Ordering.TheVariants.{Equal};
 ghost use Rattle.text_parts.specs.Separated.{Lacks};
 ghost use Rattle.grove_sorts.specs.declared.ident.Ident.{Ident};
+ghost use Rattle.grove_sorts.specs.declared.version.Version.TheVariants.{Two};
 ghost use Rattle.grove_sorts.specs.declared.ctor.Ctor.{Ctor};
 ghost use Rattle.grove_sorts.specs.declared.position.Position.{Position};
 ghost use Rattle.grove_sorts.specs.Identifier.{IsIdentifier};
@@ -17,7 +18,7 @@ use crate::position::Position;
 
 /// An identifier is its bytes, in which none stands below the digits; identifiers are ordered by them, and only equal ones tie.
 pub fn identifiers_are_ordered()
-    ensures spelled { (a : Ident) → IsIdentifier (ident_bytes a) }
+    ensures spelled { (a : Ident) → IsIdentifier Two (ident_bytes a) }
     ensures unbroken { (c : ℕ) (a : Ident) → c < 48 → Lacks c (ident_bytes a) }
     ensures exact { (a b : Ident) → ident_bytes a ≡ ident_bytes b → a ≡ b }
     ensures total { IsTotalOrder ident_cmp }
@@ -51,9 +52,9 @@ pub fn positions_are_their_words()
     ensures unbroken { (c : ℕ) (position : Position) → c < 48 → Lacks c (position_text position) }
 {}
 
-/// The positions of each row rise, so none stands twice; a row has at most three; and each is found with its sort.
+/// The positions of each row rise, so none stands twice; a row has at most five; and each is found with its sort.
 pub fn rows_are_in_order()
     ensures rise { (ctor : Ctor) → Rises 0 (positions ctor) }
-    ensures few { (ctor : Ctor) → length (positions ctor) ≤ 3 }
+    ensures few { (ctor : Ctor) → length (positions ctor) ≤ 5 }
     ensures found { (ctor : Ctor) → AllByRecursion (λ place. sort_at ctor place.0 ≡ Some place.1) (positions ctor) }
 {}

@@ -10,6 +10,7 @@ mod position;
 mod read;
 mod sort;
 mod table;
+mod version;
 mod write;
 
 pub use ctor::Ctor;
@@ -25,6 +26,7 @@ pub use sort::Sort;
 pub use table::{
     WIDEST, first_position_of_sort, place_at, position_at, position_count, position_sort, sort_of,
 };
+pub use version::{Version, longest_identifier};
 pub use write::{write_ctor, write_ident, write_position, write_sort};
 
 #[cfg(test)]

@@ -4,6 +4,7 @@ pub enum Position {
     Main,
     Param,
     Annot,
+    Def,
     Body,
     Fun,
     Arg,
@@ -17,14 +18,20 @@ pub enum Position {
     Operand,
     Dom,
     Cod,
+    On,
+    LeftParam,
+    LeftBody,
+    RightParam,
+    RightBody,
 }
 
 impl Position {
     /// Every position, in the order of the table.
-    pub const ALL: [Position; 16] = [
+    pub const ALL: [Position; 22] = [
         Position::Main,
         Position::Param,
         Position::Annot,
+        Position::Def,
         Position::Body,
         Position::Fun,
         Position::Arg,
@@ -38,5 +45,10 @@ impl Position {
         Position::Operand,
         Position::Dom,
         Position::Cod,
+        Position::On,
+        Position::LeftParam,
+        Position::LeftBody,
+        Position::RightParam,
+        Position::RightBody,
     ];
 }

@@ -6,32 +6,34 @@ ghost use Rattle.grove_sorts.specs.Ctor.{InRange, IsPlain, ctor_text};
 ghost use Rattle.grove_sorts.specs.declared.ctor.Ctor.{Ctor};
 ghost use Rattle.grove_sorts.specs.Position.{position_text};
 ghost use Rattle.grove_sorts.specs.declared.position.Position.{Position};
+ghost use Rattle.grove_sorts.specs.Version.{IsCtorOf, IsPositionOf};
 
 use crate::ctor::Ctor;
-use crate::ident::{Ident, IdentFault, LONGEST};
+use crate::ident::{Ident, IdentFault};
 use crate::position::Position;
+use crate::version::{Version, knows_ctor, knows_position, longest_identifier};
 use crate::write::{keyword, position_word};
 use text_parts::read_number;
 
-/// Reads an identifier: 1 to 32 bytes, a lower-case letter and then lower-case letters, digits and underscores.
-pub fn read_ident(bytes: &[u8]) -> Result<Ident, IdentFault>
-    ensures fault { IsErr result ↔ ¬ IsIdentifier bytes.now }
+/// Reads an identifier of the version: a lower-case letter, then lower-case letters, digits and underscores, up to 32 bytes in version one and up to 64 in version two.
+pub fn read_ident(version: Version, bytes: &[u8]) -> Result<Ident, IdentFault>
+    ensures fault { IsErr result ↔ ¬ IsIdentifier version bytes.now }
     ensures found { IfOk result (λ ident. ident_bytes ident ≡ bytes.now) }
 {
-    if !is_identifier(bytes) {
+    if !is_identifier(version, bytes) {
         return Err(IdentFault::NotAnIdent);
     }
     Ok(Ident::new(bytes))
 }
 
-fn is_identifier(bytes: &[u8]) -> bool
-    ensures { result ≡ is_identifier bytes.now }
+fn is_identifier(version: Version, bytes: &[u8]) -> bool
+    ensures { result ≡ is_identifier version bytes.now }
 {
     match bytes {
         [] => false,
         [first, rest @ ..] => first.is_ascii_lowercase()
             && are_inner_bytes(rest)
-            && rest.len() < LONGEST,
+            && rest.len() < longest_identifier(version),
     }
 }
 
@@ -47,20 +49,29 @@ fn is_inner_byte(byte: u8) -> bool
     byte.is_ascii_lowercase() || byte.is_ascii_digit() || byte == b'_'
 }
 
-/// Reads the text of a constructor.
-pub fn read_ctor(bytes: &[u8]) -> Option<Ctor>
+/// Reads the text of a constructor of the version.
+pub fn read_ctor(version: Version, bytes: &[u8]) -> Option<Ctor>
+    ensures found { IfSome result (λ ctor. bytes.now ≡ ctor_text ctor) }
+    ensures in_range { IfSome result InRange }
+    ensures of_version { IfSome result (IsCtorOf version) }
+    ensures none { IfNone result ((ctor : Ctor) → InRange ctor → IsCtorOf version ctor → bytes.now ≢ ctor_text ctor) }
+{
+    read_any_ctor(bytes).filter(|ctor| knows_ctor(version, ctor))
+}
+
+fn read_any_ctor(bytes: &[u8]) -> Option<Ctor>
     ensures found { IfSome result (λ ctor. bytes.now ≡ ctor_text ctor) }
     ensures in_range { IfSome result InRange }
     ensures none { IfNone result ((ctor : Ctor) → InRange ctor → bytes.now ≢ ctor_text ctor) }
 {
     if let Some(name) = after_word(bytes, b"var:") {
-        return read_ident(name).ok().map(Ctor::Var);
+        return read_ident(Version::Two, name).ok().map(Ctor::Var);
     }
     if let Some(digits) = after_word(bytes, b"num:") {
         return read_number(digits).map(Ctor::Num);
     }
     if let Some(name) = after_word(bytes, b"pvar:") {
-        return read_ident(name).ok().map(Ctor::PVar);
+        return read_ident(Version::Two, name).ok().map(Ctor::PVar);
     }
     read_plain(bytes)
 }
@@ -85,8 +96,17 @@ fn read_plain(bytes: &[u8]) -> Option<Ctor>
     None
 }
 
-/// Reads the word of a position.
-pub fn read_position(bytes: &[u8]) -> Option<Position>
+/// Reads the word of a position of the version.
+pub fn read_position(version: Version, bytes: &[u8]) -> Option<Position>
+    ensures found { IfSome result (λ position. bytes.now ≡ position_text position) }
+    ensures of_version { IfSome result (IsPositionOf version) }
+    ensures none { IfNone result ((position : Position) → IsPositionOf version position → bytes.now ≢ position_text position) }
+{
+    let position = read_any_position(bytes)?;
+    knows_position(version, position).then_some(position)
+}
+
+fn read_any_position(bytes: &[u8]) -> Option<Position>
     ensures found { IfSome result (λ position. bytes.now ≡ position_text position) }
     ensures none { IfNone result ((position : Position) → bytes.now ≢ position_text position) }
 {

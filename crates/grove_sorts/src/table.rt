@@ -20,8 +20,10 @@ pub fn sort_of(ctor: &Ctor) -> Sort
         Ctor::Num(_) | Ctor::Plus => Sort::Exp,
         Ctor::LitTrue | Ctor::LitFalse | Ctor::Choose => Sort::Exp,
         Ctor::Pair | Ctor::Fst | Ctor::Snd => Sort::Exp,
+        Ctor::Let | Ctor::Inl | Ctor::Inr | Ctor::Case => Sort::Exp,
         Ctor::PVar(_) => Sort::Pat,
-        Ctor::TNum | Ctor::TBool | Ctor::TArrow | Ctor::TProd => Sort::Typ,
+        Ctor::TNum | Ctor::TBool => Sort::Typ,
+        Ctor::TArrow | Ctor::TProd | Ctor::TSum => Sort::Typ,
     }
 }
 
@@ -45,15 +47,28 @@ fn positions(ctor: &Ctor) -> &'static [(Position, Sort)]
         ],
         Ctor::Pair => &[(Position::First, Sort::Exp), (Position::Second, Sort::Exp)],
         Ctor::Fst | Ctor::Snd => &[(Position::Operand, Sort::Exp)],
+        Ctor::Inl | Ctor::Inr => &[(Position::Operand, Sort::Exp)],
+        Ctor::Let => &[
+            (Position::Param, Sort::Pat),
+            (Position::Def, Sort::Exp),
+            (Position::Body, Sort::Exp),
+        ],
+        Ctor::Case => &[
+            (Position::On, Sort::Exp),
+            (Position::LeftParam, Sort::Pat),
+            (Position::LeftBody, Sort::Exp),
+            (Position::RightParam, Sort::Pat),
+            (Position::RightBody, Sort::Exp),
+        ],
         Ctor::TArrow => &[(Position::Dom, Sort::Typ), (Position::Cod, Sort::Typ)],
-        Ctor::TProd => &[(Position::Left, Sort::Typ), (Position::Right, Sort::Typ)],
+        Ctor::TProd | Ctor::TSum => &[(Position::Left, Sort::Typ), (Position::Right, Sort::Typ)],
         Ctor::Var(_) | Ctor::Num(_) | Ctor::LitTrue | Ctor::LitFalse => &[],
         Ctor::PVar(_) | Ctor::TNum | Ctor::TBool => &[],
     }
 }
 
 /// How many positions a constructor may have.
-pub const WIDEST: usize = 3;
+pub const WIDEST: usize = 5;
 
 /// How many positions a constructor has.
 pub fn position_count(ctor: &Ctor) -> usize
@@ -67,7 +82,8 @@ pub fn position_at(ctor: &Ctor, index: usize) -> Option<Position>
     ensures value { result ≡ option_map (λ entry. entry.0) (slice_get (positions ctor.now) index) }
     ensures found { IsSome result ↔ (index < length (positions ctor.now)) }
 {
-    positions(ctor).get(index).map(|entry| entry.0)
+    let (position, _) = place_at(ctor, index)?;
+    Some(position)
 }
 
 /// The position at an index of the constructor's row, from 0 on, with the sort of its children.

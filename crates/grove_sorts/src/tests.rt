@@ -3,7 +3,9 @@ use std::test::Fail;
 
 #[test]
 fn constructors_have_their_texts(rt: HostRuntime) -> Result<(), Fail> {
-    let x = read_ident(b"x").ok().expect(&rt, "an identifier");
+    let x = read_ident(Version::Two, b"x")
+        .ok()
+        .expect(&rt, "an identifier");
     for (ctor, text) in [
         (Ctor::Root, b"root".as_slice()),
         (Ctor::Var(x), b"var:x".as_slice()),
@@ -22,11 +24,16 @@ fn constructors_have_their_texts(rt: HostRuntime) -> Result<(), Fail> {
         (Ctor::TBool, b"tbool".as_slice()),
         (Ctor::TArrow, b"tarrow".as_slice()),
         (Ctor::TProd, b"tprod".as_slice()),
+        (Ctor::Let, b"let".as_slice()),
+        (Ctor::Inl, b"inl".as_slice()),
+        (Ctor::Inr, b"inr".as_slice()),
+        (Ctor::Case, b"case".as_slice()),
+        (Ctor::TSum, b"tsum".as_slice()),
     ] {
         let mut out = Vec::new(rt.alloc());
         write_ctor(&ctor, &mut out)?;
         assert_eq!(rt; out.as_slice(), text);
-        assert_eq!(rt; read_ctor(text), Some(ctor));
+        assert_eq!(rt; read_ctor(Version::Two, text), Some(ctor));
     }
     Ok(())
 }
@@ -46,7 +53,7 @@ fn other_texts_are_of_no_constructor(rt: HostRuntime) {
         b"lam ".as_slice(),
         b"roo".as_slice(),
     ] {
-        assert_eq!(rt; read_ctor(text), None);
+        assert_eq!(rt; read_ctor(Version::Two, text), None);
     }
 }
 
@@ -56,6 +63,7 @@ fn positions_have_their_words(rt: HostRuntime) -> Result<(), Fail> {
         (Position::Main, b"main".as_slice()),
         (Position::Param, b"param".as_slice()),
         (Position::Annot, b"type".as_slice()),
+        (Position::Def, b"def".as_slice()),
         (Position::Body, b"body".as_slice()),
         (Position::Fun, b"fun".as_slice()),
         (Position::Arg, b"arg".as_slice()),
@@ -69,13 +77,18 @@ fn positions_have_their_words(rt: HostRuntime) -> Result<(), Fail> {
         (Position::Operand, b"of".as_slice()),
         (Position::Dom, b"from".as_slice()),
         (Position::Cod, b"to".as_slice()),
+        (Position::On, b"on".as_slice()),
+        (Position::LeftParam, b"lparam".as_slice()),
+        (Position::LeftBody, b"lbody".as_slice()),
+        (Position::RightParam, b"rparam".as_slice()),
+        (Position::RightBody, b"rbody".as_slice()),
     ] {
         let mut out = Vec::new(rt.alloc());
         write_position(position, &mut out)?;
         assert_eq!(rt; out.as_slice(), word);
-        assert_eq!(rt; read_position(word), Some(position));
+        assert_eq!(rt; read_position(Version::Two, word), Some(position));
     }
-    assert_eq!(rt; read_position(b"Main"), None);
+    assert_eq!(rt; read_position(Version::Two, b"Main"), None);
     Ok(())
 }
 
@@ -95,26 +108,62 @@ fn sorts_have_their_words(rt: HostRuntime) -> Result<(), Fail> {
 }
 
 #[test]
-fn identifiers_have_up_to_32_bytes(rt: HostRuntime) -> Result<(), Fail> {
-    let longest = b"a2345678901234567890123456789_32";
-    for (text, is_identifier) in [
-        (b"a".as_slice(), true),
-        (b"x_1".as_slice(), true),
-        (longest.as_slice(), true),
-        (b"a2345678901234567890123456789_323".as_slice(), false),
-        (b"".as_slice(), false),
-        (b"1a".as_slice(), false),
-        (b"_a".as_slice(), false),
-        (b"aB".as_slice(), false),
-        (b"a b".as_slice(), false),
+fn identifiers_are_as_long_as_their_version_allows(rt: HostRuntime) -> Result<(), Fail> {
+    let of_32 = b"a2345678901234567890123456789_32";
+    let of_33 = b"a2345678901234567890123456789_323";
+    let of_64 = b"a2345678901234567890123456789_32_2345678901234567890123456789_64";
+    let of_65 = b"a2345678901234567890123456789_32_2345678901234567890123456789_645";
+    for (text, in_one, in_two) in [
+        (b"a".as_slice(), true, true),
+        (b"x_1".as_slice(), true, true),
+        (of_32.as_slice(), true, true),
+        (of_33.as_slice(), false, true),
+        (of_64.as_slice(), false, true),
+        (of_65.as_slice(), false, false),
+        (b"".as_slice(), false, false),
+        (b"1a".as_slice(), false, false),
+        (b"_a".as_slice(), false, false),
+        (b"aB".as_slice(), false, false),
+        (b"a b".as_slice(), false, false),
     ] {
-        assert_eq!(rt; read_ident(text).is_ok(), is_identifier);
+        assert_eq!(rt; read_ident(Version::One, text).is_ok(), in_one);
+        assert_eq!(rt; read_ident(Version::Two, text).is_ok(), in_two);
     }
-    let ident = read_ident(longest).ok().expect(&rt, "an identifier");
+    let ident = read_ident(Version::Two, of_64)
+        .ok()
+        .expect(&rt, "an identifier");
     let mut out = Vec::new(rt.alloc());
     write_ident(&ident, &mut out)?;
-    assert_eq!(rt; out.as_slice(), longest.as_slice());
+    assert_eq!(rt; out.as_slice(), of_64.as_slice());
     Ok(())
+}
+
+#[test]
+fn version_one_has_no_let_and_no_sums(rt: HostRuntime) {
+    for text in [
+        b"let".as_slice(),
+        b"inl".as_slice(),
+        b"inr".as_slice(),
+        b"case".as_slice(),
+        b"tsum".as_slice(),
+        b"var:a2345678901234567890123456789_323".as_slice(),
+    ] {
+        assert!(rt; read_ctor(Version::Two, text).is_some());
+        assert_eq!(rt; read_ctor(Version::One, text), None);
+    }
+    for word in [
+        b"def".as_slice(),
+        b"on".as_slice(),
+        b"lparam".as_slice(),
+        b"lbody".as_slice(),
+        b"rparam".as_slice(),
+        b"rbody".as_slice(),
+    ] {
+        assert!(rt; read_position(Version::Two, word).is_some());
+        assert_eq!(rt; read_position(Version::One, word), None);
+    }
+    assert_eq!(rt; read_ctor(Version::One, b"tprod"), Some(Ctor::TProd));
+    assert_eq!(rt; read_position(Version::One, b"to"), Some(Position::Cod));
 }
 
 #[test]
@@ -133,12 +182,22 @@ fn rows_have_their_positions(rt: HostRuntime) {
         Some(Position::Test)
     );
     assert_eq!(rt; first_position_of_sort(&Ctor::Choose, Sort::Pat), None);
+    assert_eq!(rt; position_count(&Ctor::Case), WIDEST);
+    assert_eq!(rt; position_at(&Ctor::Let, 1), Some(Position::Def));
+    assert_eq!(rt;
+        first_position_of_sort(&Ctor::Case, Sort::Pat),
+        Some(Position::LeftParam)
+    );
 }
 
 #[test]
 fn constructors_are_ordered_by_number_and_then_payload(rt: HostRuntime) {
-    let short = read_ident(b"a").ok().expect(&rt, "an identifier");
-    let long = read_ident(b"ab").ok().expect(&rt, "an identifier");
+    let short = read_ident(Version::Two, b"a")
+        .ok()
+        .expect(&rt, "an identifier");
+    let long = read_ident(Version::Two, b"ab")
+        .ok()
+        .expect(&rt, "an identifier");
     assert!(rt; Ctor::Root < Ctor::Var(short));
     assert!(rt; Ctor::Var(short) < Ctor::Var(long));
     assert!(rt; Ctor::Var(long) < Ctor::Lam);

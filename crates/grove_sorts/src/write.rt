@@ -87,6 +87,11 @@ pub(crate) fn keyword(ctor: &Ctor) -> &'static [u8]
         Ctor::TBool => b"tbool",
         Ctor::TArrow => b"tarrow",
         Ctor::TProd => b"tprod",
+        Ctor::Let => b"let",
+        Ctor::Inl => b"inl",
+        Ctor::Inr => b"inr",
+        Ctor::Case => b"case",
+        Ctor::TSum => b"tsum",
     }
 }
 
@@ -98,6 +103,7 @@ pub(crate) fn position_word(position: Position) -> &'static [u8]
         Position::Main => b"main",
         Position::Param => b"param",
         Position::Annot => b"type",
+        Position::Def => b"def",
         Position::Body => b"body",
         Position::Fun => b"fun",
         Position::Arg => b"arg",
@@ -111,6 +117,11 @@ pub(crate) fn position_word(position: Position) -> &'static [u8]
         Position::Operand => b"of",
         Position::Dom => b"from",
         Position::Cod => b"to",
+        Position::On => b"on",
+        Position::LeftParam => b"lparam",
+        Position::LeftBody => b"lbody",
+        Position::RightParam => b"rparam",
+        Position::RightBody => b"rbody",
     }
 }
 
