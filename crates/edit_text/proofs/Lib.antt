@@ -2,3 +2,4 @@ pub mod Lines
 pub mod MoreLines
 pub mod Pieces
 pub mod TextsOfEdits
+pub mod WholeTexts

@@ -12,6 +12,8 @@ use Rattle.grove_sorts.specs.Ctor.{InRange as CtorInRange, ctor_text}
 use Rattle.grove_sorts.specs.declared.position.Position.{Position}
 use Rattle.grove_sorts.specs.Position.{position_text}
 use Rattle.grove_sorts.proofs.Texts.{ctor_text_injective, position_text_injective, Lacks-ctor_text, Lacks-position_text}
+use Rattle.grove_sorts.specs.declared.version.Version.{Version}
+use Rattle.grove_sorts.specs.declared.version.Version.TheVariants.{One, Two}
 use Rattle.grove_edits.specs.declared.vertex.Vertex.{Vertex}
 use Rattle.grove_edits.specs.declared.edge.Edge.{Edge}
 use Rattle.grove_edits.specs.declared.edge.EdgeFault.{EdgeFault}
@@ -20,7 +22,7 @@ use Rattle.grove_edits.specs.declared.edit.Edit.{Edit}
 use Rattle.grove_edits.specs.declared.edit.EditKind.{EditKind}
 use Rattle.grove_edits.specs.declared.edit.EditKind.TheVariants.{Insert, Delete}
 use Rattle.grove_edits.specs.Vertex.{literal, VertexInRange}
-use Rattle.grove_edits.specs.Edge.{EdgeInRange, edge_fault}
+use Rattle.grove_edits.specs.Edge.{EdgeInRange, IsEdgeOf, edge_fault}
 use Rattle.grove_edits.specs.Edit.{edit_edge, edit_kind}
 use Rattle.grove_edits.proofs.Orders.{vertex_from_fields, edge_from_fields}
 use Rattle.grove_edits.proofs.Unique.{edit_from_fields}
@@ -131,10 +133,20 @@ form_injective k l a b in_a in_b same =
     (sign_injective k l parts.0, parts_injective a b in_a in_b parts.1)
 
 -- edits with one line are one
-pub one_edit : (line : List ℕ) (a b : Edit) → Spells line a → Spells line b → a ≡ b
-one_edit line a b of_a of_b =
-    let same = form_injective a.kind b.kind a.edge b.edge a.in_range b.in_range (sym of_a ∙ of_b) in
+pub one_edit : (version : Version) (line : List ℕ) (a b : Edit) → Spells version line a → Spells version line b → a ≡ b
+one_edit version line a b of_a of_b =
+    let same = form_injective a.kind b.kind a.edge b.edge a.in_range b.in_range (sym of_a.0 ∙ of_b.0) in
     edit_from_fields a b same.0 same.1
+
+-- version two knows all of each edge, and so each edit has its line there
+pub all_in_two : (edge : Edge) → IsEdgeOf Two edge
+all_in_two edge = (refl, refl, refl)
+
+pub each_in_two : (edit : Edit) → Spells Two (form (edit_kind edit) (edit_edge edit)) edit
+each_in_two edit = (refl, all_in_two (edit_edge edit))
+
+pub kept_in_two : (line : List ℕ) (edit : Edit) → Spells One line edit → Spells Two line edit
+kept_in_two line edit spells = (spells.0, all_in_two (edit_edge edit))
 
 -- ---- one fault for each line
 
@@ -143,48 +155,48 @@ none_is_not_some None fault none is = cc
 none_is_not_some (Some other) fault none is = false≢true none
 
 -- no line of an edit is that of an edge with a fault
-edit_or_edge_fault : (line : List ℕ) (edit : Edit) (fault : EdgeFault) → Spells line edit → HasEdgeFault line fault → ⊥
-edit_or_edge_fault line edit fault spells has =
-    let same = form_injective edit.kind has.0 edit.edge has.1 edit.in_range has.2 (sym spells ∙ has.3) in
-    none_is_not_some (edge_fault edit.edge) fault edit.well_formed (ap edge_fault same.1 ∙ has.4)
+edit_or_edge_fault : (version : Version) (line : List ℕ) (edit : Edit) (fault : EdgeFault) → Spells version line edit → HasEdgeFault version line fault → ⊥
+edit_or_edge_fault version line edit fault spells has =
+    let same = form_injective edit.kind has.0 edit.edge has.1 edit.in_range has.2 (sym spells.0 ∙ has.4) in
+    none_is_not_some (edge_fault edit.edge) fault edit.well_formed (ap edge_fault same.1 ∙ has.5)
 
 -- an edit's line has no fault
-pub edit_or_fault : (line : List ℕ) (edit : Edit) (fault : LineFault) → Spells line edit → HasFault line fault → ⊥
-edit_or_fault line edit Syntax spells has = has edit.kind edit.edge edit.in_range spells
-edit_or_fault line edit BadVertex spells has = edit_or_edge_fault line edit edges.BadVertex spells has
-edit_or_fault line edit NoPosition spells has = edit_or_edge_fault line edit edges.NoPosition spells has
-edit_or_fault line edit WrongSort spells has = edit_or_edge_fault line edit edges.WrongSort spells has
+pub edit_or_fault : (version : Version) (line : List ℕ) (edit : Edit) (fault : LineFault) → Spells version line edit → HasFault version line fault → ⊥
+edit_or_fault version line edit Syntax spells has = has edit.kind edit.edge edit.in_range spells.1 spells.0
+edit_or_fault version line edit BadVertex spells has = edit_or_edge_fault version line edit edges.BadVertex spells has
+edit_or_fault version line edit NoPosition spells has = edit_or_edge_fault version line edit edges.NoPosition spells has
+edit_or_fault version line edit WrongSort spells has = edit_or_edge_fault version line edit edges.WrongSort spells has
 
 some_injective : (f g : EdgeFault) → Some f ≡ Some g → f ≡ g
 some_injective f g e = cc
 
-one_edge_fault : (line : List ℕ) (f g : EdgeFault) → HasEdgeFault line f → HasEdgeFault line g → f ≡ g
-one_edge_fault line f g of_f of_g =
-    let same = form_injective of_f.0 of_g.0 of_f.1 of_g.1 of_f.2 of_g.2 (sym of_f.3 ∙ of_g.3) in
-    some_injective f g (sym of_f.4 ∙ ap edge_fault same.1 ∙ of_g.4)
+one_edge_fault : (version : Version) (line : List ℕ) (f g : EdgeFault) → HasEdgeFault version line f → HasEdgeFault version line g → f ≡ g
+one_edge_fault version line f g of_f of_g =
+    let same = form_injective of_f.0 of_g.0 of_f.1 of_g.1 of_f.2 of_g.2 (sym of_f.4 ∙ of_g.4) in
+    some_injective f g (sym of_f.5 ∙ ap edge_fault same.1 ∙ of_g.5)
 
 -- a line that has no edge's form has no edge's fault
-syntax_or_edge : (line : List ℕ) (fault : EdgeFault) → HasFault line Syntax → HasEdgeFault line fault → ⊥
-syntax_or_edge line fault none has = none has.0 has.1 has.2 has.3
+syntax_or_edge : (version : Version) (line : List ℕ) (fault : EdgeFault) → HasFault version line Syntax → HasEdgeFault version line fault → ⊥
+syntax_or_edge version line fault none has = none has.0 has.1 has.2 has.3 has.4
 
 -- a line has one first fault
-pub one_fault : (line : List ℕ) (a b : LineFault) → HasFault line a → HasFault line b → a ≡ b
-one_fault line Syntax Syntax of_a of_b = refl
-one_fault line Syntax BadVertex of_a of_b = absurd (syntax_or_edge line edges.BadVertex of_a of_b)
-one_fault line Syntax NoPosition of_a of_b = absurd (syntax_or_edge line edges.NoPosition of_a of_b)
-one_fault line Syntax WrongSort of_a of_b = absurd (syntax_or_edge line edges.WrongSort of_a of_b)
-one_fault line BadVertex Syntax of_a of_b = absurd (syntax_or_edge line edges.BadVertex of_b of_a)
-one_fault line NoPosition Syntax of_a of_b = absurd (syntax_or_edge line edges.NoPosition of_b of_a)
-one_fault line WrongSort Syntax of_a of_b = absurd (syntax_or_edge line edges.WrongSort of_b of_a)
-one_fault line BadVertex BadVertex of_a of_b = refl
-one_fault line BadVertex NoPosition of_a of_b = ap line_fault_of (one_edge_fault line edges.BadVertex edges.NoPosition of_a of_b)
-one_fault line BadVertex WrongSort of_a of_b = ap line_fault_of (one_edge_fault line edges.BadVertex edges.WrongSort of_a of_b)
-one_fault line NoPosition BadVertex of_a of_b = ap line_fault_of (one_edge_fault line edges.NoPosition edges.BadVertex of_a of_b)
-one_fault line NoPosition NoPosition of_a of_b = refl
-one_fault line NoPosition WrongSort of_a of_b = ap line_fault_of (one_edge_fault line edges.NoPosition edges.WrongSort of_a of_b)
-one_fault line WrongSort BadVertex of_a of_b = ap line_fault_of (one_edge_fault line edges.WrongSort edges.BadVertex of_a of_b)
-one_fault line WrongSort NoPosition of_a of_b = ap line_fault_of (one_edge_fault line edges.WrongSort edges.NoPosition of_a of_b)
-one_fault line WrongSort WrongSort of_a of_b = refl
+pub one_fault : (version : Version) (line : List ℕ) (a b : LineFault) → HasFault version line a → HasFault version line b → a ≡ b
+one_fault version line Syntax Syntax of_a of_b = refl
+one_fault version line Syntax BadVertex of_a of_b = absurd (syntax_or_edge version line edges.BadVertex of_a of_b)
+one_fault version line Syntax NoPosition of_a of_b = absurd (syntax_or_edge version line edges.NoPosition of_a of_b)
+one_fault version line Syntax WrongSort of_a of_b = absurd (syntax_or_edge version line edges.WrongSort of_a of_b)
+one_fault version line BadVertex Syntax of_a of_b = absurd (syntax_or_edge version line edges.BadVertex of_b of_a)
+one_fault version line NoPosition Syntax of_a of_b = absurd (syntax_or_edge version line edges.NoPosition of_b of_a)
+one_fault version line WrongSort Syntax of_a of_b = absurd (syntax_or_edge version line edges.WrongSort of_b of_a)
+one_fault version line BadVertex BadVertex of_a of_b = refl
+one_fault version line BadVertex NoPosition of_a of_b = ap line_fault_of (one_edge_fault version line edges.BadVertex edges.NoPosition of_a of_b)
+one_fault version line BadVertex WrongSort of_a of_b = ap line_fault_of (one_edge_fault version line edges.BadVertex edges.WrongSort of_a of_b)
+one_fault version line NoPosition BadVertex of_a of_b = ap line_fault_of (one_edge_fault version line edges.NoPosition edges.BadVertex of_a of_b)
+one_fault version line NoPosition NoPosition of_a of_b = refl
+one_fault version line NoPosition WrongSort of_a of_b = ap line_fault_of (one_edge_fault version line edges.NoPosition edges.WrongSort of_a of_b)
+one_fault version line WrongSort BadVertex of_a of_b = ap line_fault_of (one_edge_fault version line edges.WrongSort edges.BadVertex of_a of_b)
+one_fault version line WrongSort NoPosition of_a of_b = ap line_fault_of (one_edge_fault version line edges.WrongSort edges.NoPosition of_a of_b)
+one_fault version line WrongSort WrongSort of_a of_b = refl
 
 -- ---- a line and what stands behind it
 
@@ -199,7 +211,7 @@ same_lines a b x y same =
     let of_b = form (edit_kind b) (edit_edge b) in
     let parts = first_part 10 of_a of_b x y (Lacks-form a.kind a.edge a.in_range) (Lacks-form b.kind b.edge b.in_range)
     (sym (line_then a x) ∙ same ∙ line_then b y) in
-    (one_edit of_a a b refl parts.0, parts.1)
+    (one_edit Two of_a a b (each_in_two a) (parts.0, all_in_two (edit_edge b)), parts.1)
 
 -- no edit's line is a proper prefix of another's
 pub no_prefix : (a b : Edit) (more : List ℕ) → line_of a ++ more ≡ line_of b → more ≡ []

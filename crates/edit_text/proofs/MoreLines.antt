@@ -4,14 +4,14 @@ use Rattle.std.proofs.lemmas.Grind.{flat_map-append}
 use Rattle.std.proofs.lemmas.List.{take_more}
 use Rattle.grove_edits.specs.declared.edit.Edit.{Edit}
 use Rattle.grove_edits.specs.Edit.{edit_edge, edit_kind}
-use Rattle.edit_text.specs.Line.{Spells, form}
+use Rattle.edit_text.specs.Line.{form}
 use Rattle.edit_text.specs.Text.{line_of, text_of}
 
 pub text_of-push : (edits : List Edit) (edit : Edit) → text_of (edits ++ edit ∷ []) ≡ text_of edits ++ line_of edit
 text_of-push edits edit = flat_map-append line_of edits (edit ∷ []) ∙ ap (λ (line : List ℕ). text_of edits ++ line) (append-nil (line_of edit))
 
 -- the next line was read
-pub line_read : (text rest line after : List ℕ) (edits : List Edit) (edit : Edit) → text ≡ text_of edits ++ rest → rest ≡ line ++ 10 ∷ after → Spells line edit
+pub line_read : (text rest line after : List ℕ) (edits : List Edit) (edit : Edit) → text ≡ text_of edits ++ rest → rest ≡ line ++ 10 ∷ after → line ≡ form (edit_kind edit) (edit_edge edit)
     → text ≡ text_of (edits ++ edit ∷ []) ++ after
 line_read text rest line after edits edit so_far parts spells =
     let ended : line ++ 10 ∷ after ≡ line_of edit ++ after = ap (λ (l : List ℕ). l ++ 10 ∷ after) spells ∙ sym (append_assoc (form (edit_kind edit) (edit_edge edit)) (10 ∷ []) after) in

@@ -1,3 +1,4 @@
 pub mod FaultOfEdge
 pub mod Line
 pub mod Text
+pub mod Whole

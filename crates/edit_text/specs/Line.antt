@@ -3,13 +3,14 @@ use Rattle.std.specs.Prelude.{◌≡◌, ◌≢◌, ℕ, List, [], ◌∷◌, �
 use Rattle.grove_names.specs.Name.{name_text}
 use Rattle.grove_sorts.specs.Ctor.{ctor_text}
 use Rattle.grove_sorts.specs.Position.{position_text}
+use Rattle.grove_sorts.specs.declared.version.Version.{Version}
 use Rattle.grove_edits.specs.declared.edge.Edge.{Edge}
 use Rattle.grove_edits.specs.declared.edge.EdgeFault.{EdgeFault}
 use Rattle.grove_edits.specs.declared.edge.EdgeFault.TheVariants as edges
 use Rattle.grove_edits.specs.declared.edit.Edit.{Edit}
 use Rattle.grove_edits.specs.declared.edit.EditKind.{EditKind}
 use Rattle.grove_edits.specs.declared.edit.EditKind.TheVariants.{Insert, Delete}
-use Rattle.grove_edits.specs.Edge.{EdgeInRange, edge_fault}
+use Rattle.grove_edits.specs.Edge.{EdgeInRange, IsEdgeOf, edge_fault}
 use Rattle.grove_edits.specs.Edit.{edit_edge, edit_kind}
 use Rattle.edit_text.specs.declared.line_fault.LineFault.{LineFault}
 use Rattle.edit_text.specs.declared.line_fault.LineFault.TheVariants.{Syntax, BadVertex, NoPosition, WrongSort}
@@ -39,18 +40,18 @@ sign Delete = 45
 abbrev pub form : EditKind → Edge → List ℕ
 form kind edge = sign kind ∷ spaced (edge_parts edge)
 
--- the line, without its LF, is that of the edit
-abbrev pub Spells : List ℕ → Edit → Type 0
-Spells line edit = line ≡ form (edit_kind edit) (edit_edge edit)
+-- the line, without its LF, is that of the edit, of whose edge the version knows all
+abbrev pub Spells : Version → List ℕ → Edit → Type 0
+Spells version line edit = (line ≡ form (edit_kind edit) (edit_edge edit)) × IsEdgeOf version (edit_edge edit)
 
--- the line has the form of an edit, and its edge has this first fault
-abbrev pub HasEdgeFault : List ℕ → EdgeFault → Type 0
-HasEdgeFault line fault =
-    (kind : EditKind) × (edge : Edge) × EdgeInRange edge × (line ≡ form kind edge) × (edge_fault edge ≡ Some fault)
+-- the line has the form of an edit, and its edge, of which the version knows all, has this first fault
+abbrev pub HasEdgeFault : Version → List ℕ → EdgeFault → Type 0
+HasEdgeFault version line fault =
+    (kind : EditKind) × (edge : Edge) × EdgeInRange edge × IsEdgeOf version edge × (line ≡ form kind edge) × (edge_fault edge ≡ Some fault)
 
 -- the first fault of the line
-abbrev pub HasFault : List ℕ → LineFault → Type 0
-HasFault line Syntax = (kind : EditKind) (edge : Edge) → EdgeInRange edge → line ≢ form kind edge
-HasFault line BadVertex = HasEdgeFault line edges.BadVertex
-HasFault line NoPosition = HasEdgeFault line edges.NoPosition
-HasFault line WrongSort = HasEdgeFault line edges.WrongSort
+abbrev pub HasFault : Version → List ℕ → LineFault → Type 0
+HasFault version line Syntax = (kind : EditKind) (edge : Edge) → EdgeInRange edge → IsEdgeOf version edge → line ≢ form kind edge
+HasFault version line BadVertex = HasEdgeFault version line edges.BadVertex
+HasFault version line NoPosition = HasEdgeFault version line edges.NoPosition
+HasFault version line WrongSort = HasEdgeFault version line edges.WrongSort

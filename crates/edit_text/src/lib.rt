@@ -1,5 +1,6 @@
 //! The text of edits: one line for each, read and written exactly, with the first fault of a line that is none.
 //! A line is a sign, the edge's name, its source, its position and its target, parted by single spaces.
+//! A text may begin with a line that tells its version.
 #![tactic(auto)]
 
 mod laws;
@@ -7,13 +8,15 @@ mod line;
 mod line_fault;
 mod no_memory;
 mod text_fault;
+mod version;
 mod write;
 
-pub use laws::{lines_are_exact, texts_are_exact};
+pub use laws::{lines_are_exact, texts_are_exact, whole_texts_are_exact};
 pub use line::read_line;
 pub use line_fault::LineFault;
 pub use no_memory::NoMemory;
 pub use text_fault::TextFault;
+pub use version::{header_lines, split_version, write_version};
 pub use write::{write_edits, write_line};
 
 #[cfg(test)]

@@ -8,47 +8,50 @@ ghost use Rattle.grove_sorts.specs.Position.{position_text};
 ghost use Rattle.grove_edits.specs.declared.edge.Edge.{Edge};
 ghost use Rattle.grove_edits.specs.declared.edit.EditKind.{EditKind};
 ghost use Rattle.grove_edits.specs.declared.vertex.Vertex.{Vertex};
-ghost use Rattle.grove_edits.specs.Edge.{EdgeInRange};
+ghost use Rattle.grove_sorts.specs.Version.{IsCtorOf, IsPositionOf};
+ghost use Rattle.grove_edits.specs.Edge.{EdgeInRange, IsEdgeOf};
 ghost use Rattle.grove_edits.specs.Vertex.{VertexInRange};
 ghost use Rattle.edit_text.specs.Line.{Spells, HasFault, form, spaced, edge_parts};
 
 use crate::line_fault::LineFault;
 use grove_edits::{Edge, Edit, EditKind, Vertex};
 use grove_names::{Name, read_name};
-use grove_sorts::{Ctor, Position, read_ctor, read_position};
+use grove_sorts::{Ctor, Position, Version, read_ctor, read_position};
 use text_parts::split_at_first;
 
-/// Reads a line, given without its LF, or answers the first fault that applies. It takes no memory.
-pub fn read_line(line: &[u8]) -> Result<Edit, LineFault>
-    ensures edit { IfOk result (Spells line.now) }
-    ensures first_fault { IfErr result (HasFault line.now) }
+/// Reads a line of the version, given without its LF, or answers the first fault that applies. It takes no memory.
+pub fn read_line(version: Version, line: &[u8]) -> Result<Edit, LineFault>
+    ensures edit { IfOk result (Spells version line.now) }
+    ensures first_fault { IfErr result (HasFault version line.now) }
 {
-    let Some((kind, edge)) = read_form(line) else {
+    let Some((kind, edge)) = read_form(version, line) else {
         return Err(LineFault::Syntax);
     };
     Ok(Edit::new(kind, edge)?)
 }
 
 // The edge of a line need not be well formed.
-fn read_form(line: &[u8]) -> Option<(EditKind, Edge)>
+fn read_form(version: Version, line: &[u8]) -> Option<(EditKind, Edge)>
     ensures found { IfSome result (λ read. line.now ≡ form read.0 read.1) }
-    ensures none { IfNone result ((kind : EditKind) (edge : Edge) → EdgeInRange edge → line.now ≢ form kind edge) }
+    ensures of_version { IfSome result (λ read. IsEdgeOf version read.1) }
+    ensures none { IfNone result ((kind : EditKind) (edge : Edge) → EdgeInRange edge → IsEdgeOf version edge → line.now ≢ form kind edge) }
 {
     match line {
-        [b'+', text @ ..] => Some((EditKind::Insert, read_edge(text)?)),
-        [b'-', text @ ..] => Some((EditKind::Delete, read_edge(text)?)),
+        [b'+', text @ ..] => Some((EditKind::Insert, read_edge(version, text)?)),
+        [b'-', text @ ..] => Some((EditKind::Delete, read_edge(version, text)?)),
         _ => None,
     }
 }
 
-fn read_edge(text: &[u8]) -> Option<Edge>
+fn read_edge(version: Version, text: &[u8]) -> Option<Edge>
     ensures found { IfSome result (λ edge. text.now ≡ spaced (edge_parts edge)) }
-    ensures none { IfNone result ((edge : Edge) → EdgeInRange edge → text.now ≢ spaced (edge_parts edge)) }
+    ensures of_version { IfSome result (IsEdgeOf version) }
+    ensures none { IfNone result ((edge : Edge) → EdgeInRange edge → IsEdgeOf version edge → text.now ≢ spaced (edge_parts edge)) }
 {
     let (name, rest) = take_name(text)?;
-    let (source, rest) = take_vertex(rest)?;
-    let (position, rest) = take_position(rest)?;
-    let target = read_vertex(rest)?;
+    let (source, rest) = take_vertex(version, rest)?;
+    let (position, rest) = take_position(version, rest)?;
+    let target = read_vertex(version, rest)?;
     Some(Edge {
         name,
         source,
@@ -58,25 +61,27 @@ fn read_edge(text: &[u8]) -> Option<Edge>
 }
 
 // A vertex: its name, a space and its constructor.
-fn read_vertex(text: &[u8]) -> Option<Vertex>
+fn read_vertex(version: Version, text: &[u8]) -> Option<Vertex>
     ensures found { IfSome result (λ vertex. text.now ≡ name_text vertex.name ++ 32 ∷ ctor_text vertex.ctor) }
-    ensures none { IfNone result ((vertex : Vertex) → NameInRange vertex.name → CtorInRange vertex.ctor
+    ensures of_version { IfSome result (λ vertex. IsCtorOf version vertex.ctor) }
+    ensures none { IfNone result ((vertex : Vertex) → NameInRange vertex.name → CtorInRange vertex.ctor → IsCtorOf version vertex.ctor
         → text.now ≢ name_text vertex.name ++ 32 ∷ ctor_text vertex.ctor) }
 {
     let (name, rest) = take_name(text)?;
-    let ctor = read_ctor(rest)?;
+    let ctor = read_ctor(version, rest)?;
     Some(Vertex { name, ctor })
 }
 
 // A vertex and the space behind it, and what stands after them.
-fn take_vertex(text: &[u8]) -> Option<(Vertex, &[u8])>
+fn take_vertex(version: Version, text: &[u8]) -> Option<(Vertex, &[u8])>
     ensures found { IfSome result (λ read. text.now ≡ name_text read.0.name ++ 32 ∷ (ctor_text read.0.ctor ++ 32 ∷ read.1.now)) }
-    ensures only { (vertex : Vertex) (rest : List ℕ) → NameInRange vertex.name → CtorInRange vertex.ctor
+    ensures of_version { IfSome result (λ read. IsCtorOf version read.0.ctor) }
+    ensures only { (vertex : Vertex) (rest : List ℕ) → NameInRange vertex.name → CtorInRange vertex.ctor → IsCtorOf version vertex.ctor
         → text.now ≡ name_text vertex.name ++ 32 ∷ (ctor_text vertex.ctor ++ 32 ∷ rest)
         → IsSomeAnd result (λ read. (read.0.name ≡ vertex.name) × (read.0.ctor ≡ vertex.ctor) × (read.1.now ≡ rest)) }
 {
     let (name, rest) = take_name(text)?;
-    let (ctor, rest) = take_ctor(rest)?;
+    let (ctor, rest) = take_ctor(version, rest)?;
     Some((Vertex { name, ctor }, rest))
 }
 
@@ -94,23 +99,25 @@ fn take_name(text: &[u8]) -> Option<(Name, &[u8])>
 }
 
 // A constructor and the space behind it, and what stands after them.
-fn take_ctor(text: &[u8]) -> Option<(Ctor, &[u8])>
+fn take_ctor(version: Version, text: &[u8]) -> Option<(Ctor, &[u8])>
     ensures found { IfSome result (λ read. text.now ≡ ctor_text read.0 ++ 32 ∷ read.1.now) }
-    ensures only { (ctor : Ctor) (rest : List ℕ) → CtorInRange ctor → text.now ≡ ctor_text ctor ++ 32 ∷ rest
+    ensures of_version { IfSome result (λ read. IsCtorOf version read.0) }
+    ensures only { (ctor : Ctor) (rest : List ℕ) → CtorInRange ctor → IsCtorOf version ctor → text.now ≡ ctor_text ctor ++ 32 ∷ rest
         → IsSomeAnd result (λ read. (read.0 ≡ ctor) × (read.1.now ≡ rest)) }
 {
     let (part, rest) = split_at_first(text, b' ')?;
-    let ctor = read_ctor(part)?;
+    let ctor = read_ctor(version, part)?;
     Some((ctor, rest))
 }
 
 // A position's word and the space behind it, and what stands after them.
-fn take_position(text: &[u8]) -> Option<(Position, &[u8])>
+fn take_position(version: Version, text: &[u8]) -> Option<(Position, &[u8])>
     ensures found { IfSome result (λ read. text.now ≡ position_text read.0 ++ 32 ∷ read.1.now) }
-    ensures only { (position : Position) (rest : List ℕ) → text.now ≡ position_text position ++ 32 ∷ rest
+    ensures of_version { IfSome result (λ read. IsPositionOf version read.0) }
+    ensures only { (position : Position) (rest : List ℕ) → IsPositionOf version position → text.now ≡ position_text position ++ 32 ∷ rest
         → IsSomeAnd result (λ read. (read.0 ≡ position) × (read.1.now ≡ rest)) }
 {
     let (part, rest) = split_at_first(text, b' ')?;
-    let position = read_position(part)?;
+    let position = read_position(version, part)?;
     Some((position, rest))
 }

@@ -1,5 +1,6 @@
 use super::*;
 use grove_edits::EditList;
+use grove_sorts::Version;
 use std::test::Fail;
 
 #[test]
@@ -36,7 +37,7 @@ fn each_fault_is_the_first(rt: HostRuntime) {
         ),
         (b"".as_slice(), LineFault::Syntax),
     ] {
-        assert!(rt; read_line(line) == Err(want));
+        assert!(rt; read_line(Version::Two, line) == Err(want));
     }
 }
 
@@ -47,7 +48,7 @@ fn lines_are_read_and_written(rt: HostRuntime) -> Result<(), Fail> {
         b"-1.2 0.0 root main 1.1 num:7".as_slice(),
         b"+2.2 0.0 root main 2.1 var:x_1".as_slice(),
     ] {
-        edits.push(read_line(line).ok().ok_or("a good line")?)?;
+        edits.push(read_line(Version::Two, line).ok().ok_or("a good line")?)?;
     }
     let mut out = Vec::new(rt.alloc());
     write_edits(edits.as_slice(), &mut out)?;

@@ -7,6 +7,8 @@ use Rattle.grove_sorts.specs.declared.sort.Sort.{Sort}
 use Rattle.grove_sorts.specs.declared.sort.Sort.TheVariants.{Top, Exp, Pat, Typ}
 use Rattle.grove_sorts.specs.Position.{position_cmp}
 use Rattle.grove_sorts.specs.Ctor.{sort_of_ctor, sort_at}
+use Rattle.grove_sorts.specs.declared.version.Version.{Version}
+use Rattle.grove_sorts.specs.Version.{IsCtorOf, IsPositionOf}
 use Rattle.grove_edits.specs.declared.edge.Edge.{Edge}
 use Rattle.grove_edits.specs.declared.edge.EdgeFault.{EdgeFault}
 use Rattle.grove_edits.specs.declared.edge.EdgeFault.TheVariants.{BadVertex, NoPosition, WrongSort}
@@ -44,6 +46,10 @@ IsWellFormed e = IsTrue (is_none (edge_fault e))
 -- the numbers lie in their ranges, as those of every edge of the program do
 abbrev pub EdgeInRange : Edge → Type 0
 EdgeInRange e = (e.name.author < 2 ^ 32) × (e.name.counter < 2 ^ 64) × VertexInRange e.source × VertexInRange e.target
+
+-- all that a version has to know of the edge is of the version
+abbrev pub IsEdgeOf : Version → Edge → Type 0
+IsEdgeOf version e = IsCtorOf version e.source.ctor × IsPositionOf version e.position × IsCtorOf version e.target.ctor
 
 -- edges are ordered by name, source, position and target
 abbrev pub edge_cmp : Edge → Edge → Ordering

@@ -1,5 +1,8 @@
-use Rattle.edit_text.proofs.Lines.{one_edit, edit_or_fault, one_fault, no_prefix}
+use Rattle.edit_text.proofs.Lines.{each_in_two, one_edit, edit_or_fault, one_fault, no_prefix, kept_in_two}
 use Rattle.edit_text.proofs.laws.lines_are_exact.Goals as goal
+
+pub returns-clause-each_in_two : goal.returns-clause-each_in_two
+returns-clause-each_in_two c = each_in_two
 
 pub returns-clause-one_edit : goal.returns-clause-one_edit
 returns-clause-one_edit c = one_edit
@@ -12,3 +15,6 @@ returns-clause-one_fault c = one_fault
 
 pub returns-clause-no_prefix : goal.returns-clause-no_prefix
 returns-clause-no_prefix c = no_prefix
+
+pub returns-clause-kept_in_two : goal.returns-clause-kept_in_two
+returns-clause-kept_in_two c = kept_in_two
