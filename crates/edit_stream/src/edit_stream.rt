@@ -11,14 +11,16 @@ use crate::no_memory::NoMemory;
 use crate::reading::read_lines;
 use edit_text::LineFault;
 use grove_edits::EditList;
+use grove_sorts::Version;
 use std::alloc::Global;
 use std::marker::Model;
 use text_parts::split_at_first;
 
-/// The text of edits as it comes in pieces: the bytes behind the last LF, how many lines were ended, and the first fault.
+/// The lines of edits as they come in pieces: their version, the bytes behind the last LF, how many lines were ended, and the first fault.
 #[derive(Drop)]
 pub struct EditStream {
     alloc: Global,
+    version: Version,
     kept: Vec<u8>,
     lines: u64,
     fault: Option<LineFault>,
@@ -30,18 +32,19 @@ impl Model for EditStream {
 
     ghost Value = { StreamState };
 
-    ghost view = { λ stream. record { kept = stream.kept.items; lines = stream.lines; fault = stream.fault } };
+    ghost view = { λ stream. record { version = stream.version; kept = stream.kept.items; lines = stream.lines; fault = stream.fault } };
 
     ghost invariant = { λ stream. Lacks 10 stream.kept.items };
 }
 
 impl EditStream {
-    /// A stream that has taken nothing. It takes no memory.
-    pub fn new(alloc: Global) -> EditStream
-        ensures fresh { result ≡ fresh }
+    /// A stream of lines of the version that has taken nothing. It takes no memory.
+    pub fn new(alloc: Global, version: Version) -> EditStream
+        ensures fresh { result ≡ fresh version }
     {
         EditStream {
             alloc,
+            version,
             kept: Vec::new(alloc),
             lines: 0,
             fault: None,
@@ -81,7 +84,7 @@ impl EditStream {
         ensures first_fault { IfErr result (IsFeedFault self.new) }
         ensures unchanged { IfErr result (λ fault. IfNoMemory fault ((self.new ≡ self.old) × (out.new ≡ out.old))) }
     {
-        let reading = read_lines(self.alloc, &self.kept, end, rest)?;
+        let reading = read_lines(self.alloc, self.version, &self.kept, end, rest)?;
         let count = reading.edits.len() as u64;
         append(out, reading.edits)?;
         self.lines = self.lines.saturating_add(count);

@@ -1,4 +1,4 @@
-//! The text of edits, read as it comes in pieces that may be cut anywhere.
+//! The lines of edits, read as they come in pieces that may be cut anywhere.
 //! A stream gives the edits of the lines that each piece ends, and keeps the bytes behind the last LF for the next one. How a text is cut changes neither its edits nor its first bad line.
 #![tactic(auto)]
 

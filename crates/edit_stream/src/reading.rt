@@ -1,12 +1,13 @@
 ghost use Rattle.std.specs.Prelude.{◌≡◌, [], ◌∷◌, ◌++◌, Some, IfOk, IfErr};
 ghost use Rattle.text_parts.specs.Separated.{Lacks};
 ghost use Rattle.edit_text.specs.Line.{Spells, HasFault};
-ghost use Rattle.edit_text.specs.Text.{text_of};
+ghost use Rattle.edit_text.specs.Text.{text_of, AreOf};
 ghost use Rattle.edit_stream.specs.Stream.{Reads};
 
 use crate::no_memory::NoMemory;
 use edit_text::{LineFault, read_line};
 use grove_edits::{Edit, EditList};
+use grove_sorts::Version;
 use std::alloc::Global;
 use text_parts::split_at_first;
 
@@ -33,22 +34,23 @@ impl Reading {
     }
 }
 
-/// Reads a text whose first line ends with `end` and begins with kept bytes; `rest` stands behind its LF.
+/// Reads a text of lines of the version whose first line ends with `end` and begins with kept bytes; `rest` stands behind its LF.
 pub(crate) fn read_lines(
     alloc: Global,
+    version: Version,
     kept: &[u8],
     end: &[u8],
     rest: &[u8],
 ) -> Result<Reading, NoMemory>
     requires one_line { Lacks 10 (kept.now ++ end.now) }
-    ensures reads { IfOk result (λ reading. Reads (kept.now ++ (end.now ++ 10 ∷ rest.now)) reading.edits reading.kept.items reading.fault) }
+    ensures reads { IfOk result (λ reading. Reads version (kept.now ++ (end.now ++ 10 ∷ rest.now)) reading.edits reading.kept.items reading.fault) }
 {
     let mut edits = EditList::new(alloc);
-    match read_joined_line(alloc, kept, end)? {
+    match read_joined_line(alloc, version, kept, end)? {
         Err(fault) => Ok(Reading::stopped(alloc, edits, fault)),
         Ok(edit) => {
             edits.push(edit)?;
-            read_more_lines(alloc, edits, rest)
+            read_more_lines(alloc, version, edits, rest)
         }
     }
 }
@@ -56,27 +58,34 @@ pub(crate) fn read_lines(
 // A line that no cut falls into is read where it stands.
 fn read_joined_line(
     alloc: Global,
+    version: Version,
     kept: &[u8],
     end: &[u8],
 ) -> Result<Result<Edit, LineFault>, NoMemory>
-    ensures edit { IfOk result (λ read. IfOk read (Spells (kept.now ++ end.now))) }
-    ensures first_fault { IfOk result (λ read. IfErr read (HasFault (kept.now ++ end.now))) }
+    ensures edit { IfOk result (λ read. IfOk read (Spells version (kept.now ++ end.now))) }
+    ensures first_fault { IfOk result (λ read. IfErr read (HasFault version (kept.now ++ end.now))) }
 {
     if kept.is_empty() {
-        return Ok(read_line(end));
+        return Ok(read_line(version, end));
     }
     let mut line = Vec::from_slice(alloc, kept)?;
     line.extend_from_slice(end)?;
-    Ok(read_line(&line))
+    Ok(read_line(version, &line))
 }
 
 // The reading of the lines of edits with a text behind them.
-fn read_more_lines(alloc: Global, mut edits: EditList, text: &[u8]) -> Result<Reading, NoMemory>
-    ensures reads { IfOk result (λ reading. Reads (text_of edits ++ text.now) reading.edits reading.kept.items reading.fault) }
+fn read_more_lines(
+    alloc: Global,
+    version: Version,
+    mut edits: EditList,
+    text: &[u8],
+) -> Result<Reading, NoMemory>
+    requires { AreOf version edits }
+    ensures reads { IfOk result (λ reading. Reads version (text_of edits ++ text.now) reading.edits reading.kept.items reading.fault) }
 {
     let mut rest = text;
     while let Some((line, after)) = split_at_first(rest, b'\n') {
-        match read_line(line) {
+        match read_line(version, line) {
             Err(fault) => return Ok(Reading::stopped(alloc, edits, fault)),
             Ok(edit) => edits.push(edit)?,
         }

@@ -1,5 +1,5 @@
 -- Texts of edits: the edits that a text begins with are known by it, up to the first line that spells none.
-use Rattle.std.proofs.Common.{◌≡◌, ◌≢◌, ℕ, ◌+◌, List, [], ◌∷◌, ◌++◌, length, refl, sym, ap, subst, ◌∙◌, append_assoc, append-nil}
+use Rattle.std.proofs.Common.{◌≡◌, ◌≢◌, ℕ, ◌+◌, List, [], ◌∷◌, ◌++◌, length, refl, sym, ap, subst, ◌∙◌, append_assoc, append-nil, ◌≤◌, arith, length-append}
 use Rattle.text_parts.specs.Separated.{Lacks}
 use Rattle.text_parts.proofs.Parts.{Lacks-separated, first_part}
 use Rattle.grove_sorts.specs.declared.version.Version.{Version}
@@ -86,3 +86,33 @@ pub one_rest : (version : Version) (text : List ℕ) (m n : ℕ) → HasRest ver
 one_rest version text m n a b =
     line_number a.before b.before m n a.number b.number
     (same_edits version a.before b.before a.rest b.rest a.of_version b.of_version (BeginsNoLine-unended version a.rest a.unended) (BeginsNoLine-unended version b.rest b.unended) (sym a.parts ∙ b.parts)).0
+
+-- ---- lines are counted by bytes
+
+line_long : (edit : Edit) (rest : List ℕ) → length rest + 1 ≤ length (line_of edit ++ rest)
+line_long edit rest =
+    let line = length-append (form (edit_kind edit) (edit_edge edit)) (10 ∷ []) in
+    omega (arith, length-append (line_of edit) rest, line)
+
+lines_long : (edits : List Edit) (rest : List ℕ) → length edits + length rest ≤ length (text_of edits ++ rest)
+lines_long [] rest = omega arith
+lines_long (edit ∷ edits) rest =
+    let more = lines_long edits rest in
+    let first = line_long edit (text_of edits ++ rest) in
+    omega (arith, ap length (append_assoc (line_of edit) (text_of edits) rest))
+
+-- the number of a line is no greater than the number of bytes
+pub malformed_short : (version : Version) (text : List ℕ) (line : ℕ) (fault : LineFault) → IsMalformed version text line fault → line ≤ length text
+malformed_short version text line fault m =
+    let long = lines_long m.before (m.bad ++ 10 ∷ m.after) in
+    let number = m.number in
+    omega (arith, ap length m.parts, length-append m.bad (10 ∷ m.after))
+
+pub rest_short : (version : Version) (text : List ℕ) (line : ℕ) → HasRest version text line → line ≤ length text
+rest_short version text line r = by_rest r.rest refl where
+  by_rest : (rest : List ℕ) → r.rest ≡ rest → line ≤ length text
+  by_rest [] none = absurd (r.something none)
+  by_rest (byte ∷ bytes) some =
+      let long = lines_long r.before r.rest in
+      let number = r.number in
+      omega (arith, ap length r.parts, ap length some)

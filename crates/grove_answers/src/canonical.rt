@@ -1,18 +1,17 @@
-ghost use Rattle.std.specs.Prelude.{IfOk};
+ghost use Rattle.std.specs.Prelude.{◌≡◌, ◌++◌, ℕ, List, OnOk, OnErr};
 ghost use Rattle.grove_edits.specs.Graph.{graph, Ascends};
 ghost use Rattle.grove_answers.specs.Texts.{IsCanonicalText};
 
 use crate::no_memory::NoMemory;
 use edit_text::write_edits;
 use grove_edits::EditList;
-use std::alloc::Global;
 
-/// The text of `merge`: a line for each edit of a canonical list.
-pub fn canonical_text(alloc: Global, edits: &EditList) -> Result<Vec<u8>, NoMemory>
+/// Appends the canonical text: a line for each edit of a canonical list.
+pub fn append_canonical_text(edits: &EditList, out: &mut Vec<u8>) -> Result<(), NoMemory>
     requires { Ascends edits.now }
-    ensures { IfOk result (λ text. IsCanonicalText (graph edits.now) text.items) }
+    ensures appended { OnOk result ((text : List ℕ) × IsCanonicalText (graph edits.now) text × (out.new.items ≡ out.old.items ++ text)) }
+    ensures unchanged { OnErr result (out.new.items ≡ out.old.items) }
 {
-    let mut text = Vec::new(alloc);
-    write_edits(edits.as_slice(), &mut text)?;
-    Ok(text)
+    write_edits(edits.as_slice(), out)?;
+    Ok(())
 }

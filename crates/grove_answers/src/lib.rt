@@ -12,7 +12,7 @@ mod reporting;
 mod show;
 mod walk;
 
-pub use canonical::canonical_text;
+pub use canonical::append_canonical_text;
 pub use check::check_text;
 pub use laws::same_graphs_have_one_text;
 pub use no_memory::NoMemory;

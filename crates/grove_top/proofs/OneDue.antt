@@ -1,14 +1,15 @@
 -- For any words and bytes one status and one text are due.
 use Rattle.std.specs.declared.alloc.Global.{Global}
-use Rattle.std.proofs.Common.{◌≡◌, ◌⊎◌, inl, inr, ℕ, List, [], ◌∷◌, get_or, nat_eq, if◌then◌else◌, refl, sym, ap, subst, ◌∙◌, arith}
+use Rattle.std.proofs.Common.{◌≡◌, ◌≢◌, ◌⊎◌, inl, inr, ℕ, List, [], ◌∷◌, get_or, nat_eq, if◌then◌else◌, refl, sym, ap, subst, ◌∙◌, arith}
 use Rattle.std.specs.Prelude.{String}
 use Rattle.grove_edits.specs.declared.edit.Edit.{Edit}
 use Rattle.grove_edits.specs.Graph.{graph, IsSame, HasSameEdits}
 use Rattle.grove_edits.proofs.Graphs.{graph-same_edits}
 use Rattle.edit_text.specs.declared.line_fault.LineFault.{LineFault}
 use Rattle.edit_text.specs.declared.line_fault.LineFault.TheVariants as lines
-use Rattle.edit_text.specs.Text.{text_of, IsMalformed, HasRest}
-use Rattle.edit_text.proofs.TextsOfEdits.{one_list, not_malformed, no_rest, one_line, malformed_or_rest, one_rest}
+use Rattle.grove_sorts.specs.declared.version.Version.{Version}
+use Rattle.edit_text.specs.Whole.{IsTextOf, IsMalformedText, HasTextRest}
+use Rattle.edit_text.proofs.WholeTexts.{one_list, not_malformed, no_rest, one_line, malformed_or_rest, one_rest}
 use Rattle.grove_top.specs.FaultOfLine.{fault_of_line}
 use Rattle.grove_top.specs.declared.command.Command.{Command}
 use Rattle.grove_top.specs.declared.command.Command.TheVariants.{Merge, Show, Check}
@@ -17,19 +18,19 @@ use Rattle.grove_top.specs.declared.outcome.Fault.{Fault}
 use Rattle.grove_top.specs.declared.outcome.Fault.TheVariants.{Syntax, BadVertex, NoPosition, WrongSort, Rest}
 use Rattle.grove_top.specs.declared.outcome.Status.{Status}
 use Rattle.grove_top.specs.declared.outcome.Status.TheVariants.{Done, Usage, Malformed, TooLong, ReadFault, WriteFault, NoMemory}
-use Rattle.grove_top.proofs.Answered.{answer_along, one_answer_of}
+use Rattle.grove_top.proofs.Answered.{answer_along, any_version, one_answer_of}
 use Rattle.grove_top.specs.Due.{IsDue, IsCommandDue, IsAnswerOf, IsAnswered, IsFirstFault, malformed_text, usage_text}
 
 -- a fault of a text is that of a line, or a rest
-fault_split : (text : List ℕ) (line : ℕ) (fault : Fault) → IsFirstFault text line fault → ((fault ≡ Rest) × HasRest text line) ⊎ ((of_line : LineFault) × (fault ≡ fault_of_line of_line) × IsMalformed text line of_line)
+fault_split : (text : List ℕ) (line : ℕ) (fault : Fault) → IsFirstFault text line fault → ((fault ≡ Rest) × HasTextRest text line) ⊎ ((of_line : LineFault) × (fault ≡ fault_of_line of_line) × IsMalformedText text line of_line)
 fault_split text line Syntax h = inr (lines.Syntax, refl, h)
 fault_split text line BadVertex h = inr (lines.BadVertex, refl, h)
 fault_split text line NoPosition h = inr (lines.NoPosition, refl, h)
 fault_split text line WrongSort h = inr (lines.WrongSort, refl, h)
 fault_split text line Rest h = inl (refl, h)
 
-one_fault_by : (text : List ℕ) (m n : ℕ) (f g : Fault) → ((f ≡ Rest) × HasRest text m) ⊎ ((of_line : LineFault) × (f ≡ fault_of_line of_line) × IsMalformed text m of_line)
-    → ((g ≡ Rest) × HasRest text n) ⊎ ((of_line : LineFault) × (g ≡ fault_of_line of_line) × IsMalformed text n of_line) → (m ≡ n) × (f ≡ g)
+one_fault_by : (text : List ℕ) (m n : ℕ) (f g : Fault) → ((f ≡ Rest) × HasTextRest text m) ⊎ ((of_line : LineFault) × (f ≡ fault_of_line of_line) × IsMalformedText text m of_line)
+    → ((g ≡ Rest) × HasTextRest text n) ⊎ ((of_line : LineFault) × (g ≡ fault_of_line of_line) × IsMalformedText text n of_line) → (m ≡ n) × (f ≡ g)
 one_fault_by text m n f g (inl a) (inl b) = (one_rest text m n a.1 b.1, a.0 ∙ sym b.0)
 one_fault_by text m n f g (inl a) (inr b) = absurd (malformed_or_rest text n m b.0 b.2 a.1)
 one_fault_by text m n f g (inr a) (inl b) = absurd (malformed_or_rest text m n a.0 a.2 b.1)
@@ -41,34 +42,50 @@ one_fault_by text m n f g (inr a) (inr b) =
 one_fault : (text : List ℕ) (m n : ℕ) (f g : Fault) → IsFirstFault text m f → IsFirstFault text n g → (m ≡ n) × (f ≡ g)
 one_fault text m n f g a b = one_fault_by text m n f g (fault_split text m f a) (fault_split text n g b)
 
-no_fault_by : (edits : List Edit) (line : ℕ) (fault : Fault) → ((fault ≡ Rest) × HasRest (text_of edits) line) ⊎ ((of_line : LineFault) × (fault ≡ fault_of_line of_line) × IsMalformed (text_of edits) line of_line) → ⊥
-no_fault_by edits line fault (inl rest) = no_rest edits line rest.1
-no_fault_by edits line fault (inr bad) = not_malformed edits line bad.0 bad.2
+no_fault_by : (text : List ℕ) (version : Version) (edits : List Edit) (line : ℕ) (fault : Fault) → IsTextOf text version edits
+    → ((fault ≡ Rest) × HasTextRest text line) ⊎ ((of_line : LineFault) × (fault ≡ fault_of_line of_line) × IsMalformedText text line of_line) → ⊥
+no_fault_by text version edits line fault spelled (inl rest) = no_rest text version edits line spelled rest.1
+no_fault_by text version edits line fault spelled (inr bad) = not_malformed text version edits line bad.0 spelled bad.2
 
--- the text of edits has none
-pub no_fault : (edits : List Edit) (line : ℕ) (fault : Fault) → IsFirstFault (text_of edits) line fault → ⊥
-no_fault edits line fault h = no_fault_by edits line fault (fault_split (text_of edits) line fault h)
+-- a text of edits has none
+pub no_fault : (text : List ℕ) (version : Version) (edits : List Edit) (line : ℕ) (fault : Fault) → IsTextOf text version edits → IsFirstFault text line fault → ⊥
+no_fault text version edits line fault spelled h = no_fault_by text version edits line fault spelled (fault_split text line fault h)
 
 answered_or_fault : (command : Command) (text answer : List ℕ) (line : ℕ) (fault : Fault) → IsAnswered command text answer → IsFirstFault text line fault → ⊥
-answered_or_fault command text answer line fault is h = no_fault is.edits line fault (subst (λ (t : List ℕ). IsFirstFault t line fault) is.spelled h)
+answered_or_fault command text answer line fault is h = no_fault text is.version is.edits line fault is.spelled h
 
--- texts of the same graph get the same answer
-same_answer : (command : Command) (a b : List Edit) (x y : List ℕ) → IsSame (graph a) (graph b) → IsAnswered command (text_of a) x → IsAnswered command (text_of b) y → x ≡ y
-same_answer command a b x y same of_a of_b =
-    let answer_a : IsAnswerOf command (graph a) x = subst (λ (edits : List Edit). IsAnswerOf command (graph edits) x) (sym (one_list a of_a.edits of_a.spelled)) of_a.answered in
-    let answer_b : IsAnswerOf command (graph b) y = subst (λ (edits : List Edit). IsAnswerOf command (graph edits) y) (sym (one_list b of_b.edits of_b.spelled)) of_b.answered in
-    one_answer_of command (graph b) x y (answer_along command (graph a) (graph b) x same answer_a) answer_b
+-- an answered text is answered by what it spells
+answer_spelled : (command : Command) (text answer : List ℕ) (version : Version) (edits : List Edit) → IsTextOf text version edits → IsAnswered command text answer → IsAnswerOf command version (graph edits) answer
+answer_spelled command text answer version edits spelled is =
+    let one = one_list text is.version version is.edits edits is.spelled spelled in
+    subst (λ (v : Version). IsAnswerOf command v (graph edits) answer) one.0
+    (subst (λ (list : List Edit). IsAnswerOf command is.version (graph list) answer) one.1 is.answered)
+
+-- texts of one version and the same graph get the same answer
+same_answer : (command : Command) (version : Version) (s t : List ℕ) (a b : List Edit) (x y : List ℕ) → IsSame (graph a) (graph b) → IsTextOf s version a → IsTextOf t version b
+    → IsAnswered command s x → IsAnswered command t y → x ≡ y
+same_answer command version s t a b x y same of_s of_t is_x is_y =
+    one_answer_of command version (graph b) x y
+    (answer_along command version (graph a) (graph b) x same (answer_spelled command s x version a of_s is_x))
+    (answer_spelled command t y version b of_t is_y)
 
 -- so do those that spell the same edits
-pub answered_alike : (command : Command) (a b : List Edit) (x y : List ℕ) → HasSameEdits a b → IsAnswered command (text_of a) x → IsAnswered command (text_of b) y → x ≡ y
-answered_alike command a b x y same = same_answer command a b x y (graph-same_edits a b same.0 same.1)
+pub answered_alike : (command : Command) (version : Version) (s t : List ℕ) (a b : List Edit) (x y : List ℕ) → IsTextOf s version a → IsTextOf t version b → HasSameEdits a b
+    → IsAnswered command s x → IsAnswered command t y → x ≡ y
+answered_alike command version s t a b x y of_s of_t same = same_answer command version s t a b x y (graph-same_edits a b same.0 same.1) of_s of_t
+
+-- and those of two versions, where the command writes none
+pub answered_across : (command : Command) (v w : Version) (s t : List ℕ) (a b : List Edit) (x y : List ℕ) → command ≢ Merge → IsTextOf s v a → IsTextOf t w b → HasSameEdits a b
+    → IsAnswered command s x → IsAnswered command t y → x ≡ y
+answered_across command v w s t a b x y not_merge of_s of_t same is_x is_y =
+    one_answer_of command w (graph b) x y
+    (answer_along command w (graph a) (graph b) x (graph-same_edits a b same.0 same.1)
+    (any_version command v w (graph a) x not_merge (answer_spelled command s x v a of_s is_x)))
+    (answer_spelled command t y w b of_t is_y)
 
 -- a text gets one answer
 one_answer : (command : Command) (text x y : List ℕ) → IsAnswered command text x → IsAnswered command text y → x ≡ y
-one_answer command text x y a b =
-    let told : (answer : List ℕ) → IsAnswered command text answer → IsAnswered command (text_of a.edits) answer =
-    λ answer is. subst (λ (t : List ℕ). IsAnswered command t answer) a.spelled is in
-    same_answer command a.edits a.edits x y (λ e. refl) (told x a) (told y b)
+one_answer command text x y a b = same_answer command a.version text text a.edits a.edits x y (λ e. refl) a.spelled a.spelled a b
 
 malformed_alike : (m n : ℕ) (f g : Fault) → m ≡ n → f ≡ g → (Malformed m f ≡ Malformed n g) × (malformed_text m f ≡ malformed_text n g)
 malformed_alike m n f g e d = (ap (λ k. Malformed k f) e ∙ ap (Malformed n) d, ap (λ k. malformed_text k f) e ∙ ap (malformed_text n) d)

@@ -9,7 +9,8 @@ use Rattle.grove_top.specs.declared.outcome.Status.TheVariants.{Done, Usage, Mal
 use Rattle.grove_top.specs.declared.command.Command.{Command}
 use Rattle.grove_top.specs.Words.{AreOf, AreOfNone}
 use Rattle.grove_edits.specs.declared.edit.Edit.{Edit}
-use Rattle.edit_text.specs.Text.{text_of}
+use Rattle.grove_sorts.specs.declared.version.Version.{Version}
+use Rattle.edit_text.specs.Whole.{IsTextOf}
 use Rattle.grove_top.specs.Due.{IsDue, IsCommandDue, IsFirstFault, usage_text, too_long_text}
 use Rattle.grove_top.proofs.OneDue.{no_fault}
 use Rattle.grove_top.specs.Meets.{Outside, Meets, IsReadFor}
@@ -96,19 +97,19 @@ gave_part : (told text : List ℕ) (left : Option (List ℕ)) → Gave (Some tol
 gave_part told text None gave = absurd cc
 gave_part told text (Some rest) gave = omega (arith, ap length (some_is told (text ++ rest) gave), length-append text rest)
 
-pub complete : (words : List (String Global)) (before after : Outside) (status : Status) (command : Command) (edits : List Edit) → Meets words before after status → AreOf command words
-    → before.left ≡ Some (text_of edits) → length (text_of edits) ≤ MOST_BYTES → ¬ HasRisen before.read_faults after.read_faults → ¬ HasRisen before.write_faults after.write_faults
-    → (status ≡ Done) ⊎ (status ≡ NoMemory)
-complete words before after Done command edits meets are told short no_read no_write = inl refl
-complete words before after Usage command edits meets are told short no_read no_write = absurd (meets.0.is_due.0 command are)
-complete words before after (Malformed line fault) command edits meets are told short no_read no_write =
+pub complete : (words : List (String Global)) (before after : Outside) (status : Status) (command : Command) (text : List ℕ) (version : Version) (edits : List Edit)
+    → Meets words before after status → AreOf command words → before.left ≡ Some text → IsTextOf text version edits → length text ≤ MOST_BYTES
+    → ¬ HasRisen before.read_faults after.read_faults → ¬ HasRisen before.write_faults after.write_faults → (status ≡ Done) ⊎ (status ≡ NoMemory)
+complete words before after Done command text version edits meets are told spelled short no_read no_write = inl refl
+complete words before after Usage command text version edits meets are told spelled short no_read no_write = absurd (meets.0.is_due.0 command are)
+complete words before after (Malformed line fault) command text version edits meets are told spelled short no_read no_write =
     let answers = meets.answers in
-    let all : text_of edits ≡ answers.text = gave_all (text_of edits) answers.text after.left (subst (λ left. Gave left answers.text after.left) told answers.gave) meets.at_end in
-    absurd (no_fault edits line fault (subst (λ (t : List ℕ). IsFirstFault t line fault) (sym all) answers.is_due.2.1))
-complete words before after TooLong command edits meets are told short no_read no_write =
-    let few : length meets.0.text ≤ length (text_of edits) = gave_part (text_of edits) meets.0.text after.left (subst (λ left. Gave left meets.0.text after.left) told meets.0.gave) in
+    let all : text ≡ answers.text = gave_all text answers.text after.left (subst (λ left. Gave left answers.text after.left) told answers.gave) meets.at_end in
+    absurd (no_fault text version edits line fault spelled (subst (λ (t : List ℕ). IsFirstFault t line fault) (sym all) answers.is_due.2.1))
+complete words before after TooLong command text version edits meets are told spelled short no_read no_write =
+    let few : length meets.0.text ≤ length text = gave_part text meets.0.text after.left (subst (λ left. Gave left meets.0.text after.left) told meets.0.gave) in
     let long = meets.1 in
     absurd (omega arith)
-complete words before after ReadFault command edits meets are told short no_read no_write = absurd (no_read meets.0)
-complete words before after WriteFault command edits meets are told short no_read no_write = absurd (no_write meets.failed)
-complete words before after NoMemory command edits meets are told short no_read no_write = inr refl
+complete words before after ReadFault command text version edits meets are told spelled short no_read no_write = absurd (no_read meets.0)
+complete words before after WriteFault command text version edits meets are told spelled short no_read no_write = absurd (no_write meets.failed)
+complete words before after NoMemory command text version edits meets are told spelled short no_read no_write = inr refl

@@ -4,7 +4,8 @@ use Rattle.std.specs.Prelude.{String, ◌≡◌, ℕ, ◌<◌, ◌≤◌, List, 
 use Rattle.grove_edits.specs.declared.edit.Edit.{Edit}
 use Rattle.grove_edits.specs.Graph.{Graph, graph}
 use Rattle.edit_text.specs.declared.line_fault.LineFault.TheVariants as lines
-use Rattle.edit_text.specs.Text.{text_of, IsMalformed, HasRest}
+use Rattle.grove_sorts.specs.declared.version.Version.{Version}
+use Rattle.edit_text.specs.Whole.{header, IsTextOf, IsMalformedText, HasTextRest}
 use Rattle.grove_answers.specs.Texts.{IsCanonicalText, IsPrintText, IsCheckText}
 use Rattle.grove_top.specs.declared.outcome.Fault.{Fault}
 use Rattle.grove_top.specs.declared.outcome.Fault.TheVariants.{Syntax, BadVertex, NoPosition, WrongSort, Rest}
@@ -35,23 +36,30 @@ malformed_text line fault = codes "malformed " ++ (decimal line ++ (codes " " ++
 
 -- the first line without a reading, and its first fault
 abbrev pub IsFirstFault : List ℕ → ℕ → Fault → Type 0
-IsFirstFault text line Syntax = IsMalformed text line lines.Syntax
-IsFirstFault text line BadVertex = IsMalformed text line lines.BadVertex
-IsFirstFault text line NoPosition = IsMalformed text line lines.NoPosition
-IsFirstFault text line WrongSort = IsMalformed text line lines.WrongSort
-IsFirstFault text line Rest = HasRest text line
+IsFirstFault text line Syntax = IsMalformedText text line lines.Syntax
+IsFirstFault text line BadVertex = IsMalformedText text line lines.BadVertex
+IsFirstFault text line NoPosition = IsMalformedText text line lines.NoPosition
+IsFirstFault text line WrongSort = IsMalformedText text line lines.WrongSort
+IsFirstFault text line Rest = HasTextRest text line
 
--- what a command makes of a graph
-abbrev pub IsAnswerOf : Command → Graph → List ℕ → Type 0
-IsAnswerOf Merge g answer = IsCanonicalText g answer
-IsAnswerOf Show g answer = IsPrintText g answer
-IsAnswerOf Check g answer = IsCheckText g answer
+-- the canonical text of a graph, behind the line that tells its version
+pub record IsMergeText (version : Version) (g : Graph) (text : List ℕ) : Type 0 where
+  pub canonical : List ℕ
+  pub is_canonical : IsCanonicalText g canonical
+  pub written : text ≡ header version ++ canonical
+
+-- what a command makes of a graph that was read in a version
+abbrev pub IsAnswerOf : Command → Version → Graph → List ℕ → Type 0
+IsAnswerOf Merge version g answer = IsMergeText version g answer
+IsAnswerOf Show version g answer = IsPrintText g answer
+IsAnswerOf Check version g answer = IsCheckText g answer
 
 -- what it makes of a text: its answer for the graph of the edits that the text spells
 pub record IsAnswered (command : Command) (text answer : List ℕ) : Type 0 where
+  pub version : Version
   pub edits : List Edit
-  pub spelled : text ≡ text_of edits
-  pub answered : IsAnswerOf command (graph edits) answer
+  pub spelled : IsTextOf text version edits
+  pub answered : IsAnswerOf command version (graph edits) answer
 
 -- how many bytes an input may have
 abbrev pub most_bytes : ℕ

@@ -1,11 +1,19 @@
 -- The canonical list of a text.
-use Rattle.std.specs.Prelude.{◌≡◌, ℕ, List}
+use Rattle.std.specs.Prelude.{ℕ, List}
+use Rattle.grove_sorts.specs.declared.version.Version.{Version}
 use Rattle.grove_edits.specs.declared.edit.Edit.{Edit}
 use Rattle.grove_edits.specs.Graph.{graph, IsCanonical}
-use Rattle.edit_text.specs.Text.{text_of}
+use Rattle.edit_text.specs.Text.{SpellsAll}
+use Rattle.edit_text.specs.Whole.{IsTextOf}
 
--- the list is the canonical one of the graph of the edits that the text spells
-pub record IsListOf (text : List ℕ) (list : List Edit) : Type 0 where
+-- the list is the canonical one of the graph of the edits that the lines spell
+pub record IsListOfLines (version : Version) (lines : List ℕ) (list : List Edit) : Type 0 where
   pub edits : List Edit
-  pub spelled : text ≡ text_of edits
+  pub spelled : SpellsAll version lines edits
+  pub canonical : IsCanonical (graph edits) list
+
+-- the text is of the version, and the list is the canonical one of the graph of the edits that it spells
+pub record IsListOf (text : List ℕ) (version : Version) (list : List Edit) : Type 0 where
+  pub edits : List Edit
+  pub spelled : IsTextOf text version edits
   pub canonical : IsCanonical (graph edits) list

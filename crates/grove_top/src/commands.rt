@@ -1,14 +1,15 @@
 ghost use Rattle.std.specs.Prelude.{◌≡◌, ◌≤◌, length, IfOk};
 ghost use Rattle.grove_edits.specs.Graph.{graph, Ascends};
-ghost use Rattle.grove_top.specs.Due.{IsCommandDue, IsAnswerOf, most_bytes, malformed_text, fault_word};
+ghost use Rattle.grove_top.specs.Due.{IsCommandDue, IsAnswerOf, IsMergeText, most_bytes, malformed_text, fault_word};
 
 use crate::command::Command;
 use crate::no_memory::NoMemory;
 use crate::outcome::{Fault, Status};
 use crate::reading::read_edits;
-use edit_text::TextFault;
-use grove_answers::{canonical_text, check_text, print_text};
+use edit_text::{TextFault, write_version};
+use grove_answers::{append_canonical_text, check_text, print_text};
 use grove_edits::EditList;
+use grove_sorts::Version;
 use std::alloc::Global;
 use text_parts::write_number;
 
@@ -25,8 +26,8 @@ pub(crate) fn form_due(alloc: Global, command: Command, text: &[u8]) -> Result<D
     ensures { IfOk result (λ due. IsCommandDue command text.now due.status due.text.items) }
 {
     match read_edits(alloc, text) {
-        Ok(edits) => {
-            let text = answer(alloc, command, edits)?;
+        Ok((version, edits)) => {
+            let text = answer(alloc, command, version, edits)?;
             Ok(Due {
                 status: Status::Done,
                 text,
@@ -38,15 +39,30 @@ pub(crate) fn form_due(alloc: Global, command: Command, text: &[u8]) -> Result<D
     }
 }
 
-fn answer(alloc: Global, command: Command, edits: EditList) -> Result<Vec<u8>, NoMemory>
+fn answer(
+    alloc: Global,
+    command: Command,
+    version: Version,
+    edits: EditList,
+) -> Result<Vec<u8>, NoMemory>
     requires { Ascends edits }
-    ensures { IfOk result (λ text. IsAnswerOf command (graph edits) text.items) }
+    ensures { IfOk result (λ text. IsAnswerOf command version (graph edits) text.items) }
 {
     Ok(match command {
-        Command::Merge => canonical_text(alloc, &edits)?,
+        Command::Merge => merge_text(alloc, version, &edits)?,
         Command::Show => print_text(alloc, edits)?,
         Command::Check => check_text(alloc, edits)?,
     })
+}
+
+fn merge_text(alloc: Global, version: Version, edits: &EditList) -> Result<Vec<u8>, NoMemory>
+    requires { Ascends edits.now }
+    ensures { IfOk result (λ text. IsMergeText version (graph edits.now) text.items) }
+{
+    let mut text = Vec::new(alloc);
+    write_version(version, &mut text)?;
+    append_canonical_text(edits, &mut text)?;
+    Ok(text)
 }
 
 fn malformed(alloc: Global, line: u64, fault: Fault) -> Result<Due, NoMemory>

@@ -1,9 +1,11 @@
 ghost use Rattle.std.specs.declared.alloc.Global.{Global};
-ghost use Rattle.std.specs.Prelude.{String, ◌≡◌, List, ℕ};
+ghost use Rattle.std.specs.Prelude.{String, ◌≡◌, ◌≢◌, List, ℕ};
 ghost use Rattle.grove_edits.specs.declared.edit.Edit.{Edit};
 ghost use Rattle.grove_edits.specs.Graph.{HasSameEdits};
-ghost use Rattle.edit_text.specs.Text.{text_of};
+ghost use Rattle.grove_sorts.specs.declared.version.Version.{Version};
+ghost use Rattle.edit_text.specs.Whole.{IsTextOf};
 ghost use Rattle.grove_top.specs.declared.command.Command.{Command};
+ghost use Rattle.grove_top.specs.declared.command.Command.TheVariants.{Merge};
 ghost use Rattle.grove_top.specs.declared.outcome.Status.{Status};
 ghost use Rattle.grove_top.specs.Due.{IsDue, IsAnswered};
 
@@ -12,7 +14,10 @@ pub fn one_text_is_due()
     ensures one { (words : List (String Global)) (text : List ℕ) (s t : Status) (x y : List ℕ) → IsDue words text s x → IsDue words text t y → (s ≡ t) × (x ≡ y) }
 {}
 
-/// Law: texts that spell the same edits, in any order and with any repeats, get the same answer from each command.
+/// Law: texts of one version that spell the same edits, in any order and with any repeats, get the same answer from each command; from `show` and `check` those of two versions do too.
 pub fn same_edits_same_text()
-    ensures { (command : Command) (a b : List Edit) (x y : List ℕ) → HasSameEdits a b → IsAnswered command (text_of a) x → IsAnswered command (text_of b) y → x ≡ y }
+    ensures one_version { (command : Command) (version : Version) (s t : List ℕ) (a b : List Edit) (x y : List ℕ) → IsTextOf s version a → IsTextOf t version b
+        → HasSameEdits a b → IsAnswered command s x → IsAnswered command t y → x ≡ y }
+    ensures any_version { (command : Command) (v w : Version) (s t : List ℕ) (a b : List Edit) (x y : List ℕ) → command ≢ Merge → IsTextOf s v a → IsTextOf t w b
+        → HasSameEdits a b → IsAnswered command s x → IsAnswered command t y → x ≡ y }
 {}

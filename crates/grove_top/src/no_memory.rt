@@ -38,6 +38,12 @@ impl From<grove_io::NoMemory> for NoMemory {
     }
 }
 
+impl From<grove_sorts::NoMemory> for NoMemory {
+    fn from(_error: grove_sorts::NoMemory) -> NoMemory {
+        NoMemory
+    }
+}
+
 impl From<grove_edits::NoMemory> for NoMemory {
     fn from(_error: grove_edits::NoMemory) -> NoMemory {
         NoMemory

@@ -1,7 +1,8 @@
 ghost use Rattle.std.specs.Prelude.{◌≡◌, ◌≢◌, ◌⊎◌, ◌<◌, ◌≤◌, ◌↔◌, ℕ, List, [], ◌∷◌, Some, length, take, map, string_bytes, IsTrue, IfSome, IfNone};
 ghost use Rattle.grove_io.specs.Outside.{HasRisen, Gave, Took};
 ghost use Rattle.grove_edits.specs.declared.edit.Edit.{Edit};
-ghost use Rattle.edit_text.specs.Text.{text_of};
+ghost use Rattle.grove_sorts.specs.declared.version.Version.{Version};
+ghost use Rattle.edit_text.specs.Whole.{IsTextOf};
 ghost use Rattle.grove_top.specs.declared.command.Command.{Command};
 ghost use Rattle.grove_top.specs.Words.{AreOf, AreOfNone};
 ghost use Rattle.grove_top.specs.Due.{IsDue, most_bytes, usage_text, too_long_text};
@@ -35,7 +36,8 @@ pub fn run<S: Source, K: Sink>(
     ensures reads_nothing { AreOfNone words.now → source.new ≡ source.old }
 
     // A good input is answered, unless the outside fails or memory runs out.
-    ensures complete { (command : Command) (edits : List Edit) → AreOf command words.now → S.left source.old ≡ Some (text_of edits) → length (text_of edits) ≤ most_bytes
+    ensures complete { (command : Command) (text : List ℕ) (version : Version) (edits : List Edit) → AreOf command words.now
+        → S.left source.old ≡ Some text → IsTextOf text version edits → length text ≤ most_bytes
         → ¬ HasRisen (S.faults source.old) (S.faults source.new) → ¬ HasRisen (K.faults sink.old) (K.faults sink.new)
         → (result.status ≡ Status.Done) ⊎ (result.status ≡ Status.NoMemory) }
 

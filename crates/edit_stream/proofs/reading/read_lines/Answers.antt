@@ -6,14 +6,14 @@ use Rattle.edit_stream.proofs.reading.read_lines.Goals as goal
 
 pub returns-in-Err : goal.returns-in-Err
 returns-in-Err c = record {
-  reads = stops_first c.args.kept.now c.args.end.now c.args.rest.now c.stopped.result.kept.items c.stopped.result.edits c.stopped.result.fault c.in-Err.fault c.requires.one_line
-      (subst (λ r. IfErr r (HasFault (c.args.kept.now ++ c.args.end.now))) c.in-Err.is c.in_ok-fault.ensures.first_fault)
+  reads = stops_first c.args.version c.args.kept.now c.args.end.now c.args.rest.now c.stopped.result.kept.items c.stopped.result.edits c.stopped.result.fault c.in-Err.fault c.requires.one_line
+      (subst (λ r. IfErr r (HasFault c.args.version (c.args.kept.now ++ c.args.end.now))) c.in-Err.is c.in_ok-fault.ensures.first_fault)
       (c.stopped.ensures.edits ∙ c.new-edits.ensures.empty) c.stopped.ensures.nothing c.stopped.ensures.fault;
 }
 
 pub returns-in_ok-push-in-Ok : goal.returns-in_ok-push-in-Ok
 returns-in_ok-push-in-Ok c =
-    rw (first_read c.args.kept.now c.args.end.now c.args.rest.now c.push.new.self c.in-Ok.edit
-    (subst (λ r. IfOk r (Spells (c.args.kept.now ++ c.args.end.now))) c.in-Ok.is c.in_ok-fault.ensures.edit)
+    rw (first_read c.args.version c.args.kept.now c.args.end.now c.args.rest.now c.push.new.self c.in-Ok.edit
+    (subst (λ r. IfOk r (Spells c.args.version (c.args.kept.now ++ c.args.end.now))) c.in-Ok.is c.in_ok-fault.ensures.edit)
     (c.in_ok-push-in-Ok.ensures.appended ∙ ap (λ (es : List Edit). es ++ c.in-Ok.edit ∷ []) c.new-edits.ensures.empty))
     c.read_more_lines.ensures

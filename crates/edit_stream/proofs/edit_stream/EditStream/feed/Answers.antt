@@ -13,4 +13,4 @@ pub returns-in_ok-extend_from_slice-in-None-clause-fed :
 returns-in_ok-extend_from_slice-in-None-clause-fed c =
     let good : c.self.inside.fault ≡ None = c.in_default.is in
     let fits : c.self.inside.lines < 2 ^ 64 = omega (arith, c.self.ranges) in
-    rw (← c.self.view_is) (keeps _ _ c.args.piece.now c.args.out.now good fits c.in_ok-extend_from_slice-in-None.ensures.items refl good c.self.invariant c.in-None.ensures.none)
+    rw (← c.self.view_is) (keeps _ _ c.args.piece.now c.args.out.now good fits c.in_ok-extend_from_slice-in-None.ensures.items refl good refl c.self.invariant c.in-None.ensures.none)
