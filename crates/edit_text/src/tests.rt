@@ -58,3 +58,46 @@ fn lines_are_read_and_written(rt: HostRuntime) -> Result<(), Fail> {
     );
     Ok(())
 }
+
+#[test]
+fn version_one_reads_neither_let_nor_long_identifiers(rt: HostRuntime) {
+    for line in [
+        b"+1.2 0.0 root main 1.1 let".as_slice(),
+        b"+1.2 1.1 let def 1.3 true".as_slice(),
+        b"+1.2 1.1 lam def 1.3 true".as_slice(),
+        b"+1.2 0.0 root main 1.1 var:a2345678901234567890123456789_323".as_slice(),
+    ] {
+        assert!(rt; read_line(Version::One, line) == Err(LineFault::Syntax));
+        assert!(rt; read_line(Version::Two, line) != Err(LineFault::Syntax));
+    }
+}
+
+#[test]
+fn a_text_tells_its_version_in_its_first_line(rt: HostRuntime) -> Result<(), Fail> {
+    for (text, version, lines) in [
+        (b"".as_slice(), Version::One, b"".as_slice()),
+        (b"grove 2\n".as_slice(), Version::Two, b"".as_slice()),
+        (b"grove 2".as_slice(), Version::One, b"grove 2".as_slice()),
+        (
+            b"grove 2 \n".as_slice(),
+            Version::One,
+            b"grove 2 \n".as_slice(),
+        ),
+        (
+            b"grove 2\ngrove 2\n".as_slice(),
+            Version::Two,
+            b"grove 2\n".as_slice(),
+        ),
+    ] {
+        let (told, rest) = split_version(text);
+        assert_eq!(rt; told, version);
+        assert_eq!(rt; rest, lines);
+    }
+    assert!(rt; read_line(Version::Two, b"grove 2") == Err(LineFault::Syntax));
+    let mut out = Vec::new(rt.alloc());
+    write_version(Version::One, &mut out)?;
+    assert!(rt; out.is_empty());
+    write_version(Version::Two, &mut out)?;
+    assert_eq!(rt; out.as_slice(), b"grove 2\n".as_slice());
+    Ok(())
+}

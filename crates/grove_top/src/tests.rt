@@ -142,6 +142,57 @@ fn written(alloc: Global, word: &str, text: &[u8]) -> Result<Vec<u8>, Fail> {
     }
 }
 
+const BOUND: &[u8] = b"grove 2
++1.2 0.0 root main 1.1 let
++1.4 1.1 let param 1.3 pvar:x
++1.6 1.1 let def 1.5 num:7
++1.8 1.1 let body 1.7 var:x
+";
+
+#[test]
+fn merge_writes_the_version_of_its_input(rt: HostRuntime) -> Result<(), Fail> {
+    let alloc = rt.alloc();
+    let text = written(alloc, "merge", BOUND)?;
+    assert_eq!(rt; text.as_slice(), BOUND);
+    let text = written(alloc, "merge", b"grove 2\n")?;
+    assert_eq!(rt; text.as_slice(), b"grove 2\n".as_slice());
+    let shown = written(alloc, "show", BOUND)?;
+    assert_eq!(rt;
+        shown.as_slice(),
+        b"none 1
+0 - - 0.0 root top - -
+1 main 1.2 1.1 let syn num -
+2 param 1.4 1.3 pvar:x pat - -
+2 def 1.6 1.5 num:7 syn num -
+2 body 1.8 1.7 var:x syn num -
+multi 0
+cycle 0
+"
+            .as_slice()
+    );
+    Ok(())
+}
+
+#[test]
+fn lines_are_counted_with_that_of_the_version(rt: HostRuntime) -> Result<(), Fail> {
+    for (text, line, fault) in [
+        (BOUND.get(8..).ok_or("the lines")?, 1, Fault::Syntax),
+        (b"grove 2".as_slice(), 1, Fault::Rest),
+        (b"grove 2\ngrove 2\n".as_slice(), 2, Fault::Syntax),
+        (b"grove 2\n+".as_slice(), 2, Fault::Rest),
+        (
+            b"grove 2\n+1.2 0.0 root def 1.1 true\n".as_slice(),
+            2,
+            Fault::NoPosition,
+        ),
+        (b"+1.2 0.0 root def 1.1 true\n".as_slice(), 1, Fault::Syntax),
+    ] {
+        let (status, _) = merged(rt.alloc(), text, 0, 0)?;
+        assert_eq!(rt; status, Status::Malformed { line, fault });
+    }
+    Ok(())
+}
+
 const APPLIED: &[u8] = b"+1.2 0.0 root main 1.1 ap
 +1.4 1.1 ap fun 1.3 lam
 +1.6 1.3 lam type 1.5 tnum
