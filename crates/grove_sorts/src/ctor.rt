@@ -29,28 +29,3 @@ pub enum Ctor {
     Case,
     TSum,
 }
-
-impl Ctor {
-    // The constructors with neither an identifier nor a literal.
-    pub(crate) const PLAIN: [Ctor; 19] = [
-        Ctor::Root,
-        Ctor::Lam,
-        Ctor::Ap,
-        Ctor::Plus,
-        Ctor::LitTrue,
-        Ctor::LitFalse,
-        Ctor::Choose,
-        Ctor::Pair,
-        Ctor::Fst,
-        Ctor::Snd,
-        Ctor::TNum,
-        Ctor::TBool,
-        Ctor::TArrow,
-        Ctor::TProd,
-        Ctor::Let,
-        Ctor::Inl,
-        Ctor::Inr,
-        Ctor::Case,
-        Ctor::TSum,
-    ];
-}

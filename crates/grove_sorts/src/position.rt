@@ -24,31 +24,3 @@ pub enum Position {
     RightParam,
     RightBody,
 }
-
-impl Position {
-    /// Every position, in the order of the table.
-    pub const ALL: [Position; 22] = [
-        Position::Main,
-        Position::Param,
-        Position::Annot,
-        Position::Def,
-        Position::Body,
-        Position::Fun,
-        Position::Arg,
-        Position::Left,
-        Position::Right,
-        Position::Test,
-        Position::WhenTrue,
-        Position::WhenFalse,
-        Position::First,
-        Position::Second,
-        Position::Operand,
-        Position::Dom,
-        Position::Cod,
-        Position::On,
-        Position::LeftParam,
-        Position::LeftBody,
-        Position::RightParam,
-        Position::RightBody,
-    ];
-}

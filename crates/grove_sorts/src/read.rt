@@ -12,7 +12,6 @@ use crate::ctor::Ctor;
 use crate::ident::{Ident, IdentFault};
 use crate::position::Position;
 use crate::version::{Version, knows_ctor, knows_position, longest_identifier};
-use crate::write::{keyword, position_word};
 use text_parts::read_number;
 
 /// Reads an identifier of the version: a lower-case letter, then lower-case letters, digits and underscores, up to 32 bytes in version one and up to 64 in version two.
@@ -64,23 +63,14 @@ fn read_any_ctor(bytes: &[u8]) -> Option<Ctor>
     ensures in_range { IfSome result InRange }
     ensures none { IfNone result ((ctor : Ctor) → InRange ctor → bytes.now ≢ ctor_text ctor) }
 {
-    if let Some(name) = after_word(bytes, b"var:") {
-        return read_ident(Version::Two, name).ok().map(Ctor::Var);
+    match bytes {
+        [b'v', b'a', b'r', b':', name @ ..] => read_ident(Version::Two, name).ok().map(Ctor::Var),
+        [b'p', b'v', b'a', b'r', b':', name @ ..] => {
+            read_ident(Version::Two, name).ok().map(Ctor::PVar)
+        }
+        [b'n', b'u', b'm', b':', digits @ ..] => read_number(digits).map(Ctor::Num),
+        _ => read_plain(bytes),
     }
-    if let Some(digits) = after_word(bytes, b"num:") {
-        return read_number(digits).map(Ctor::Num);
-    }
-    if let Some(name) = after_word(bytes, b"pvar:") {
-        return read_ident(Version::Two, name).ok().map(Ctor::PVar);
-    }
-    read_plain(bytes)
-}
-
-fn after_word<'a>(bytes: &'a [u8], word: &[u8]) -> Option<&'a [u8]>
-    ensures found { IfSome result (λ rest. bytes.now ≡ word.now ++ rest.now) }
-    ensures none { IfNone result ((rest : List ℕ) → bytes.now ≢ word.now ++ rest) }
-{
-    bytes.strip_prefix(word)
 }
 
 fn read_plain(bytes: &[u8]) -> Option<Ctor>
@@ -88,12 +78,28 @@ fn read_plain(bytes: &[u8]) -> Option<Ctor>
     ensures plain { IfSome result IsPlain }
     ensures none { IfNone result ((ctor : Ctor) → IsPlain ctor → bytes.now ≢ ctor_text ctor) }
 {
-    for ctor in &Ctor::PLAIN {
-        if bytes == keyword(ctor) {
-            return Some(*ctor);
-        }
+    match bytes {
+        b"root" => Some(Ctor::Root),
+        b"lam" => Some(Ctor::Lam),
+        b"ap" => Some(Ctor::Ap),
+        b"plus" => Some(Ctor::Plus),
+        b"true" => Some(Ctor::LitTrue),
+        b"false" => Some(Ctor::LitFalse),
+        b"if" => Some(Ctor::Choose),
+        b"pair" => Some(Ctor::Pair),
+        b"fst" => Some(Ctor::Fst),
+        b"snd" => Some(Ctor::Snd),
+        b"tnum" => Some(Ctor::TNum),
+        b"tbool" => Some(Ctor::TBool),
+        b"tarrow" => Some(Ctor::TArrow),
+        b"tprod" => Some(Ctor::TProd),
+        b"let" => Some(Ctor::Let),
+        b"inl" => Some(Ctor::Inl),
+        b"inr" => Some(Ctor::Inr),
+        b"case" => Some(Ctor::Case),
+        b"tsum" => Some(Ctor::TSum),
+        _ => None,
     }
-    None
 }
 
 /// Reads the word of a position of the version.
@@ -110,10 +116,29 @@ fn read_any_position(bytes: &[u8]) -> Option<Position>
     ensures found { IfSome result (λ position. bytes.now ≡ position_text position) }
     ensures none { IfNone result ((position : Position) → bytes.now ≢ position_text position) }
 {
-    for position in &Position::ALL {
-        if bytes == position_word(*position) {
-            return Some(*position);
-        }
+    match bytes {
+        b"main" => Some(Position::Main),
+        b"param" => Some(Position::Param),
+        b"type" => Some(Position::Annot),
+        b"def" => Some(Position::Def),
+        b"body" => Some(Position::Body),
+        b"fun" => Some(Position::Fun),
+        b"arg" => Some(Position::Arg),
+        b"left" => Some(Position::Left),
+        b"right" => Some(Position::Right),
+        b"cond" => Some(Position::Test),
+        b"then" => Some(Position::WhenTrue),
+        b"else" => Some(Position::WhenFalse),
+        b"first" => Some(Position::First),
+        b"second" => Some(Position::Second),
+        b"of" => Some(Position::Operand),
+        b"from" => Some(Position::Dom),
+        b"to" => Some(Position::Cod),
+        b"on" => Some(Position::On),
+        b"lparam" => Some(Position::LeftParam),
+        b"lbody" => Some(Position::LeftBody),
+        b"rparam" => Some(Position::RightParam),
+        b"rbody" => Some(Position::RightBody),
+        _ => None,
     }
-    None
 }
