@@ -1,3 +1,4 @@
 pub mod ScopeLemmas
 pub mod RowLemmas
 pub mod NodeLemmas
+pub mod Positions

@@ -2,25 +2,32 @@
 use Rattle.std.proofs.Common.{◌≡◌, ◌≢◌, Bool, true, false, List, [], ◌∷◌, ◌++◌, length, Option, None, Some, is_some, unwrap_or, refl, sym, ap, subst, ◌∙◌, if◌then◌else◌, arith}
 use Rattle.std.specs.Option.{option_map}
 use Rattle.grove_sorts.specs.declared.ctor.Ctor.{Ctor}
-use Rattle.grove_sorts.specs.declared.ctor.Ctor.TheVariants.{Root, Var, Lam, Ap, Num, Plus, LitTrue, LitFalse, Choose, Pair, Fst, Snd, PVar, TNum, TBool, TArrow, TProd}
+use Rattle.grove_sorts.specs.declared.ctor.Ctor.TheVariants.{Root, Var, Lam, Ap, Num, Plus, LitTrue, LitFalse, Choose, Pair, Fst, Snd, PVar, TNum, TBool, TArrow, TProd, Let, Inl, Inr, Case, TSum}
 use Rattle.grove_sorts.specs.declared.sort.Sort.TheVariants.{Exp}
 use Rattle.grove_sorts.specs.Ctor.{sort_of_ctor}
-use Rattle.type_core.specs.declared.former.Former.TheVariants.{Arrow, Product}
+use Rattle.type_core.specs.declared.former.Former.TheVariants.{Arrow, Product, Sum}
 use Rattle.type_core.specs.Typ.{Typ, matched_parts, is_consistent, meet}
 use Rattle.type_core.specs.Typ as typ
 use Rattle.type_core.proofs.TypLemmas.{meet-inconsistent, is_some-meet}
 use Rattle.mark_step.specs.declared.node.Mark.{Mark}
 use Rattle.mark_step.specs.declared.node.Mark.TheVariants as mark
-use Rattle.mark_step.specs.Scope.{Scope, type_of_name}
+use Rattle.mark_step.specs.Scope.{Scope, type_of_name, bind}
 use Rattle.mark_step.specs.Expression.{Wanted, Synthesise, Analyse, Bound, Expression, Marked, marked, body_scope}
-use Rattle.mark_step.specs.Step.{wanted_next, or_mark, synthesised, analysed, against, mark_against, function_mark, pair_mark, settled}
-use Rattle.mark_step.specs.Rows.{Judgement, syn, ana, Synthesises, syn_var, syn_var_free, syn_lam, syn_ap, syn_ap_not_arrow, syn_num, syn_plus, syn_true, syn_false, syn_if, syn_if_branches, syn_pair, syn_fst, syn_fst_not_product, syn_snd, syn_snd_not_product, IsOther, Analyses, ana_lam, ana_lam_ascription, ana_lam_against, ana_if, ana_pair, ana_pair_against, ana_marked, ana_inconsistent, ana_other, Follows, FollowsAs, child_types, judgements_after, judgements, expression_count}
+use Rattle.mark_step.specs.Step.{wanted_next, or_mark, synthesised, analysed, against, mark_against, function_mark, unless_matched, case_result, settled}
+use Rattle.mark_step.specs.Rows.{Judgement, syn, ana, Synthesises, syn_var, syn_var_free, syn_lam, syn_ap, syn_ap_not_arrow, syn_num, syn_plus, syn_true, syn_false, syn_if, syn_if_branches, syn_pair, syn_fst, syn_fst_not_product, syn_snd, syn_snd_not_product, syn_let, syn_inl, syn_inr, syn_case, syn_case_not_sum, syn_case_branches, IsOther, Analyses, ana_lam, ana_lam_ascription, ana_lam_against, ana_if, ana_pair, ana_pair_against, ana_let, ana_inl, ana_inl_against, ana_inr, ana_inr_against, ana_case, ana_case_not_sum, ana_marked, ana_inconsistent, ana_other, Follows, FollowsAs, child_types, judgements_after, judgements, expression_count}
 
 abbrev expression : Ctor → Scope → Bound → Wanted → Expression
 expression ctor scope b w = record { ctor = ctor; scope = scope; wanted = w; bound = b }
 
 abbrev known : Option (Typ × Typ) → Typ × Typ
 known o = unwrap_or o (typ.Unknown, typ.Unknown)
+
+-- the children of a case, by the parts of what it takes apart
+abbrev case_children : Scope → Bound → Wanted → Typ → Typ → Typ → Option (Typ × Typ) → List Judgement
+case_children scope b w on when_left when_right o =
+    syn scope on
+    ∷ record { scope = bind b.name (known o).0 scope; wanted = w; typ = when_left }
+    ∷ record { scope = bind b.second (known o).1 scope; wanted = w; typ = when_right } ∷ []
 
 -- a row of synthesis demands what the functions do
 synthesis_demands : (scope : Scope) (b : Bound) (ctor : Ctor) (js : List Judgement) (t : Typ) (m : Mark)
@@ -41,6 +48,12 @@ synthesis_demands scope b ctor js t m (syn_fst of first second h) = refl
 synthesis_demands scope b ctor js t m (syn_fst_not_product of h) = refl
 synthesis_demands scope b ctor js t m (syn_snd of first second h) = refl
 synthesis_demands scope b ctor js t m (syn_snd_not_product of h) = refl
+synthesis_demands scope b ctor js t m (syn_let definition body) = refl
+synthesis_demands scope b ctor js t m (syn_inl of) = refl
+synthesis_demands scope b ctor js t m (syn_inr of) = refl
+synthesis_demands scope b ctor js t m (syn_case on left right when_left when_right both h e) = ap (case_children scope b Synthesise on when_left when_right) (sym h)
+synthesis_demands scope b ctor js t m (syn_case_not_sum on when_left when_right h) = ap (case_children scope b Synthesise on when_left when_right) (sym h)
+synthesis_demands scope b ctor js t m (syn_case_branches on left right when_left when_right h e) = ap (case_children scope b Synthesise on when_left when_right) (sym h)
 
 -- a row of synthesis gives what the functions give
 synthesis_gives : (scope : Scope) (b : Bound) (ctor : Ctor) (js : List Judgement) (t : Typ) (m : Mark)
@@ -61,12 +74,24 @@ synthesis_gives scope b ctor js t m (syn_fst of first second h) = ap (λ (o : Op
 synthesis_gives scope b ctor js t m (syn_fst_not_product of h) = ap (λ (o : Option (Typ × Typ)). or_mark (option_map (λ p. p.0) o) mark.NotProduct) (sym h)
 synthesis_gives scope b ctor js t m (syn_snd of first second h) = ap (λ (o : Option (Typ × Typ)). or_mark (option_map (λ p. p.1) o) mark.NotProduct) (sym h)
 synthesis_gives scope b ctor js t m (syn_snd_not_product of h) = ap (λ (o : Option (Typ × Typ)). or_mark (option_map (λ p. p.1) o) mark.NotProduct) (sym h)
+synthesis_gives scope b ctor js t m (syn_let definition body) = refl
+synthesis_gives scope b ctor js t m (syn_inl of) = refl
+synthesis_gives scope b ctor js t m (syn_inr of) = refl
+synthesis_gives scope b ctor js t m (syn_case on left right when_left when_right both h e) =
+    ap (λ o. or_mark o mark.Branches) (sym e) ∙ ap (λ o. case_result o (meet when_left when_right)) (sym h)
+synthesis_gives scope b ctor js t m (syn_case_not_sum on when_left when_right h) = ap (λ o. case_result o (meet when_left when_right)) (sym h)
+synthesis_gives scope b ctor js t m (syn_case_branches on left right when_left when_right h e) =
+    ap (λ o. or_mark o mark.Branches) (sym (meet-inconsistent when_left when_right e)) ∙ ap (λ o. case_result o (meet when_left when_right)) (sym h)
 
 -- of the children of other constructors the same is wanted in analysis as in synthesis
 wanted_next-other : (ctor : Ctor) (t : Typ) (before : List Typ) → IsOther ctor → wanted_next ctor Synthesise before ≡ wanted_next ctor (Analyse t) before
 wanted_next-other Lam t before other = absurd other
 wanted_next-other Choose t before other = absurd other
 wanted_next-other Pair t before other = absurd other
+wanted_next-other Let t before other = absurd other
+wanted_next-other Inl t before other = absurd other
+wanted_next-other Inr t before other = absurd other
+wanted_next-other Case t before other = absurd other
 wanted_next-other _ t before other = refl
 
 judgements_after-other : (ctor : Ctor) (scope : Scope) (b : Bound) (t : Typ) (before ts : List Typ) → IsOther ctor
@@ -82,6 +107,10 @@ analysed-other : (ctor : Ctor) (scope : Scope) (b : Bound) (t : Typ) (done : Lis
 analysed-other Lam scope b t done other = absurd other
 analysed-other Choose scope b t done other = absurd other
 analysed-other Pair scope b t done other = absurd other
+analysed-other Let scope b t done other = absurd other
+analysed-other Inl scope b t done other = absurd other
+analysed-other Inr scope b t done other = absurd other
+analysed-other Case scope b t done other = absurd other
 analysed-other _ scope b t done other = refl
 
 other_demands : (scope : Scope) (b : Bound) (t : Typ) (ctor : Ctor) (js : List Judgement) (s : Typ) (m : Mark) → IsOther ctor
@@ -98,6 +127,13 @@ analysis_demands scope b t ctor js s m (ana_lam_against body h) = ap (λ o. ana 
 analysis_demands scope b t ctor js s m (ana_if test when_true when_false) = refl
 analysis_demands scope b t ctor js s m (ana_pair left right first second h) = ap (λ o. ana scope (known o).0 first ∷ ana scope (known o).1 second ∷ []) (sym h)
 analysis_demands scope b t ctor js s m (ana_pair_against first second h) = ap (λ o. ana scope (known o).0 first ∷ ana scope (known o).1 second ∷ []) (sym h)
+analysis_demands scope b t ctor js s m (ana_let definition body) = refl
+analysis_demands scope b t ctor js s m (ana_inl left right of h) = ap (λ o. ana scope (known o).0 of ∷ []) (sym h)
+analysis_demands scope b t ctor js s m (ana_inl_against of h) = ap (λ o. ana scope (known o).0 of ∷ []) (sym h)
+analysis_demands scope b t ctor js s m (ana_inr left right of h) = ap (λ o. ana scope (known o).1 of ∷ []) (sym h)
+analysis_demands scope b t ctor js s m (ana_inr_against of h) = ap (λ o. ana scope (known o).1 of ∷ []) (sym h)
+analysis_demands scope b t ctor js s m (ana_case on left right when_left when_right h) = ap (case_children scope b (Analyse t) on when_left when_right) (sym h)
+analysis_demands scope b t ctor js s m (ana_case_not_sum on when_left when_right h) = ap (case_children scope b (Analyse t) on when_left when_right) (sym h)
 analysis_demands scope b t ctor js s m (ana_marked _ _ _ _ other r ne) = other_demands scope b t ctor js s m other r
 analysis_demands scope b t ctor js s m (ana_inconsistent _ _ _ other r differ) = other_demands scope b t ctor js s mark.None other r
 analysis_demands scope b t ctor js s m (ana_other _ _ _ other r same) = other_demands scope b t ctor js s mark.None other r
@@ -112,6 +148,8 @@ mark_against-marked mark.LamAgainst same ne = refl
 mark_against-marked mark.Ascription same ne = refl
 mark_against-marked mark.PairAgainst same ne = refl
 mark_against-marked mark.Inconsistent same ne = refl
+mark_against-marked mark.NotSum same ne = refl
+mark_against-marked mark.InjAgainst same ne = refl
 
 other_gives : (scope : Scope) (b : Bound) (t : Typ) (ctor : Ctor) (js : List Judgement) (s : Typ) (m n : Mark) → IsOther ctor
     → Synthesises scope b ctor js s m → n ≡ mark_against m (is_consistent s t) → marked s n ≡ analysed ctor scope b t (child_types js)
@@ -129,8 +167,15 @@ analysis_gives scope b t ctor js s m (ana_lam_ascription from to body h differ) 
     ap (λ consistent. marked t (if consistent then mark.None else mark.Ascription)) (sym differ) ∙ ap (λ o. marked t (function_mark b.typ o)) (sym h)
 analysis_gives scope b t ctor js s m (ana_lam_against body h) = ap (λ o. marked t (function_mark b.typ o)) (sym h)
 analysis_gives scope b t ctor js s m (ana_if test when_true when_false) = refl
-analysis_gives scope b t ctor js s m (ana_pair left right first second h) = ap (λ o. marked t (pair_mark o)) (sym h)
-analysis_gives scope b t ctor js s m (ana_pair_against first second h) = ap (λ o. marked t (pair_mark o)) (sym h)
+analysis_gives scope b t ctor js s m (ana_pair left right first second h) = ap (λ o. marked t (unless_matched mark.PairAgainst o)) (sym h)
+analysis_gives scope b t ctor js s m (ana_pair_against first second h) = ap (λ o. marked t (unless_matched mark.PairAgainst o)) (sym h)
+analysis_gives scope b t ctor js s m (ana_let definition body) = refl
+analysis_gives scope b t ctor js s m (ana_inl left right of h) = ap (λ o. marked t (unless_matched mark.InjAgainst o)) (sym h)
+analysis_gives scope b t ctor js s m (ana_inl_against of h) = ap (λ o. marked t (unless_matched mark.InjAgainst o)) (sym h)
+analysis_gives scope b t ctor js s m (ana_inr left right of h) = ap (λ o. marked t (unless_matched mark.InjAgainst o)) (sym h)
+analysis_gives scope b t ctor js s m (ana_inr_against of h) = ap (λ o. marked t (unless_matched mark.InjAgainst o)) (sym h)
+analysis_gives scope b t ctor js s m (ana_case on left right when_left when_right h) = ap (λ o. marked t (unless_matched mark.NotSum o)) (sym h)
+analysis_gives scope b t ctor js s m (ana_case_not_sum on when_left when_right h) = ap (λ o. marked t (unless_matched mark.NotSum o)) (sym h)
 analysis_gives scope b t ctor js s m (ana_marked _ _ _ _ other r ne) =
     other_gives scope b t ctor js s m m other r (mark_against-marked m (is_consistent s t) ne)
 analysis_gives scope b t ctor js s m (ana_inconsistent _ _ _ other r differ) =
@@ -200,11 +245,37 @@ synthesis_by_row Snd scope b (of ∷ []) exp h = by (matched_parts Product of) r
     by (Some p) e = syn_snd of p.0 p.1 e
     by None e = syn_snd_not_product of e
 synthesis_by_row Snd scope b (_ ∷ _ ∷ ts) exp h = absurd (omega arith)
+synthesis_by_row Let scope b [] exp h = absurd (omega arith)
+synthesis_by_row Let scope b (_ ∷ []) exp h = absurd (omega arith)
+synthesis_by_row Let scope b (definition ∷ body ∷ []) exp h = syn_let definition body
+synthesis_by_row Let scope b (_ ∷ _ ∷ _ ∷ ts) exp h = absurd (omega arith)
+synthesis_by_row Inl scope b [] exp h = absurd (omega arith)
+synthesis_by_row Inl scope b (of ∷ []) exp h = syn_inl of
+synthesis_by_row Inl scope b (_ ∷ _ ∷ ts) exp h = absurd (omega arith)
+synthesis_by_row Inr scope b [] exp h = absurd (omega arith)
+synthesis_by_row Inr scope b (of ∷ []) exp h = syn_inr of
+synthesis_by_row Inr scope b (_ ∷ _ ∷ ts) exp h = absurd (omega arith)
+synthesis_by_row Case scope b [] exp h = absurd (omega arith)
+synthesis_by_row Case scope b (_ ∷ []) exp h = absurd (omega arith)
+synthesis_by_row Case scope b (_ ∷ _ ∷ []) exp h = absurd (omega arith)
+synthesis_by_row Case scope b (on ∷ when_left ∷ when_right ∷ []) exp h = by (matched_parts Sum on) refl
+  where
+    with_parts : (p : Typ × Typ) → matched_parts Sum on ≡ Some p → (o : Option Typ) → meet when_left when_right ≡ o
+        → Synthesises scope b Case (case_children scope b Synthesise on when_left when_right (Some p)) (or_mark o mark.Branches).typ (or_mark o mark.Branches).mark
+    with_parts p e (Some both) same = syn_case on p.0 p.1 when_left when_right both e same
+    with_parts p e None same = syn_case_branches on p.0 p.1 when_left when_right e (sym (is_some-meet when_left when_right) ∙ ap is_some same)
+
+    by : (o : Option (Typ × Typ)) → matched_parts Sum on ≡ o
+        → Synthesises scope b Case (case_children scope b Synthesise on when_left when_right o) (case_result o (meet when_left when_right)).typ (case_result o (meet when_left when_right)).mark
+    by (Some p) e = with_parts p e (meet when_left when_right) refl
+    by None e = syn_case_not_sum on when_left when_right e
+synthesis_by_row Case scope b (_ ∷ _ ∷ _ ∷ _ ∷ ts) exp h = absurd (omega arith)
 synthesis_by_row (PVar x) scope b done exp h = cc
 synthesis_by_row TNum scope b done exp h = cc
 synthesis_by_row TBool scope b done exp h = cc
 synthesis_by_row TArrow scope b done exp h = cc
 synthesis_by_row TProd scope b done exp h = cc
+synthesis_by_row TSum scope b done exp h = cc
 
 analysis_by_other : (ctor : Ctor) (scope : Scope) (b : Bound) (t : Typ) (js : List Judgement) (s : Typ) (m : Mark) → IsOther ctor
     → Synthesises scope b ctor js s m → Analyses scope b t ctor js s (mark_against m (is_consistent s t))
@@ -221,6 +292,8 @@ analysis_by_other ctor scope b t js s mark.LamAgainst other r = ana_marked ctor 
 analysis_by_other ctor scope b t js s mark.Ascription other r = ana_marked ctor js s mark.Ascription other r (λ e. cc)
 analysis_by_other ctor scope b t js s mark.PairAgainst other r = ana_marked ctor js s mark.PairAgainst other r (λ e. cc)
 analysis_by_other ctor scope b t js s mark.Inconsistent other r = ana_marked ctor js s mark.Inconsistent other r (λ e. cc)
+analysis_by_other ctor scope b t js s mark.NotSum other r = ana_marked ctor js s mark.NotSum other r (λ e. cc)
+analysis_by_other ctor scope b t js s mark.InjAgainst other r = ana_marked ctor js s mark.InjAgainst other r (λ e. cc)
 
 analysis_by_synthesis : (ctor : Ctor) (scope : Scope) (b : Bound) (t : Typ) (done : List Typ) → IsOther ctor → sort_of_ctor ctor ≡ Exp → length done ≡ expression_count ctor
     → Analyses scope b t ctor (judgements (expression ctor scope b (Analyse t)) done) (analysed ctor scope b t done).typ (analysed ctor scope b t done).mark
@@ -258,10 +331,38 @@ analysis_by_row Pair scope b t (_ ∷ []) exp h = absurd (omega arith)
 analysis_by_row Pair scope b t (first ∷ second ∷ []) exp h = by (matched_parts Product t) refl
   where
     by : (o : Option (Typ × Typ)) → matched_parts Product t ≡ o
-        → Analyses scope b t Pair (ana scope (known o).0 first ∷ ana scope (known o).1 second ∷ []) t (pair_mark o)
+        → Analyses scope b t Pair (ana scope (known o).0 first ∷ ana scope (known o).1 second ∷ []) t (unless_matched mark.PairAgainst o)
     by (Some p) e = ana_pair p.0 p.1 first second e
     by None e = ana_pair_against first second e
 analysis_by_row Pair scope b t (_ ∷ _ ∷ _ ∷ ts) exp h = absurd (omega arith)
+analysis_by_row Let scope b t [] exp h = absurd (omega arith)
+analysis_by_row Let scope b t (_ ∷ []) exp h = absurd (omega arith)
+analysis_by_row Let scope b t (definition ∷ body ∷ []) exp h = ana_let definition body
+analysis_by_row Let scope b t (_ ∷ _ ∷ _ ∷ ts) exp h = absurd (omega arith)
+analysis_by_row Inl scope b t [] exp h = absurd (omega arith)
+analysis_by_row Inl scope b t (of ∷ []) exp h = by (matched_parts Sum t) refl
+  where
+    by : (o : Option (Typ × Typ)) → matched_parts Sum t ≡ o → Analyses scope b t Inl (ana scope (known o).0 of ∷ []) t (unless_matched mark.InjAgainst o)
+    by (Some p) e = ana_inl p.0 p.1 of e
+    by None e = ana_inl_against of e
+analysis_by_row Inl scope b t (_ ∷ _ ∷ ts) exp h = absurd (omega arith)
+analysis_by_row Inr scope b t [] exp h = absurd (omega arith)
+analysis_by_row Inr scope b t (of ∷ []) exp h = by (matched_parts Sum t) refl
+  where
+    by : (o : Option (Typ × Typ)) → matched_parts Sum t ≡ o → Analyses scope b t Inr (ana scope (known o).1 of ∷ []) t (unless_matched mark.InjAgainst o)
+    by (Some p) e = ana_inr p.0 p.1 of e
+    by None e = ana_inr_against of e
+analysis_by_row Inr scope b t (_ ∷ _ ∷ ts) exp h = absurd (omega arith)
+analysis_by_row Case scope b t [] exp h = absurd (omega arith)
+analysis_by_row Case scope b t (_ ∷ []) exp h = absurd (omega arith)
+analysis_by_row Case scope b t (_ ∷ _ ∷ []) exp h = absurd (omega arith)
+analysis_by_row Case scope b t (on ∷ when_left ∷ when_right ∷ []) exp h = by (matched_parts Sum on) refl
+  where
+    by : (o : Option (Typ × Typ)) → matched_parts Sum on ≡ o
+        → Analyses scope b t Case (case_children scope b (Analyse t) on when_left when_right o) t (unless_matched mark.NotSum o)
+    by (Some p) e = ana_case on p.0 p.1 when_left when_right e
+    by None e = ana_case_not_sum on when_left when_right e
+analysis_by_row Case scope b t (_ ∷ _ ∷ _ ∷ _ ∷ ts) exp h = absurd (omega arith)
 analysis_by_row Root scope b t done exp h = analysis_by_synthesis Root scope b t done tt exp h
 analysis_by_row (Var x) scope b t done exp h = analysis_by_synthesis (Var x) scope b t done tt exp h
 analysis_by_row Ap scope b t done exp h = analysis_by_synthesis Ap scope b t done tt exp h
@@ -276,6 +377,7 @@ analysis_by_row TNum scope b t done exp h = analysis_by_synthesis TNum scope b t
 analysis_by_row TBool scope b t done exp h = analysis_by_synthesis TBool scope b t done tt exp h
 analysis_by_row TArrow scope b t done exp h = analysis_by_synthesis TArrow scope b t done tt exp h
 analysis_by_row TProd scope b t done exp h = analysis_by_synthesis TProd scope b t done tt exp h
+analysis_by_row TSum scope b t done exp h = analysis_by_synthesis TSum scope b t done tt exp h
 
 -- the functions follow the rows
 pub functions_follow_rows : (e : Expression) (done : List Typ) → sort_of_ctor e.ctor ≡ Exp → length done ≡ expression_count e.ctor → Follows e (judgements e done) (settled e done)

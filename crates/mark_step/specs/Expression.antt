@@ -12,10 +12,12 @@ pub data Wanted : Type 0 where
   Synthesise : Wanted
   Analyse : (against : Typ) → Wanted
 
--- what a function binds: the name of its parameter, where it has one, and the type that it ascribes to it
+-- What an expression binds: the name of its parameter, where it has one, the type that a function ascribes to it, and the name of the
+-- second parameter of a case.
 pub record Bound : Type 0 where
   pub name : Option Ident
   pub typ : Typ
+  pub second : Option Ident
 
 -- an expression without its children
 pub record Expression : Type 0 where
@@ -55,3 +57,5 @@ has_mark mark.LamAgainst = true
 has_mark mark.Ascription = true
 has_mark mark.PairAgainst = true
 has_mark mark.Inconsistent = true
+has_mark mark.NotSum = true
+has_mark mark.InjAgainst = true

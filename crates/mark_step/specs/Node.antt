@@ -15,7 +15,6 @@ use Rattle.ctx_table.specs.Context.{Context}
 use Rattle.ctx_table.specs.CtxTable.{IsContextOf, context_at}
 use Rattle.mark_step.specs.declared.node.Mode.{Mode}
 use Rattle.mark_step.specs.declared.node.Mode.TheVariants.{Syn, Ana}
-use Rattle.mark_step.specs.declared.node.Binder.{Binder}
 use Rattle.mark_step.specs.declared.node.NodeView.{NodeView}
 use Rattle.mark_step.specs.declared.node.Demand.{Demand}
 use Rattle.mark_step.specs.declared.node.Settled.{Settled}
@@ -27,8 +26,8 @@ abbrev pub wanted_at : List Typ → Mode → Wanted
 wanted_at types Syn = Synthesise
 wanted_at types (Ana t) = Analyse (type_at types t)
 
-abbrev pub bound_at : List Typ → Binder → Bound
-bound_at types b = record { name = b.name; typ = type_at types b.typ }
+abbrev pub bound_at : List Typ → NodeView → Bound
+bound_at types node = record { name = node.binder.name; typ = type_at types node.binder.typ; second = node.second.name }
 
 -- the expression that a node stands for
 abbrev pub expression_at : List Typ → List Context → NodeView → Expression
@@ -36,7 +35,7 @@ expression_at types ctxs node = record {
   ctor = node.ctor;
   scope = scope_at types ctxs node.ctx;
   wanted = wanted_at types node.mode;
-  bound = bound_at types node.binder;
+  bound = bound_at types node;
 }
 
 abbrev pub demanded_at : List Typ → List Context → Demand → Demanded

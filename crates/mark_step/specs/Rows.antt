@@ -1,17 +1,17 @@
 -- The two tables of marking: one rule for each row.
 use Rattle.std.specs.Prelude.{◌≡◌, ◌≢◌, ℕ, Bool, true, false, List, [], ◌∷◌, ◌++◌, map, count_by, None, Some}
 use Rattle.grove_sorts.specs.declared.ctor.Ctor.{Ctor}
-use Rattle.grove_sorts.specs.declared.ctor.Ctor.TheVariants.{Root, Var, Lam, Ap, Num, Plus, LitTrue, LitFalse, Choose, Pair, Fst, Snd, PVar, TNum, TBool, TArrow, TProd}
+use Rattle.grove_sorts.specs.declared.ctor.Ctor.TheVariants.{Root, Var, Lam, Ap, Num, Plus, LitTrue, LitFalse, Choose, Pair, Fst, Snd, PVar, TNum, TBool, TArrow, TProd, Let, Inl, Inr, Case, TSum}
 use Rattle.grove_sorts.specs.declared.ident.Ident.{Ident}
 use Rattle.grove_sorts.specs.declared.sort.Sort.{Sort}
 use Rattle.grove_sorts.specs.declared.sort.Sort.TheVariants.{Top, Exp, Pat, Typ as TypeSort}
 use Rattle.grove_sorts.specs.Ctor.{positions}
-use Rattle.type_core.specs.declared.former.Former.TheVariants.{Arrow, Product}
+use Rattle.type_core.specs.declared.former.Former.TheVariants.{Arrow, Product, Sum}
 use Rattle.type_core.specs.Typ.{Typ, matched_parts, is_consistent, meet}
 use Rattle.type_core.specs.Typ as typ
 use Rattle.mark_step.specs.declared.node.Mark.{Mark}
 use Rattle.mark_step.specs.declared.node.Mark.TheVariants as mark
-use Rattle.mark_step.specs.Scope.{Scope, type_of_name}
+use Rattle.mark_step.specs.Scope.{Scope, type_of_name, bind}
 use Rattle.mark_step.specs.Expression.{Wanted, Synthesise, Analyse, Bound, Expression, Demanded, Marked, body_scope}
 use Rattle.mark_step.specs.Step.{demand}
 
@@ -55,6 +55,15 @@ pub data Synthesises (scope : Scope) (b : Bound) : Ctor → List Judgement → T
       → Synthesises scope b Snd (syn scope of ∷ []) second mark.None
   syn_snd_not_product : (of : Typ) → matched_parts Product of ≡ None
       → Synthesises scope b Snd (syn scope of ∷ []) typ.Unknown mark.NotProduct
+  syn_let : (definition body : Typ) → Synthesises scope b Let (syn scope definition ∷ syn (bind b.name definition scope) body ∷ []) body mark.None
+  syn_inl : (of : Typ) → Synthesises scope b Inl (syn scope of ∷ []) (typ.Pair Sum of typ.Unknown) mark.None
+  syn_inr : (of : Typ) → Synthesises scope b Inr (syn scope of ∷ []) (typ.Pair Sum typ.Unknown of) mark.None
+  syn_case : (on left right when_left when_right both : Typ) → matched_parts Sum on ≡ Some (left, right) → meet when_left when_right ≡ Some both
+      → Synthesises scope b Case (syn scope on ∷ syn (bind b.name left scope) when_left ∷ syn (bind b.second right scope) when_right ∷ []) both mark.None
+  syn_case_not_sum : (on when_left when_right : Typ) → matched_parts Sum on ≡ None
+      → Synthesises scope b Case (syn scope on ∷ syn (bind b.name typ.Unknown scope) when_left ∷ syn (bind b.second typ.Unknown scope) when_right ∷ []) typ.Unknown mark.NotSum
+  syn_case_branches : (on left right when_left when_right : Typ) → matched_parts Sum on ≡ Some (left, right) → is_consistent when_left when_right ≡ false
+      → Synthesises scope b Case (syn scope on ∷ syn (bind b.name left scope) when_left ∷ syn (bind b.second right scope) when_right ∷ []) typ.Unknown mark.Branches
 
 -- a constructor whose analysis goes by its synthesis
 abbrev pub IsOther : Ctor → Type 0
@@ -75,6 +84,11 @@ IsOther TNum = Unit {0}
 IsOther TBool = Unit {0}
 IsOther TArrow = Unit {0}
 IsOther TProd = Unit {0}
+IsOther Let = ⊥
+IsOther Inl = ⊥
+IsOther Inr = ⊥
+IsOther Case = ⊥
+IsOther TSum = Unit {0}
 
 -- Analysis against a type: the children are judged so, in table order, and the expression shows this type and this mark.
 pub data Analyses (scope : Scope) (b : Bound) (against : Typ) : Ctor → List Judgement → Typ → Mark → Type 0 where
@@ -90,6 +104,20 @@ pub data Analyses (scope : Scope) (b : Bound) (against : Typ) : Ctor → List Ju
       → Analyses scope b against Pair (ana scope left first ∷ ana scope right second ∷ []) against mark.None
   ana_pair_against : (first second : Typ) → matched_parts Product against ≡ None
       → Analyses scope b against Pair (ana scope typ.Unknown first ∷ ana scope typ.Unknown second ∷ []) against mark.PairAgainst
+  ana_let : (definition body : Typ)
+      → Analyses scope b against Let (syn scope definition ∷ ana (bind b.name definition scope) against body ∷ []) against mark.None
+  ana_inl : (left right of : Typ) → matched_parts Sum against ≡ Some (left, right)
+      → Analyses scope b against Inl (ana scope left of ∷ []) against mark.None
+  ana_inl_against : (of : Typ) → matched_parts Sum against ≡ None
+      → Analyses scope b against Inl (ana scope typ.Unknown of ∷ []) against mark.InjAgainst
+  ana_inr : (left right of : Typ) → matched_parts Sum against ≡ Some (left, right)
+      → Analyses scope b against Inr (ana scope right of ∷ []) against mark.None
+  ana_inr_against : (of : Typ) → matched_parts Sum against ≡ None
+      → Analyses scope b against Inr (ana scope typ.Unknown of ∷ []) against mark.InjAgainst
+  ana_case : (on left right when_left when_right : Typ) → matched_parts Sum on ≡ Some (left, right)
+      → Analyses scope b against Case (syn scope on ∷ ana (bind b.name left scope) against when_left ∷ ana (bind b.second right scope) against when_right ∷ []) against mark.None
+  ana_case_not_sum : (on when_left when_right : Typ) → matched_parts Sum on ≡ None
+      → Analyses scope b against Case (syn scope on ∷ ana (bind b.name typ.Unknown scope) against when_left ∷ ana (bind b.second typ.Unknown scope) against when_right ∷ []) against mark.NotSum
   ana_marked : (ctor : Ctor) (js : List Judgement) (t : Typ) (m : Mark) → IsOther ctor → Synthesises scope b ctor js t m → m ≢ mark.None
       → Analyses scope b against ctor js t m
   ana_inconsistent : (ctor : Ctor) (js : List Judgement) (t : Typ) → IsOther ctor → Synthesises scope b ctor js t mark.None

@@ -3,15 +3,16 @@
 use Rattle.std.specs.Prelude.{ℕ, Bool, true, false, List, [], ◌∷◌, Option, None, Some, unwrap_or, if◌then◌else◌}
 use Rattle.std.specs.Option.{option_map}
 use Rattle.std.specs.List.{slice_index_or}
+use Rattle.grove_sorts.specs.declared.ident.Ident.{Ident}
 use Rattle.grove_sorts.specs.declared.ctor.Ctor.{Ctor}
-use Rattle.grove_sorts.specs.declared.ctor.Ctor.TheVariants.{Root, Var, Lam, Ap, Num, Plus, LitTrue, LitFalse, Choose, Pair, Fst, Snd, PVar, TNum, TBool, TArrow, TProd}
+use Rattle.grove_sorts.specs.declared.ctor.Ctor.TheVariants.{Root, Var, Lam, Ap, Num, Plus, LitTrue, LitFalse, Choose, Pair, Fst, Snd, PVar, TNum, TBool, TArrow, TProd, Let, Inl, Inr, Case, TSum}
 use Rattle.type_core.specs.declared.former.Former.{Former}
-use Rattle.type_core.specs.declared.former.Former.TheVariants.{Arrow, Product}
+use Rattle.type_core.specs.declared.former.Former.TheVariants.{Arrow, Product, Sum}
 use Rattle.type_core.specs.Typ.{Typ, matched_parts, is_consistent, meet}
 use Rattle.type_core.specs.Typ as typ
 use Rattle.mark_step.specs.declared.node.Mark.{Mark}
 use Rattle.mark_step.specs.declared.node.Mark.TheVariants as mark
-use Rattle.mark_step.specs.Scope.{Scope, type_of_name, bindings_inside}
+use Rattle.mark_step.specs.Scope.{Scope, type_of_name, bind}
 use Rattle.mark_step.specs.Expression.{Wanted, Synthesise, Analyse, Bound, Expression, Demanded, Marked, marked, unmarked}
 
 -- the parts of a type of this form, both unknown where it has none
@@ -38,6 +39,21 @@ wanted_in_pair Synthesise _ = Synthesise
 wanted_in_pair (Analyse t) [] = Analyse (parts_or_unknown Product t).0
 wanted_in_pair (Analyse t) (_ ∷ _) = Analyse (parts_or_unknown Product t).1
 
+-- of what is taken apart or defined first, and of what is judged after it
+abbrev pub wanted_of_rest : Wanted → List Typ → Wanted
+wanted_of_rest w [] = Synthesise
+wanted_of_rest w (_ ∷ _) = w
+
+-- of what is injected on the left of a sum
+abbrev pub wanted_on_left : Wanted → Wanted
+wanted_on_left Synthesise = Synthesise
+wanted_on_left (Analyse t) = Analyse (parts_or_unknown Sum t).0
+
+-- of what is injected on the right of a sum
+abbrev pub wanted_on_right : Wanted → Wanted
+wanted_on_right Synthesise = Synthesise
+wanted_on_right (Analyse t) = Analyse (parts_or_unknown Sum t).1
+
 -- what is wanted of the child that comes next after children of these types, where this is wanted of the expression
 abbrev pub wanted_next : Ctor → Wanted → List Typ → Wanted
 wanted_next Root w before = Synthesise
@@ -57,10 +73,51 @@ wanted_next TNum w before = Synthesise
 wanted_next TBool w before = Synthesise
 wanted_next TArrow w before = Synthesise
 wanted_next TProd w before = Synthesise
+wanted_next Let w before = wanted_of_rest w before
+wanted_next Inl w before = wanted_on_left w
+wanted_next Inr w before = wanted_on_right w
+wanted_next Case w before = wanted_of_rest w before
+wanted_next TSum w before = Synthesise
+
+-- the scope of a definition, and of the body that it is bound in
+abbrev pub scope_in_let : Bound → Scope → List Typ → Scope
+scope_in_let b scope [] = scope
+scope_in_let b scope (definition ∷ _) = bind b.name definition scope
+
+-- the scope of what a case takes apart, of its left body and of its right body
+abbrev pub scope_in_case : Bound → Scope → List Typ → Scope
+scope_in_case b scope [] = scope
+scope_in_case b scope (on ∷ []) = bind b.name (parts_or_unknown Sum on).0 scope
+scope_in_case b scope (on ∷ _ ∷ _) = bind b.second (parts_or_unknown Sum on).1 scope
+
+-- the scope of the child that comes next after children of these types, where the expression binds this and stands in this scope
+abbrev pub scope_next : Ctor → Bound → Scope → List Typ → Scope
+scope_next Root b scope before = scope
+scope_next (Var x) b scope before = scope
+scope_next Lam b scope before = bind b.name b.typ scope
+scope_next Ap b scope before = scope
+scope_next (Num n) b scope before = scope
+scope_next Plus b scope before = scope
+scope_next LitTrue b scope before = scope
+scope_next LitFalse b scope before = scope
+scope_next Choose b scope before = scope
+scope_next Pair b scope before = scope
+scope_next Fst b scope before = scope
+scope_next Snd b scope before = scope
+scope_next (PVar x) b scope before = scope
+scope_next TNum b scope before = scope
+scope_next TBool b scope before = scope
+scope_next TArrow b scope before = scope
+scope_next TProd b scope before = scope
+scope_next Let b scope before = scope_in_let b scope before
+scope_next Inl b scope before = scope
+scope_next Inr b scope before = scope
+scope_next Case b scope before = scope_in_case b scope before
+scope_next TSum b scope before = scope
 
 -- what is demanded of the child that comes next after children of these types
 abbrev pub demand : Expression → List Typ → Demanded
-demand e before = record { scope = bindings_inside e.ctor e.bound.name e.bound.typ e.scope; wanted = wanted_next e.ctor e.wanted before }
+demand e before = record { scope = scope_next e.ctor e.bound e.scope before; wanted = wanted_next e.ctor e.wanted before }
 
 -- the type, where there is one, and else the unknown type with the mark
 abbrev pub or_mark : Option Typ → Mark → Marked
@@ -69,6 +126,11 @@ or_mark None m = marked typ.Unknown m
 
 abbrev pub child : List Typ → ℕ → Typ
 child done i = slice_index_or done i typ.Unknown
+
+-- what a case synthesises, by the parts of what it takes apart and the meet of the types of its bodies
+abbrev pub case_result : Option (Typ × Typ) → Option Typ → Marked
+case_result None both = marked typ.Unknown mark.NotSum
+case_result (Some parts) both = or_mark both mark.Branches
 
 -- what an expression synthesises whose children have these types
 abbrev pub synthesised : Ctor → Scope → Bound → List Typ → Marked
@@ -89,16 +151,21 @@ synthesised TNum scope b done = unmarked typ.Unknown
 synthesised TBool scope b done = unmarked typ.Unknown
 synthesised TArrow scope b done = unmarked typ.Unknown
 synthesised TProd scope b done = unmarked typ.Unknown
+synthesised Let scope b done = unmarked (child done 1)
+synthesised Inl scope b done = unmarked (typ.Pair Sum (child done 0) typ.Unknown)
+synthesised Inr scope b done = unmarked (typ.Pair Sum typ.Unknown (child done 0))
+synthesised Case scope b done = case_result (matched_parts Sum (child done 0)) (meet (child done 1) (child done 2))
+synthesised TSum scope b done = unmarked typ.Unknown
 
 -- the mark of a function that ascribes a type, by the parts of the type that it is analysed against
 abbrev pub function_mark : Typ → Option (Typ × Typ) → Mark
 function_mark ascribed None = mark.LamAgainst
 function_mark ascribed (Some p) = if is_consistent ascribed p.0 then mark.None else mark.Ascription
 
--- the mark of a pair, by the parts of the type that it is analysed against
-abbrev pub pair_mark : Option (Typ × Typ) → Mark
-pair_mark None = mark.PairAgainst
-pair_mark (Some p) = mark.None
+-- this mark where a type has no parts of the form
+abbrev pub unless_matched : Mark → Option (Typ × Typ) → Mark
+unless_matched m None = m
+unless_matched m (Some p) = mark.None
 
 -- a mark of synthesis, or else that of a synthesised type which may be consistent with the one wanted
 abbrev pub mark_against : Mark → Bool → Mark
@@ -112,6 +179,8 @@ mark_against mark.LamAgainst same = mark.LamAgainst
 mark_against mark.Ascription same = mark.Ascription
 mark_against mark.PairAgainst same = mark.PairAgainst
 mark_against mark.Inconsistent same = mark.Inconsistent
+mark_against mark.NotSum same = mark.NotSum
+mark_against mark.InjAgainst same = mark.InjAgainst
 
 -- what was synthesised, analysed against a type
 abbrev pub against : Typ → Marked → Marked
@@ -128,7 +197,7 @@ analysed Plus scope b t done = against t (synthesised Plus scope b done)
 analysed LitTrue scope b t done = against t (synthesised LitTrue scope b done)
 analysed LitFalse scope b t done = against t (synthesised LitFalse scope b done)
 analysed Choose scope b t done = unmarked t
-analysed Pair scope b t done = marked t (pair_mark (matched_parts Product t))
+analysed Pair scope b t done = marked t (unless_matched mark.PairAgainst (matched_parts Product t))
 analysed Fst scope b t done = against t (synthesised Fst scope b done)
 analysed Snd scope b t done = against t (synthesised Snd scope b done)
 analysed (PVar x) scope b t done = against t (synthesised (PVar x) scope b done)
@@ -136,6 +205,11 @@ analysed TNum scope b t done = against t (synthesised TNum scope b done)
 analysed TBool scope b t done = against t (synthesised TBool scope b done)
 analysed TArrow scope b t done = against t (synthesised TArrow scope b done)
 analysed TProd scope b t done = against t (synthesised TProd scope b done)
+analysed Let scope b t done = unmarked t
+analysed Inl scope b t done = marked t (unless_matched mark.InjAgainst (matched_parts Sum t))
+analysed Inr scope b t done = marked t (unless_matched mark.InjAgainst (matched_parts Sum t))
+analysed Case scope b t done = marked t (unless_matched mark.NotSum (matched_parts Sum (child done 0)))
+analysed TSum scope b t done = against t (synthesised TSum scope b done)
 
 abbrev pub settled_as : Wanted → Ctor → Scope → Bound → List Typ → Marked
 settled_as Synthesise ctor scope b done = synthesised ctor scope b done

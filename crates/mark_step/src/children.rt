@@ -1,17 +1,18 @@
-ghost use Rattle.std.specs.Prelude.{◌≡◌, IfOk};
+ghost use Rattle.std.specs.Prelude.{◌≡◌, List, IfOk};
 ghost use Rattle.grove_sorts.specs.declared.sort.Sort.TheVariants.{Exp};
 ghost use Rattle.grove_sorts.specs.Ctor.{sort_of_ctor};
-ghost use Rattle.type_core.specs.declared.former.Former.TheVariants.{Arrow, Product};
+ghost use Rattle.type_core.specs.declared.former.Former.TheVariants.{Arrow, Product, Sum};
+ghost use Rattle.type_core.specs.Typ.{Typ};
 ghost use Rattle.type_core.specs.TypeTable.{IsTypeOf, type_at, KeepsTypes};
 ghost use Rattle.ctx_table.specs.CtxTable.{IsContextOf, context_at, KeepsContexts};
-ghost use Rattle.mark_step.specs.Scope.{bindings_inside};
-ghost use Rattle.mark_step.specs.Step.{demand, parts_or_unknown, wanted_next, wanted_of_body, wanted_in_application, wanted_in_conditional, wanted_in_pair};
-ghost use Rattle.mark_step.specs.Node.{wanted_at, expression_at, demanded_at, IsModeOf, AreNumbers, IsNodeOf, IsDemandOf, sort_at_index, AreDoneBefore, types_before};
+ghost use Rattle.mark_step.specs.Scope.{bind, scope_at};
+ghost use Rattle.mark_step.specs.Step.{demand, parts_or_unknown, wanted_next, wanted_of_body, wanted_in_application, wanted_in_conditional, wanted_in_pair, wanted_of_rest, wanted_on_left, wanted_on_right, scope_next, scope_in_let, scope_in_case};
+ghost use Rattle.mark_step.specs.Node.{wanted_at, bound_at, IsScopeOf, expression_at, demanded_at, IsModeOf, AreNumbers, IsNodeOf, IsDemandOf, sort_at_index, AreDoneBefore, types_before};
 
 use crate::no_memory::NoMemory;
 use crate::node::{Demand, Mode, NodeView};
 use ctx_table::{CtxId, CtxTable};
-use grove_sorts::Ctor;
+use grove_sorts::{Ctor, Ident};
 use std::alloc::Global;
 use type_core::{TypeId, TypeTable};
 
@@ -35,28 +36,100 @@ pub fn child_demand(
     ensures contexts { KeepsContexts ctxs.old ctxs.new }
 {
     let mode = child_mode(types, node, index);
-    let ctx = child_context(ctxs, node)?;
+    let ctx = child_context(types, ctxs, node, index)?;
     Ok(Demand { ctx, mode })
 }
 
-// The context of the children, which is one larger in a function that binds a name.
-fn child_context(ctxs: &mut CtxTable, node: &NodeView) -> Result<CtxId, NoMemory>
-    requires { IsContextOf ctxs.old node.now.ctx }
-    ensures number { IfOk result (IsContextOf ctxs.new) }
-    ensures context { IfOk result (λ id. context_at ctxs.new id
-        ≡ bindings_inside node.now.ctor node.now.binder.name node.now.binder.typ (context_at ctxs.old node.now.ctx)) }
+// The context of a child.
+fn child_context(
+    types: &TypeTable,
+    ctxs: &mut CtxTable,
+    node: &NodeView,
+    index: usize,
+) -> Result<CtxId, NoMemory>
+    requires earlier { AreDoneBefore node.now index }
+    requires numbers { IsNodeOf types.now ctxs.old node.now }
+    ensures number { IfOk result (IsScopeOf types.now ctxs.new) }
+    ensures scope { IfOk result (λ id. scope_at types.now ctxs.new id
+        ≡ scope_next node.now.ctor (bound_at types.now node.now) (scope_at types.now ctxs.old node.now.ctx) (types_before types.now node.now index)) }
     ensures kept { KeepsContexts ctxs.old ctxs.new }
 {
-    let Some(name) = node.binder.name else {
-        return Ok(node.ctx);
-    };
     match node.ctor {
-        Ctor::Lam => Ok(ctxs.extend(node.ctx, name, node.binder.typ)?),
+        Ctor::Lam => bind(types, ctxs, node.ctx, node.binder.name, node.binder.typ),
+        Ctor::Let => context_in_let(types, ctxs, node, index),
+        Ctor::Case => context_in_case(types, ctxs, node, index),
         Ctor::Root | Ctor::Var(_) | Ctor::Ap | Ctor::Num(_) | Ctor::Plus => Ok(node.ctx),
         Ctor::LitTrue | Ctor::LitFalse | Ctor::Choose => Ok(node.ctx),
-        Ctor::Pair | Ctor::Fst | Ctor::Snd => Ok(node.ctx),
-        Ctor::PVar(_) | Ctor::TNum | Ctor::TBool | Ctor::TArrow | Ctor::TProd => Ok(node.ctx),
+        Ctor::Pair | Ctor::Fst | Ctor::Snd | Ctor::Inl | Ctor::Inr => Ok(node.ctx),
+        Ctor::PVar(_) | Ctor::TNum | Ctor::TBool => Ok(node.ctx),
+        Ctor::TArrow | Ctor::TProd | Ctor::TSum => Ok(node.ctx),
     }
+}
+
+// The context with the name in front, if there is one.
+fn bind(
+    types: &TypeTable,
+    ctxs: &mut CtxTable,
+    ctx: CtxId,
+    name: Option<Ident>,
+    typ: TypeId,
+) -> Result<CtxId, NoMemory>
+    requires ctx { IsScopeOf types.now ctxs.old ctx }
+    requires typ { IsTypeOf types.now typ }
+    ensures number { IfOk result (IsScopeOf types.now ctxs.new) }
+    ensures scope { IfOk result (λ id. scope_at types.now ctxs.new id ≡ bind name (type_at types.now typ) (scope_at types.now ctxs.old ctx)) }
+    ensures kept { KeepsContexts ctxs.old ctxs.new }
+{
+    match name {
+        Some(name) => Ok(ctxs.extend(ctx, name, typ)?),
+        None => Ok(ctx),
+    }
+}
+
+// The body has the name that is bound to the definition.
+fn context_in_let(
+    types: &TypeTable,
+    ctxs: &mut CtxTable,
+    node: &NodeView,
+    index: usize,
+) -> Result<CtxId, NoMemory>
+    requires ctor { node.now.ctor ≡ Ctor.Let }
+    requires earlier { AreDoneBefore node.now index }
+    requires numbers { IsNodeOf types.now ctxs.old node.now }
+    ensures number { IfOk result (IsScopeOf types.now ctxs.new) }
+    ensures scope { IfOk result (λ id. scope_at types.now ctxs.new id
+        ≡ scope_in_let (bound_at types.now node.now) (scope_at types.now ctxs.old node.now.ctx) (types_before types.now node.now index)) }
+    ensures kept { KeepsContexts ctxs.old ctxs.new }
+{
+    if index < 2 {
+        return Ok(node.ctx);
+    }
+    bind(types, ctxs, node.ctx, node.binder.name, node.child_type(1))
+}
+
+// Each body has the name that is bound to its part of what the case takes apart.
+fn context_in_case(
+    types: &TypeTable,
+    ctxs: &mut CtxTable,
+    node: &NodeView,
+    index: usize,
+) -> Result<CtxId, NoMemory>
+    requires ctor { node.now.ctor ≡ Ctor.Case }
+    requires earlier { AreDoneBefore node.now index }
+    requires numbers { IsNodeOf types.now ctxs.old node.now }
+    ensures number { IfOk result (IsScopeOf types.now ctxs.new) }
+    ensures scope { IfOk result (λ id. scope_at types.now ctxs.new id
+        ≡ scope_in_case (bound_at types.now node.now) (scope_at types.now ctxs.old node.now.ctx) (types_before types.now node.now index)) }
+    ensures kept { KeepsContexts ctxs.old ctxs.new }
+{
+    if index == 0 {
+        return Ok(node.ctx);
+    }
+    let (left, right) = sum_or_unknown(types, node.child_type(0));
+    if index < 3 {
+        return bind(types, ctxs, node.ctx, node.binder.name, left);
+    }
+    bind(types, ctxs, node.ctx, node.second.name, right)
 }
 
 fn child_mode(types: &TypeTable, node: &NodeView, index: usize) -> Mode
@@ -75,7 +148,12 @@ fn child_mode(types: &TypeTable, node: &NodeView, index: usize) -> Mode
         Ctor::Pair => mode_in_pair(types, node, index),
         Ctor::Root | Ctor::Fst | Ctor::Snd => Mode::Syn,
         Ctor::Var(_) | Ctor::Num(_) | Ctor::LitTrue | Ctor::LitFalse => Mode::Syn,
-        Ctor::PVar(_) | Ctor::TNum | Ctor::TBool | Ctor::TArrow | Ctor::TProd => Mode::Syn,
+        Ctor::Let => mode_in_let(node, index),
+        Ctor::Inl => mode_on_left(types, node.mode),
+        Ctor::Inr => mode_on_right(types, node.mode),
+        Ctor::Case => mode_in_case(node, index),
+        Ctor::PVar(_) | Ctor::TNum | Ctor::TBool => Mode::Syn,
+        Ctor::TArrow | Ctor::TProd | Ctor::TSum => Mode::Syn,
     }
 }
 
@@ -135,6 +213,52 @@ fn mode_in_pair(types: &TypeTable, node: &NodeView, index: usize) -> Mode
     Mode::Ana(second)
 }
 
+// The definition is synthesised, and of the body is wanted what is wanted of the whole.
+fn mode_in_let(node: &NodeView, index: usize) -> Mode
+    requires { node.now.ctor ≡ Ctor.Let }
+    ensures wanted { (types : List Typ) → wanted_at types result ≡ wanted_of_rest (wanted_at types node.now.mode) (types_before types node.now index) }
+    ensures number { (types : List Typ) → IsModeOf types node.now.mode → IsModeOf types result }
+{
+    if index < 2 {
+        return Mode::Syn;
+    }
+    node.mode
+}
+
+// What the case takes apart is synthesised, and of its bodies is wanted what is wanted of the whole.
+fn mode_in_case(node: &NodeView, index: usize) -> Mode
+    requires { node.now.ctor ≡ Ctor.Case }
+    ensures wanted { (types : List Typ) → wanted_at types result ≡ wanted_of_rest (wanted_at types node.now.mode) (types_before types node.now index) }
+    ensures number { (types : List Typ) → IsModeOf types node.now.mode → IsModeOf types result }
+{
+    if index == 0 {
+        return Mode::Syn;
+    }
+    node.mode
+}
+
+fn mode_on_left(types: &TypeTable, mode: Mode) -> Mode
+    requires { IsModeOf types.now mode }
+    ensures wanted { wanted_at types.now result ≡ wanted_on_left (wanted_at types.now mode) }
+    ensures number { IsModeOf types.now result }
+{
+    match mode {
+        Mode::Syn => Mode::Syn,
+        Mode::Ana(typ) => Mode::Ana(sum_or_unknown(types, typ).0),
+    }
+}
+
+fn mode_on_right(types: &TypeTable, mode: Mode) -> Mode
+    requires { IsModeOf types.now mode }
+    ensures wanted { wanted_at types.now result ≡ wanted_on_right (wanted_at types.now mode) }
+    ensures number { IsModeOf types.now result }
+{
+    match mode {
+        Mode::Syn => Mode::Syn,
+        Mode::Ana(typ) => Mode::Ana(sum_or_unknown(types, typ).1),
+    }
+}
+
 // What a function of the type takes and gives, both unknown where it is no function's.
 fn arrow_or_unknown(types: &TypeTable, typ: TypeId) -> (TypeId, TypeId)
     requires { IsTypeOf types.now typ }
@@ -158,6 +282,20 @@ fn product_or_unknown(types: &TypeTable, typ: TypeId) -> (TypeId, TypeId)
     ensures second_number { IsTypeOf types.now result.1 }
 {
     match types.matched_product(typ) {
+        Some(parts) => parts,
+        None => (types.unknown(), types.unknown()),
+    }
+}
+
+// The parts of a sum of the type, both unknown where it is no sum's.
+fn sum_or_unknown(types: &TypeTable, typ: TypeId) -> (TypeId, TypeId)
+    requires { IsTypeOf types.now typ }
+    ensures left { type_at types.now result.0 ≡ (parts_or_unknown Sum (type_at types.now typ)).0 }
+    ensures right { type_at types.now result.1 ≡ (parts_or_unknown Sum (type_at types.now typ)).1 }
+    ensures left_number { IsTypeOf types.now result.0 }
+    ensures right_number { IsTypeOf types.now result.1 }
+{
+    match types.matched_sum(typ) {
         Some(parts) => parts,
         None => (types.unknown(), types.unknown()),
     }

@@ -36,6 +36,10 @@ pub enum Mark {
     PairAgainst,
     /// An expression whose type is inconsistent with the one wanted.
     Inconsistent,
+    /// A case on what is no sum.
+    NotSum,
+    /// An injection against a type of no sums.
+    InjAgainst,
 }
 
 impl Mark {
@@ -47,12 +51,12 @@ impl Mark {
     }
 }
 
-/// What a function binds. Other constructors bind nothing, and do not use it.
+/// What a function binds, a `let`, or a case at one of its bodies. Other constructors bind nothing, and do not use it.
 #[derive(Clone, Copy, Debug, PartialEq, Eq)]
 pub struct Binder {
     /// The name at its param position, where one sole pattern stands there.
     pub name: Option<Ident>,
-    /// The type of its type position.
+    /// The type of the type position of a function. What others bind has the type of a child, and this is not used.
     pub typ: TypeId,
 }
 
@@ -62,7 +66,10 @@ pub struct NodeView {
     pub ctor: Ctor,
     pub ctx: CtxId,
     pub mode: Mode,
+    /// What it binds, a case in its left body.
     pub binder: Binder,
+    /// What a case binds in its right body.
+    pub second: Binder,
     /// The types of its children that are marked already, by the index of their position. Only those of expressions are read.
     pub done: [Option<TypeId>; WIDEST],
 }

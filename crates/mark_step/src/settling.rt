@@ -2,11 +2,11 @@ ghost use Rattle.std.specs.Prelude.{◌≡◌, IfOk, IfSome};
 ghost use Rattle.std.specs.Option.{option_map};
 ghost use Rattle.grove_sorts.specs.declared.sort.Sort.TheVariants.{Exp};
 ghost use Rattle.grove_sorts.specs.Ctor.{sort_of_ctor};
-ghost use Rattle.type_core.specs.declared.former.Former.TheVariants.{Arrow, Product};
+ghost use Rattle.type_core.specs.declared.former.Former.TheVariants.{Arrow, Product, Sum};
 ghost use Rattle.type_core.specs.Typ.{matched_parts, is_consistent, meet};
 ghost use Rattle.type_core.specs.TypeTable.{IsTypeOf, type_at, KeepsTypes};
 ghost use Rattle.mark_step.specs.Scope.{scope_at, type_of_name};
-ghost use Rattle.mark_step.specs.Step.{settled, analysed, synthesised, or_mark, function_mark, pair_mark, mark_against};
+ghost use Rattle.mark_step.specs.Step.{settled, analysed, synthesised, or_mark, function_mark, unless_matched, case_result, mark_against};
 ghost use Rattle.mark_step.specs.Node.{bound_at, expression_at, marked_at, IsScopeOf, IsNodeOf, AreDone, types_done};
 
 use crate::no_memory::NoMemory;
@@ -51,7 +51,7 @@ fn analyse(
     requires numbers { IsNodeOf types.old ctxs.now node.now }
     requires typ { IsTypeOf types.old typ }
     ensures analysed { IfOk result (λ s. marked_at types.new s
-        ≡ analysed node.now.ctor (scope_at types.old ctxs.now node.now.ctx) (bound_at types.old node.now.binder)
+        ≡ analysed node.now.ctor (scope_at types.old ctxs.now node.now.ctx) (bound_at types.old node.now)
         (type_at types.old typ) (types_done types.old node.now)) }
     ensures number { IfOk result (λ s. IsTypeOf types.new s.typ) }
     ensures kept { KeepsTypes types.old types.new }
@@ -60,6 +60,9 @@ fn analyse(
         Ctor::Lam => function_against(alloc, types, node.binder.typ, typ),
         Ctor::Choose => Ok(unmarked(typ)),
         Ctor::Pair => Ok(pair_against(types, typ)),
+        Ctor::Let => Ok(unmarked(typ)),
+        Ctor::Inl | Ctor::Inr => Ok(injection_against(types, typ)),
+        Ctor::Case => Ok(case_against(types, node.child_type(0), typ)),
         Ctor::Var(_)
         | Ctor::Ap
         | Ctor::Num(_)
@@ -71,9 +74,8 @@ fn analyse(
             let found = synthesise(alloc, types, ctxs, node)?;
             against(alloc, types, found, typ)
         }
-        Ctor::Root | Ctor::PVar(_) | Ctor::TNum | Ctor::TBool | Ctor::TArrow | Ctor::TProd => {
-            unreachable!()
-        }
+        Ctor::Root | Ctor::PVar(_) | Ctor::TNum | Ctor::TBool => unreachable!(),
+        Ctor::TArrow | Ctor::TProd | Ctor::TSum => unreachable!(),
     }
 }
 
@@ -88,7 +90,7 @@ fn synthesise(
     requires done { AreDone node.now }
     requires numbers { IsNodeOf types.old ctxs.now node.now }
     ensures synthesised { IfOk result (λ s. marked_at types.new s
-        ≡ synthesised node.now.ctor (scope_at types.old ctxs.now node.now.ctx) (bound_at types.old node.now.binder)
+        ≡ synthesised node.now.ctor (scope_at types.old ctxs.now node.now.ctx) (bound_at types.old node.now)
         (types_done types.old node.now)) }
     ensures number { IfOk result (λ s. IsTypeOf types.new s.typ) }
     ensures kept { KeepsTypes types.old types.new }
@@ -103,9 +105,18 @@ fn synthesise(
         Ctor::Pair => Ok(unmarked(types.product(node.child_type(0), node.child_type(1))?)),
         Ctor::Fst => Ok(first_part(types, node.child_type(0))),
         Ctor::Snd => Ok(second_part(types, node.child_type(0))),
-        Ctor::Root | Ctor::PVar(_) | Ctor::TNum | Ctor::TBool | Ctor::TArrow | Ctor::TProd => {
-            unreachable!()
-        }
+        Ctor::Let => Ok(unmarked(node.child_type(2))),
+        Ctor::Inl => Ok(unmarked(types.sum(node.child_type(0), types.unknown())?)),
+        Ctor::Inr => Ok(unmarked(types.sum(types.unknown(), node.child_type(0))?)),
+        Ctor::Case => case(
+            alloc,
+            types,
+            node.child_type(0),
+            node.child_type(2),
+            node.child_type(4),
+        ),
+        Ctor::Root | Ctor::PVar(_) | Ctor::TNum | Ctor::TBool => unreachable!(),
+        Ctor::TArrow | Ctor::TProd | Ctor::TSum => unreachable!(),
     }
 }
 
@@ -172,6 +183,31 @@ fn conditional(
     Ok(or_mark(types, both, Mark::Branches))
 }
 
+// What a case gives, by the types of what it takes apart and of its bodies.
+fn case(
+    alloc: Global,
+    types: &mut TypeTable,
+    on: TypeId,
+    when_left: TypeId,
+    when_right: TypeId,
+) -> Result<Settled, NoMemory>
+    requires on { IsTypeOf types.old on }
+    requires when_left { IsTypeOf types.old when_left }
+    requires when_right { IsTypeOf types.old when_right }
+    ensures marked { IfOk result (λ s. marked_at types.new s
+        ≡ case_result (matched_parts Sum (type_at types.old on)) (meet (type_at types.old when_left) (type_at types.old when_right))) }
+    ensures number { IfOk result (λ s. IsTypeOf types.new s.typ) }
+    ensures kept { KeepsTypes types.old types.new }
+{
+    match types.matched_sum(on) {
+        Some(_) => conditional(alloc, types, when_left, when_right),
+        None => Ok(Settled {
+            typ: types.unknown(),
+            mark: Mark::NotSum,
+        }),
+    }
+}
+
 fn first_part(types: &TypeTable, pair: TypeId) -> Settled
     requires { IsTypeOf types.now pair }
     ensures marked { marked_at types.now result
@@ -224,11 +260,36 @@ fn function_against(
 fn pair_against(types: &TypeTable, typ: TypeId) -> Settled
     requires { IsTypeOf types.now typ }
     ensures typ { result.typ ≡ typ }
-    ensures mark { result.mark ≡ pair_mark (matched_parts Product (type_at types.now typ)) }
+    ensures mark { result.mark ≡ unless_matched Mark.PairAgainst (matched_parts Product (type_at types.now typ)) }
 {
     let mark = match types.matched_product(typ) {
         Some(_) => Mark::None,
         None => Mark::PairAgainst,
+    };
+    Settled { typ, mark }
+}
+
+fn injection_against(types: &TypeTable, typ: TypeId) -> Settled
+    requires { IsTypeOf types.now typ }
+    ensures typ { result.typ ≡ typ }
+    ensures mark { result.mark ≡ unless_matched Mark.InjAgainst (matched_parts Sum (type_at types.now typ)) }
+{
+    let mark = match types.matched_sum(typ) {
+        Some(_) => Mark::None,
+        None => Mark::InjAgainst,
+    };
+    Settled { typ, mark }
+}
+
+// A case on something of a type, against another. Its bodies are analysed against that.
+fn case_against(types: &TypeTable, on: TypeId, typ: TypeId) -> Settled
+    requires { IsTypeOf types.now on }
+    ensures typ { result.typ ≡ typ }
+    ensures mark { result.mark ≡ unless_matched Mark.NotSum (matched_parts Sum (type_at types.now on)) }
+{
+    let mark = match types.matched_sum(on) {
+        Some(_) => Mark::None,
+        None => Mark::NotSum,
     };
     Settled { typ, mark }
 }

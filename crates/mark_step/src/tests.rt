@@ -2,7 +2,7 @@ use crate::children::child_demand;
 use crate::node::{Binder, Demand, Mark, Mode, NodeView, Settled};
 use crate::settling::settle;
 use ctx_table::CtxTable;
-use grove_sorts::{Ctor, read_ident};
+use grove_sorts::{Ctor, Version, WIDEST, read_ident};
 use std::test::Fail;
 use type_core::TypeTable;
 
@@ -20,7 +20,11 @@ fn an_argument_is_analysed_against_the_domain(rt: HostRuntime) -> Result<(), Fai
             name: None,
             typ: types.unknown(),
         },
-        done: [Some(function), Some(numbers), None],
+        second: Binder {
+            name: None,
+            typ: types.unknown(),
+        },
+        done: [Some(function), Some(numbers), None, None, None],
     };
     let given = settle(rt.alloc(), &mut types, &ctxs, &node)?;
     assert_eq!(rt;
@@ -46,7 +50,7 @@ fn a_function_ascribes_another_type(rt: HostRuntime) -> Result<(), Fail> {
     let mut types = TypeTable::new(rt.alloc())?;
     let mut ctxs = CtxTable::new(rt.alloc())?;
     let numbers = types.arrow(types.num(), types.num())?;
-    let x = read_ident(b"x")?;
+    let x = read_ident(Version::Two, b"x")?;
     let node = NodeView {
         ctor: Ctor::Lam,
         ctx: ctxs.empty(),
@@ -55,7 +59,11 @@ fn a_function_ascribes_another_type(rt: HostRuntime) -> Result<(), Fail> {
             name: Some(x),
             typ: types.boolean(),
         },
-        done: [None, None, Some(types.boolean())],
+        second: Binder {
+            name: None,
+            typ: types.unknown(),
+        },
+        done: [None, None, Some(types.boolean()), None, None],
     };
     let given = settle(rt.alloc(), &mut types, &ctxs, &node)?;
     assert_eq!(rt;
@@ -75,7 +83,7 @@ fn a_function_ascribes_another_type(rt: HostRuntime) -> Result<(), Fail> {
 fn a_variable_has_another_type(rt: HostRuntime) -> Result<(), Fail> {
     let mut types = TypeTable::new(rt.alloc())?;
     let mut ctxs = CtxTable::new(rt.alloc())?;
-    let x = read_ident(b"x")?;
+    let x = read_ident(Version::Two, b"x")?;
     let node = NodeView {
         ctor: Ctor::Var(x),
         ctx: ctxs.extend(ctxs.empty(), x, types.boolean())?,
@@ -84,7 +92,11 @@ fn a_variable_has_another_type(rt: HostRuntime) -> Result<(), Fail> {
             name: None,
             typ: types.unknown(),
         },
-        done: [None, None, None],
+        second: Binder {
+            name: None,
+            typ: types.unknown(),
+        },
+        done: [None; WIDEST],
     };
     let given = settle(rt.alloc(), &mut types, &ctxs, &node)?;
     assert_eq!(rt;
@@ -109,10 +121,16 @@ fn branches_differ(rt: HostRuntime) -> Result<(), Fail> {
             name: None,
             typ: types.unknown(),
         },
+        second: Binder {
+            name: None,
+            typ: types.unknown(),
+        },
         done: [
             Some(types.boolean()),
             Some(types.num()),
             Some(types.boolean()),
+            None,
+            None,
         ],
     };
     let given = settle(rt.alloc(), &mut types, &ctxs, &node)?;
@@ -138,7 +156,11 @@ fn analysed_branches_are_analysed(rt: HostRuntime) -> Result<(), Fail> {
             name: None,
             typ: types.unknown(),
         },
-        done: [Some(types.boolean()), Some(types.num()), None],
+        second: Binder {
+            name: None,
+            typ: types.unknown(),
+        },
+        done: [Some(types.boolean()), Some(types.num()), None, None, None],
     };
     let branch = child_demand(rt.alloc(), &mut types, &mut ctxs, &node, 2)?;
     assert_eq!(rt; branch.mode, Mode::Ana(types.num()));
@@ -157,10 +179,16 @@ fn an_analysed_conditional_has_the_type_that_is_wanted(rt: HostRuntime) -> Resul
             name: None,
             typ: types.unknown(),
         },
+        second: Binder {
+            name: None,
+            typ: types.unknown(),
+        },
         done: [
             Some(types.boolean()),
             Some(types.num()),
             Some(types.boolean()),
+            None,
+            None,
         ],
     };
     let given = settle(rt.alloc(), &mut types, &ctxs, &node)?;
@@ -169,6 +197,63 @@ fn an_analysed_conditional_has_the_type_that_is_wanted(rt: HostRuntime) -> Resul
         Settled {
             typ: types.num(),
             mark: Mark::None
+        }
+    );
+    Ok(())
+}
+
+#[test]
+fn the_right_body_of_a_case_has_the_right_part(rt: HostRuntime) -> Result<(), Fail> {
+    let mut types = TypeTable::new(rt.alloc())?;
+    let mut ctxs = CtxTable::new(rt.alloc())?;
+    let sum = types.sum(types.num(), types.boolean())?;
+    let x = read_ident(Version::Two, b"x")?;
+    let y = read_ident(Version::Two, b"y")?;
+    let node = NodeView {
+        ctor: Ctor::Case,
+        ctx: ctxs.empty(),
+        mode: Mode::Syn,
+        binder: Binder {
+            name: Some(x),
+            typ: types.unknown(),
+        },
+        second: Binder {
+            name: Some(y),
+            typ: types.unknown(),
+        },
+        done: [Some(sum), None, Some(types.num()), None, None],
+    };
+    let body = child_demand(rt.alloc(), &mut types, &mut ctxs, &node, 4)?;
+    assert_eq!(rt; body.mode, Mode::Syn);
+    assert_eq!(rt; ctxs.look_up(body.ctx, &y), Some(types.boolean()));
+    assert_eq!(rt; ctxs.look_up(body.ctx, &x), None);
+    Ok(())
+}
+
+#[test]
+fn an_injection_stands_against_a_number(rt: HostRuntime) -> Result<(), Fail> {
+    let mut types = TypeTable::new(rt.alloc())?;
+    let ctxs = CtxTable::new(rt.alloc())?;
+    let node = NodeView {
+        ctor: Ctor::Inl,
+        ctx: ctxs.empty(),
+        mode: Mode::Ana(types.num()),
+        binder: Binder {
+            name: None,
+            typ: types.unknown(),
+        },
+        second: Binder {
+            name: None,
+            typ: types.unknown(),
+        },
+        done: [Some(types.unknown()), None, None, None, None],
+    };
+    let given = settle(rt.alloc(), &mut types, &ctxs, &node)?;
+    assert_eq!(rt;
+        given,
+        Settled {
+            typ: types.num(),
+            mark: Mark::InjAgainst
         }
     );
     Ok(())
