@@ -118,12 +118,6 @@ child_has_sort v e others p s is same wants = one (sort_of_ctor e.target.ctor) s
   one : (a b : Sort) → Some a ≡ Some b → a ≡ b
   one a b h = cc
 
--- no well-formed edge stands at a position that its source does not have
-pub has_sort_there : (v : Vertex) (e : Edge) (others : List Edge) (p : Position) → IsChildOf v e others → is_same_position e.position p ≡ true → sort_at v.ctor p ≡ None → ⊥
-has_sort_there v e others p is same lacks = none_is_not (sort_of_ctor e.target.ctor) (sym lacks ∙ child_fits v e others p is same) where
-  none_is_not : (s : Sort) → None ≡ Some s → ⊥
-  none_is_not s h = cc
-
 -- each position of an expression is found as one
 wants_exp : (c : Ctor) → AllByRecursion (λ p. is_exp p.1 ≡ true → sort_at c p.0 ≡ Some Exp) (positions c)
 wants_exp c = among (positions c) (places_found c) where

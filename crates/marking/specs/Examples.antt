@@ -2,9 +2,9 @@
 use Rattle.std.specs.Prelude.{ℕ, List, Option, map}
 use Rattle.grove_sorts.specs.declared.ident.Ident.{Ident}
 use Rattle.grove_sorts.specs.declared.ctor.Ctor.{Ctor}
-use Rattle.grove_sorts.specs.declared.ctor.Ctor.TheVariants.{Root, Var, Lam, Num, Plus, LitTrue, Choose, PVar, TNum}
+use Rattle.grove_sorts.specs.declared.ctor.Ctor.TheVariants.{Root, Var, Lam, Num, Plus, LitTrue, Choose, PVar, TNum, Let, Inl, Case}
 use Rattle.grove_sorts.specs.declared.position.Position.{Position}
-use Rattle.grove_sorts.specs.declared.position.Position.TheVariants.{Main, Param, Annot, Body, Left, Right, Test, WhenTrue, WhenFalse}
+use Rattle.grove_sorts.specs.declared.position.Position.TheVariants.{Main, Param, Annot, Def, Body, Left, Right, Test, WhenTrue, WhenFalse, Operand, On, LeftParam, LeftBody, RightParam, RightBody}
 use Rattle.grove_edits.specs.declared.vertex.Vertex.{Vertex}
 use Rattle.grove_edits.specs.declared.edge.Edge.{Edge}
 use Rattle.grove_terms.specs.Forest.{Forest, none, multi_ref, tree}
@@ -57,6 +57,29 @@ identity x = leaf function Param 2 (PVar x) (leaf function Annot 3 TNum (leaf fu
 -- the same with two patterns at its parameter
 abbrev pub two_parameters : Ident → Forest
 two_parameters x = leaf function Param 2 (PVar x) (leaf function Param 5 (PVar x) (leaf function Annot 3 TNum (leaf function Body 4 (Var x) none)))
+
+abbrev pub definition : Vertex
+definition = vertex 1 Let
+
+-- a name defined as 7, in a body that is the name
+abbrev pub defined : Ident → Forest
+defined x = leaf definition Param 2 (PVar x) (leaf definition Def 3 (Num 7) (leaf definition Body 4 (Var x) none))
+
+abbrev pub analysis : Vertex
+analysis = vertex 1 Case
+
+abbrev pub injection : Vertex
+injection = vertex 2 Inl
+
+-- a case on 7 at the left of a sum, with its left parameter as its left body
+abbrev pub case_on_left : Ident → Ident → Ctor → Forest
+case_on_left x y right =
+    tree (edge analysis On injection) (leaf injection Operand 3 (Num 7) none)
+    (leaf analysis LeftParam 4 (PVar x) (leaf analysis LeftBody 5 (Var x) (leaf analysis RightParam 6 (PVar y) (leaf analysis RightBody 7 right none))))
+
+-- a sum with an injection of nothing at its left, and nothing at its right
+abbrev pub injected : Forest
+injected = tree (edge sum Left injection) none none
 
 -- what a node shows: what is wanted of it, its type and its mark
 abbrev pub Shown : Type 0

@@ -37,7 +37,7 @@ HasNoMark ms = AllByRecursion (λ m. has_mark m.mark ≡ false) ms
 
 -- the expression at a vertex with these children
 abbrev pub expression : Ctor → Scope → Wanted → Forest → Expression
-expression ctor scope wanted f = record { ctor = ctor; scope = scope; wanted = wanted; bound = bound_in f }
+expression ctor scope wanted f = record { ctor = ctor; scope = scope; wanted = wanted; bound = bound_in ctor f }
 
 -- the types of the expressions at some positions, in order, each judged as is demanded after those before it
 abbrev pub types_at : Expression → (Position → Demanded → Typ) → List (Position × Sort) → List Typ → List Typ

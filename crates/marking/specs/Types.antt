@@ -4,11 +4,11 @@ use Rattle.grove_sorts.specs.declared.ident.Ident.{Ident}
 use Rattle.grove_sorts.specs.declared.ctor.Ctor.{Ctor}
 use Rattle.grove_sorts.specs.declared.ctor.Ctor.TheVariants as ctor
 use Rattle.grove_sorts.specs.declared.position.Position.{Position}
-use Rattle.grove_sorts.specs.declared.position.Position.TheVariants.{Param, Annot, Left, Right, Dom, Cod}
+use Rattle.grove_sorts.specs.declared.position.Position.TheVariants.{Param, Annot, Left, Right, Dom, Cod, LeftParam, RightParam}
 use Rattle.grove_sorts.specs.Position.{is_same_position}
 use Rattle.grove_terms.specs.Forest.{Forest, none, multi_ref, cycle_ref, tree}
 use Rattle.grove_terms.specs.Nodes.{count_at}
-use Rattle.type_core.specs.declared.former.Former.TheVariants.{Arrow, Product}
+use Rattle.type_core.specs.declared.former.Former.TheVariants.{Arrow, Product, Sum}
 use Rattle.type_core.specs.Typ.{Typ, Unknown, Num, Boolean, Pair}
 use Rattle.mark_step.specs.Expression.{Bound}
 
@@ -37,6 +37,11 @@ type_made ctor.TNum at = Num
 type_made ctor.TBool at = Boolean
 type_made ctor.TArrow at = Pair Arrow (at Dom) (at Cod)
 type_made ctor.TProd at = Pair Product (at Left) (at Right)
+type_made ctor.Let at = Unknown
+type_made ctor.Inl at = Unknown
+type_made ctor.Inr at = Unknown
+type_made ctor.Case at = Unknown
+type_made ctor.TSum at = Pair Sum (at Left) (at Right)
 
 -- the type of the tree that is a child at a position; a reference has none
 abbrev pub child_type : Forest → Position → Typ
@@ -72,6 +77,11 @@ pattern_name ctor.TNum = None
 pattern_name ctor.TBool = None
 pattern_name ctor.TArrow = None
 pattern_name ctor.TProd = None
+pattern_name ctor.Let = None
+pattern_name ctor.Inl = None
+pattern_name ctor.Inr = None
+pattern_name ctor.Case = None
+pattern_name ctor.TSum = None
 
 -- the name of the pattern that is a child at a position; a reference has none
 abbrev pub child_name : Forest → Position → Option Ident
@@ -80,6 +90,34 @@ child_name (multi_ref e rest) p = child_name rest p
 child_name (cycle_ref e rest) p = child_name rest p
 child_name (tree e below rest) p = if is_same_position e.position p then pattern_name e.target.ctor else child_name rest p
 
--- what a function with these children binds: the name at its parameter, where that is an only child and a tree, and the type at its type
-abbrev pub bound_in : Forest → Bound
-bound_in f = record { name = if_sole (count_at f Param) (child_name f Param) None; typ = type_in f Annot }
+-- the name of a param position: that of the pattern there, where it is an only child and a tree
+abbrev pub name_in : Forest → Position → Option Ident
+name_in f p = if_sole (count_at f p) (child_name f p) None
+
+abbrev pub nothing_bound : Bound
+nothing_bound = record { name = None; typ = Unknown; second = None }
+
+-- what a vertex with these children binds: a function, a `let` and a case bind names, and a function ascribes a type
+abbrev pub bound_in : Ctor → Forest → Bound
+bound_in ctor.Root f = nothing_bound
+bound_in (ctor.Var x) f = nothing_bound
+bound_in ctor.Lam f = record { name = name_in f Param; typ = type_in f Annot; second = None }
+bound_in ctor.Ap f = nothing_bound
+bound_in (ctor.Num n) f = nothing_bound
+bound_in ctor.Plus f = nothing_bound
+bound_in ctor.LitTrue f = nothing_bound
+bound_in ctor.LitFalse f = nothing_bound
+bound_in ctor.Choose f = nothing_bound
+bound_in ctor.Pair f = nothing_bound
+bound_in ctor.Fst f = nothing_bound
+bound_in ctor.Snd f = nothing_bound
+bound_in (ctor.PVar x) f = nothing_bound
+bound_in ctor.TNum f = nothing_bound
+bound_in ctor.TBool f = nothing_bound
+bound_in ctor.TArrow f = nothing_bound
+bound_in ctor.TProd f = nothing_bound
+bound_in ctor.Let f = record { name = name_in f Param; typ = Unknown; second = None }
+bound_in ctor.Inl f = nothing_bound
+bound_in ctor.Inr f = nothing_bound
+bound_in ctor.Case f = record { name = name_in f LeftParam; typ = Unknown; second = name_in f RightParam }
+bound_in ctor.TSum f = nothing_bound
