@@ -74,10 +74,10 @@ gave_before types (x ∷ gs) zero i d lt rest =
 gave_before types (x ∷ gs) (suc n) zero d lt rest = refl
 gave_before types (x ∷ gs) (suc n) (suc i) d lt rest = gave_before types gs n i d (omega (arith, lt)) (λ j le. rest (suc j) (omega (arith, le)))
 
-pub gave_is : (types : List Typ) (o : OpenVertex) (i : ℕ) (d : Given) → IsFilledOf types o → i < 3 → machine.gave (map (given_at types) (given_before o)) i ≡ given_at types (slice_index_or o.given i d)
+pub gave_is : (types : List Typ) (o : OpenVertex) (i : ℕ) (d : Given) → IsFilledOf types o → i < 5 → machine.gave (map (given_at types) (given_before o)) i ≡ given_at types (slice_index_or o.given i d)
 gave_is types o i d is lt = gave_before types o.given o.next i d (omega (arith, lt, is.wide)) is.rest
 
-pub gave_number : (types : List Typ) (o : OpenVertex) (i : ℕ) (d : Given) → IsFilledOf types o → i < 3 → IsGivenOf types (slice_index_or o.given i d)
+pub gave_number : (types : List Typ) (o : OpenVertex) (i : ℕ) (d : Given) → IsFilledOf types o → i < 5 → IsGivenOf types (slice_index_or o.given i d)
 gave_number types o i d is lt = subst (λ (x : Option Given). IfSome x (IsGivenOf types)) (slice_get-get_or o.given i d (omega (arith, lt, is.wide))) (is.numbers i)
 
 -- ---- the types so far, by index

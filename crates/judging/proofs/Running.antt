@@ -19,9 +19,9 @@ use Rattle.grove_terms.specs.declared.node.What.TheVariants.{Vertex, Hole, Confl
 use Rattle.grove_terms.specs.Forest.{Forest, none, multi_ref, cycle_ref, tree, child_edges, IsWellSorted}
 use Rattle.grove_terms.specs.Nodes.{node_at, child_node, head_node, place_nodes, places_nodes, count_at, child_nodes, tree_nodes, nodes_under}
 use Rattle.type_core.specs.Typ.{Typ}
-use Rattle.mark_step.specs.Scope.{Scope, bindings_inside}
+use Rattle.mark_step.specs.Scope.{Scope}
 use Rattle.mark_step.specs.Expression.{Wanted, Synthesise, Analyse, Expression, Demanded, Marked}
-use Rattle.mark_step.specs.Step.{demand, wanted_next, settled, settled_as}
+use Rattle.mark_step.specs.Step.{demand, scope_next, wanted_next, settled, settled_as}
 use Rattle.mark_step.specs.Rows.{is_exp}
 use Rattle.marking.specs.Types.{if_sole, child_name, tree_type, child_type, pattern_name, bound_in}
 use Rattle.marking.specs.Marking.{MarkedNode, expression, types_at, judged_in, judged_child, marked_plain, marked_vertex, marked_place, marked_places, marked_children, marked_tree, synthesised_in, children_types}
@@ -254,20 +254,32 @@ places-run c d x f runs demands n (p ∷ ps) row place depth frames out =
 
 -- ---- what an open vertex knows
 
--- what a function binds is known where its body is judged, and no other constructor binds
+no_more : (n : ℕ) (p : Position × Sort) (ps : List (Position × Sort)) → drop n [] ≡ p ∷ ps → ⊥
+no_more zero p ps e = cc
+no_more (suc n) p ps e = cc
+
+-- What a vertex binds is known where a child is judged in whose scope it stands.
 inside_known : (c : Ctor) (x : Expression) (f : Forest) (scope : Scope) (n : ℕ) (p : Position × Sort) (ps : List (Position × Sort)) → drop n (positions c) ≡ p ∷ ps → p.1 ≡ Exp
-    → bindings_inside c (bound_by c (places_give x f (take n (positions c)) [])).name (bound_by c (places_give x f (take n (positions c)) [])).typ scope ≡ bindings_inside c (bound_in f).name (bound_in f).typ scope
+    → scope_next c (bound_by c (places_give x f (take n (positions c)) [])) scope (types_at x (judged_in f) (take n (positions c)) [])
+    ≡ scope_next c (bound_in c f) scope (types_at x (judged_in f) (take n (positions c)) [])
 inside_known ctor.Lam x f scope zero p ps row exp = absurd cc
 inside_known ctor.Lam x f scope (suc zero) p ps row exp = absurd cc
 inside_known ctor.Lam x f scope (suc (suc zero)) p ps row exp = refl
-inside_known ctor.Lam x f scope (suc (suc (suc n))) p ps row exp = absurd (no_more n row) where
-  no_more : (n : ℕ) → drop (suc (suc (suc n))) (positions ctor.Lam) ≡ p ∷ ps → ⊥
-  no_more zero e = cc
-  no_more (suc n) e = cc
+inside_known ctor.Lam x f scope (suc (suc (suc n))) p ps row exp = absurd (no_more n p ps row)
+inside_known ctor.Let x f scope zero p ps row exp = refl
+inside_known ctor.Let x f scope (suc zero) p ps row exp = refl
+inside_known ctor.Let x f scope (suc (suc zero)) p ps row exp = refl
+inside_known ctor.Let x f scope (suc (suc (suc n))) p ps row exp = absurd (no_more n p ps row)
+inside_known ctor.Case x f scope zero p ps row exp = refl
+inside_known ctor.Case x f scope (suc zero) p ps row exp = absurd cc
+inside_known ctor.Case x f scope (suc (suc zero)) p ps row exp = refl
+inside_known ctor.Case x f scope (suc (suc (suc zero))) p ps row exp = absurd cc
+inside_known ctor.Case x f scope (suc (suc (suc (suc zero)))) p ps row exp = refl
+inside_known ctor.Case x f scope (suc (suc (suc (suc (suc n))))) p ps row exp = absurd (no_more n p ps row)
 inside_known _ x f scope n p ps row exp = refl
 
 -- at the end each vertex knows what it binds, as far as it counts
-settled_known : (c : Ctor) (x : Expression) (f : Forest) (scope : Scope) (w : Wanted) (ts : List Typ) → settled_as w c scope (bound_by c (places_give x f (positions c) [])) ts ≡ settled_as w c scope (bound_in f) ts
+settled_known : (c : Ctor) (x : Expression) (f : Forest) (scope : Scope) (w : Wanted) (ts : List Typ) → settled_as w c scope (bound_by c (places_give x f (positions c) [])) ts ≡ settled_as w c scope (bound_in c f) ts
 settled_known ctor.Lam x f scope w ts = refl
 settled_known _ x f scope Synthesise ts = refl
 settled_known _ x f scope (Analyse t) ts = refl
@@ -276,6 +288,7 @@ settled_known _ x f scope (Analyse t) ts = refl
 made_known : (c : Ctor) (x : Expression) (f : Forest) → made_of c (places_give x f (positions c) []) ≡ tree_type c f
 made_known ctor.TArrow x f = refl
 made_known ctor.TProd x f = refl
+made_known ctor.TSum x f = refl
 made_known _ x f = refl
 
 -- the types of the expressions so far

@@ -71,7 +71,7 @@ pub record IsFilledOf (types : List Typ) (o : OpenVertex) : Type 0 where
   pub numbers : (i : ℕ) → IfSome (slice_get o.given i) (IsGivenOf types)
   pub rest : (i : ℕ) → o.next ≤ i → IfSome (slice_get o.given i) (λ g. given_at types g ≡ machine.nothing)
   pub within : o.next ≤ length (positions o.ctor)
-  pub wide : length o.given ≡ 3
+  pub wide : length o.given ≡ 5
 
 pub record IsOpenOf (types : List Typ) (ctxs : List Context) (o : OpenVertex) : Type 0 where
   pub demand : IsDemandOf types ctxs o.demand
@@ -96,7 +96,7 @@ pub record IsViewOf (types : List Typ) (o : OpenVertex) (v : NodeView) : Type 0 
   pub ctor : v.ctor ≡ o.ctor
   pub ctx : v.ctx ≡ o.demand.ctx
   pub mode : v.mode ≡ o.demand.mode
-  pub bound : bound_at types v.binder ≡ machine.bound_by o.ctor (map (given_at types) (given_before o))
+  pub bound : bound_at types v ≡ machine.bound_by o.ctor (map (given_at types) (given_before o))
   pub number : IsTypeOf types v.binder.typ
   pub done : (i : ℕ) → slice_index_or v.done i None ≡ option_map (λ g. g.typ) (slice_get (given_before o) i)
 

@@ -35,6 +35,7 @@ fn type_of(
         Ctor::TBool => Ok(types.boolean()),
         Ctor::TArrow => Ok(types.arrow(first, second)?),
         Ctor::TProd => Ok(types.product(first, second)?),
+        Ctor::TSum => Ok(types.sum(first, second)?),
         _ => Ok(types.unknown()),
     }
 }

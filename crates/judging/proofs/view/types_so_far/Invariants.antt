@@ -5,5 +5,5 @@ use Rattle.judging.proofs.view.types_so_far.Given as goal
 abbrev pub invariant-loop-index : goal.invariant-loop-index
 invariant-loop-index l = record {
   at : HasTypesOf (take l.index l.vertex.given) l.types;
-  long : length l.types ≡ 3;
+  long : length l.types ≡ 5;
 }

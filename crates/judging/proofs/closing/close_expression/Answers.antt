@@ -1,0 +1,22 @@
+use Rattle.std.proofs.Common.{ap, ◌∙◌}
+use Rattle.mark_step.specs.Step.{settled}
+use Rattle.mark_step.specs.Node.{wanted_at, marked_at, types_done}
+use Rattle.judging.specs.Machine.{expression_added, expression_of}
+use Rattle.judging.specs.Frames.{opened_at}
+use Rattle.judging.proofs.Kept.{wanted_kept}
+use Rattle.judging.proofs.Views.{expression_is, done_is}
+use Rattle.judging.proofs.closing.close_expression.Goals as goal
+
+pub returns-clause-added : goal.returns-clause-added
+returns-clause-added c =
+    let old = c.args.types.now in
+    let ctxs = c.args.ctxs.now in
+    let vertex = c.args.vertex.now in
+    let view = c.view-view.result in
+    let open_here = c.requires.vertex in
+    let whole = expression_of (opened_at old ctxs vertex) in
+    ap (λ w. expression_added w (marked_at c.settle.new.types c.in_ok-settled.settled))
+    (wanted_kept old c.settle.new.types c.in_ok-settled.ensures.types vertex.demand.mode open_here.demand.mode)
+    ∙ ap (expression_added (wanted_at old vertex.demand.mode))
+    (c.in_ok-settled.ensures.settled ∙ ap (λ e. settled e (types_done old view)) (expression_is old ctxs vertex view open_here c.view-view.ensures)
+    ∙ ap (settled whole) (done_is old ctxs vertex view open_here c.view-view.ensures c.requires.whole))
