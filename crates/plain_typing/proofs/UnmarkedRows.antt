@@ -6,8 +6,8 @@ use Rattle.mark_step.specs.declared.node.Mark.{Mark}
 use Rattle.mark_step.specs.declared.node.Mark.TheVariants as mark
 use Rattle.mark_step.specs.Scope.{Scope}
 use Rattle.mark_step.specs.Expression.{Wanted, Synthesise, Analyse, Bound, Expression, Marked, unmarked}
-use Rattle.mark_step.specs.Rows.{Judgement, Synthesises, syn_var, syn_var_free, syn_lam, syn_ap, syn_ap_not_arrow, syn_num, syn_plus, syn_true, syn_false, syn_if, syn_if_branches, syn_pair, syn_fst, syn_fst_not_product, syn_snd, syn_snd_not_product, Analyses, ana_lam, ana_lam_ascription, ana_lam_against, ana_if, ana_pair, ana_pair_against, ana_marked, ana_inconsistent, ana_other, Follows, FollowsAs}
-use Rattle.plain_typing.specs.Rules.{Types, types_var, types_lam, types_ap, types_num, types_plus, types_true, types_false, types_if, types_pair, types_fst, types_snd, Checks, checks_lam, checks_if, checks_pair, checks_other, HasType, HasTypeAs}
+use Rattle.mark_step.specs.Rows.{Judgement, Synthesises, syn_var, syn_var_free, syn_lam, syn_ap, syn_ap_not_arrow, syn_num, syn_plus, syn_true, syn_false, syn_if, syn_if_branches, syn_pair, syn_fst, syn_fst_not_product, syn_snd, syn_snd_not_product, syn_let, syn_inl, syn_inr, syn_case, syn_case_not_sum, syn_case_branches, Analyses, ana_lam, ana_lam_ascription, ana_lam_against, ana_if, ana_pair, ana_pair_against, ana_let, ana_inl, ana_inl_against, ana_inr, ana_inr_against, ana_case, ana_case_not_sum, ana_marked, ana_inconsistent, ana_other, Follows, FollowsAs}
+use Rattle.plain_typing.specs.Rules.{Types, types_var, types_lam, types_ap, types_num, types_plus, types_true, types_false, types_if, types_pair, types_fst, types_snd, types_let, types_inl, types_inr, types_case, Checks, checks_lam, checks_if, checks_pair, checks_let, checks_inl, checks_inr, checks_case, checks_other, HasType, HasTypeAs}
 
 row_of_types : (scope : Scope) (b : Bound) (ctor : Ctor) (js : List Judgement) (t : Typ) → Types scope b ctor js t → Synthesises scope b ctor js t mark.None
 row_of_types scope b ctor js t (types_var x _ h) = syn_var x t h
@@ -21,12 +21,20 @@ row_of_types scope b ctor js t (types_if test when_true when_false both h) = syn
 row_of_types scope b ctor js t (types_pair first second) = syn_pair first second
 row_of_types scope b ctor js t (types_fst of first second h) = syn_fst of t second h
 row_of_types scope b ctor js t (types_snd of first second h) = syn_snd of first t h
+row_of_types scope b ctor js t (types_let definition body) = syn_let definition t
+row_of_types scope b ctor js t (types_inl of) = syn_inl of
+row_of_types scope b ctor js t (types_inr of) = syn_inr of
+row_of_types scope b ctor js t (types_case on left right when_left when_right both h same) = syn_case on left right when_left when_right t h same
 
 row_of_checks : (scope : Scope) (b : Bound) (against : Typ) (ctor : Ctor) (js : List Judgement) (t : Typ) → Checks scope b against ctor js t
     → Analyses scope b against ctor js t mark.None
 row_of_checks scope b against ctor js t (checks_lam from to body h same) = ana_lam from to body h same
 row_of_checks scope b against ctor js t (checks_if test when_true when_false) = ana_if test when_true when_false
 row_of_checks scope b against ctor js t (checks_pair left right first second h) = ana_pair left right first second h
+row_of_checks scope b against ctor js t (checks_let definition body) = ana_let definition body
+row_of_checks scope b against ctor js t (checks_inl left right of h) = ana_inl left right of h
+row_of_checks scope b against ctor js t (checks_inr left right of h) = ana_inr left right of h
+row_of_checks scope b against ctor js t (checks_case on left right when_left when_right h) = ana_case on left right when_left when_right h
 row_of_checks scope b against ctor js t (checks_other _ _ _ other rule same) = ana_other ctor js t other (row_of_types scope b ctor js t rule) same
 
 -- a rule is a row without a mark
@@ -54,6 +62,12 @@ types_of_row scope b ctor js t m (syn_fst of first second h) plain = types_fst o
 types_of_row scope b ctor js t m (syn_fst_not_product of h) plain = absurd cc
 types_of_row scope b ctor js t m (syn_snd of first second h) plain = types_snd of first t h
 types_of_row scope b ctor js t m (syn_snd_not_product of h) plain = absurd cc
+types_of_row scope b ctor js t m (syn_let definition body) plain = types_let definition t
+types_of_row scope b ctor js t m (syn_inl of) plain = types_inl of
+types_of_row scope b ctor js t m (syn_inr of) plain = types_inr of
+types_of_row scope b ctor js t m (syn_case on left right when_left when_right both h same) plain = types_case on left right when_left when_right t h same
+types_of_row scope b ctor js t m (syn_case_not_sum on when_left when_right h) plain = absurd cc
+types_of_row scope b ctor js t m (syn_case_branches on left right when_left when_right h differ) plain = absurd cc
 
 checks_of_row : (scope : Scope) (b : Bound) (against : Typ) (ctor : Ctor) (js : List Judgement) (t : Typ) (m : Mark) → Analyses scope b against ctor js t m → m ≡ mark.None
     → Checks scope b against ctor js t
@@ -63,6 +77,13 @@ checks_of_row scope b against ctor js t m (ana_lam_against body h) plain = absur
 checks_of_row scope b against ctor js t m (ana_if test when_true when_false) plain = checks_if test when_true when_false
 checks_of_row scope b against ctor js t m (ana_pair left right first second h) plain = checks_pair left right first second h
 checks_of_row scope b against ctor js t m (ana_pair_against first second h) plain = absurd cc
+checks_of_row scope b against ctor js t m (ana_let definition body) plain = checks_let definition body
+checks_of_row scope b against ctor js t m (ana_inl left right of h) plain = checks_inl left right of h
+checks_of_row scope b against ctor js t m (ana_inl_against of h) plain = absurd cc
+checks_of_row scope b against ctor js t m (ana_inr left right of h) plain = checks_inr left right of h
+checks_of_row scope b against ctor js t m (ana_inr_against of h) plain = absurd cc
+checks_of_row scope b against ctor js t m (ana_case on left right when_left when_right h) plain = checks_case on left right when_left when_right h
+checks_of_row scope b against ctor js t m (ana_case_not_sum on when_left when_right h) plain = absurd cc
 checks_of_row scope b against ctor js t m (ana_marked _ _ _ _ other row ne) plain = absurd (ne plain)
 checks_of_row scope b against ctor js t m (ana_inconsistent _ _ _ other row differ) plain = absurd cc
 checks_of_row scope b against ctor js t m (ana_other _ _ _ other row same) plain = checks_other ctor js t other (types_of_row scope b ctor js t mark.None row refl) same

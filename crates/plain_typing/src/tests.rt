@@ -5,7 +5,7 @@ use crate::checking::is_typed;
 use ctx_table::CtxTable;
 use grove_edits::{Edge, Vertex};
 use grove_names::Name;
-use grove_sorts::{Ctor, Position, Sort, read_ident};
+use grove_sorts::{Ctor, Position, Sort, Version, read_ident};
 use grove_terms::{NoMemory, Node, Tree, What};
 use std::alloc::Global;
 use std::test::Fail;
@@ -109,7 +109,7 @@ fn a_sum_with_a_free_variable_is_not_typed(rt: HostRuntime) -> Result<(), Fail> 
     let mut types = TypeTable::new(rt.alloc())?;
     let mut ctxs = CtxTable::new(rt.alloc())?;
     let mut free = RIGHT;
-    free.target.ctor = Ctor::Var(read_ident(b"x")?);
+    free.target.ctor = Ctor::Var(read_ident(Version::Two, b"x")?);
     let tree = tree_of(rt.alloc(), &[HEAD, child(1, LEFT), child(1, free)])?;
     assert_eq!(rt; is_typed(rt.alloc(), &tree, &mut types, &mut ctxs)?, false);
     Ok(())
