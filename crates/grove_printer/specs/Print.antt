@@ -77,6 +77,8 @@ mark_text mark.LamAgainst = codes "lam-against"
 mark_text mark.Ascription = codes "ascription"
 mark_text mark.PairAgainst = codes "pair-against"
 mark_text mark.Inconsistent = codes "inconsistent"
+mark_text mark.NotSum = codes "not-sum"
+mark_text mark.InjAgainst = codes "inj-against"
 
 -- the sort of a node: that of the vertex, or of the position without a sole child
 abbrev pub sort_of_node : What → Sort

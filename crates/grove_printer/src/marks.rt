@@ -93,5 +93,7 @@ fn mark_word(mark: Mark) -> &'static [u8]
         Mark::Ascription => b"ascription",
         Mark::PairAgainst => b"pair-against",
         Mark::Inconsistent => b"inconsistent",
+        Mark::NotSum => b"not-sum",
+        Mark::InjAgainst => b"inj-against",
     }
 }

@@ -148,3 +148,37 @@ fn a_marked_line_stands_alone(rt: HostRuntime) -> Result<(), Fail> {
     );
     Ok(())
 }
+
+#[test]
+fn an_injection_against_a_number_is_printed(rt: HostRuntime) -> Result<(), Fail> {
+    let types = TypeTable::new(rt.alloc())?;
+    let injection = vertex(1, 3, Ctor::Inl);
+    let edge = Edge {
+        name: Name {
+            author: 1,
+            counter: 4,
+        },
+        source: vertex(1, 1, Ctor::Plus),
+        position: Position::Left,
+        target: injection,
+    };
+    let node = MarkedNode {
+        node: Node {
+            depth: 2,
+            position: Some(Position::Left),
+            edge: Some(edge),
+            what: What::Vertex(injection),
+        },
+        mode: Some(Mode::Ana(types.num())),
+        typ: Some(types.num()),
+        mark: Mark::InjAgainst,
+    };
+    let marked = below_the_root(rt.alloc(), node)?;
+    let mut text = Vec::new(rt.alloc());
+    print_marked_lines(&marked, &types, &mut text)?;
+    assert_eq!(rt;
+        text.as_slice(),
+        b"2 left 1.4 1.3 inl ana:num num inj-against\n".as_slice()
+    );
+    Ok(())
+}
