@@ -121,8 +121,8 @@ rest_is_sound live root n (Child e d) sound = child_sound live root n d (class l
 -- ---- how much is left
 
 abbrev pub weight_of : List Edge → Task → ℕ
-weight_of live (Place v p s d) = 4 * length (task_nodes live (Place v p s d)) + 1
-weight_of live (Child e d) = 4 * length (task_nodes live (Child e d))
+weight_of live (Place v p s d) = 6 * length (task_nodes live (Place v p s d)) + 1
+weight_of live (Child e d) = 6 * length (task_nodes live (Child e d))
 
 abbrev pub weight : List Edge → List Task → ℕ
 weight live [] = 0
@@ -132,7 +132,7 @@ pub weight-append : (live : List Edge) (xs ys : List Task) → weight live (xs +
 weight-append live [] ys = omega arith
 weight-append live (x ∷ xs) ys = let rest = weight-append live xs ys in omega arith
 
-weight-child_tasks : (live : List Edge) (p : Position) (d : ℕ) (es : List Edge) → weight live (child_tasks d es) ≡ 4 * length (child_lists live d p es)
+weight-child_tasks : (live : List Edge) (p : Position) (d : ℕ) (es : List Edge) → weight live (child_tasks d es) ≡ 6 * length (child_lists live d p es)
 weight-child_tasks live p d [] = refl
 weight-child_tasks live p d (e ∷ es) =
     let rest = weight-child_tasks live p d es in
@@ -141,7 +141,7 @@ weight-child_tasks live p d (e ∷ es) =
     let here : length (child_list live d e.position e) ≡ length (child_list live d p e) = refl in
     omega arith
 
-weight-place_tasks : (live : List Edge) (v : Vertex) (d : ℕ) (ps : List (Position × Sort)) → weight live (place_tasks v d ps) ≡ 4 * length (todo live (place_tasks v d ps)) + length ps
+weight-place_tasks : (live : List Edge) (v : Vertex) (d : ℕ) (ps : List (Position × Sort)) → weight live (place_tasks v d ps) ≡ 6 * length (todo live (place_tasks v d ps)) + length ps
 weight-place_tasks live v d [] = refl
 weight-place_tasks live v d (p ∷ ps) =
     let rest = weight-place_tasks live v d ps in
@@ -150,12 +150,12 @@ weight-place_tasks live v d (p ∷ ps) =
     let listed = ap (λ (xs : List Node). length xs) (todo-append live (place_tasks v d ps) (Place v p.0 p.1 d ∷ [])) in
     omega arith
 
-lighter_place : (live : List Edge) (p : Position) (s : Sort) (d : ℕ) (es : List Edge) → weight live (place_rest es d) < 4 * length (place_nodes (length es) (λ at. child_lists live at p es) d p s) + 1
+lighter_place : (live : List Edge) (p : Position) (s : Sort) (d : ℕ) (es : List Edge) → weight live (place_rest es d) < 6 * length (place_nodes (length es) (λ at. child_lists live at p es) d p s) + 1
 lighter_place live p s d [] = omega arith
 lighter_place live p s d (e ∷ []) = let same = weight-child_tasks live p d (e ∷ []) in omega arith
 lighter_place live p s d (e ∷ f ∷ es) = let same = weight-child_tasks live p (d + 1) (e ∷ f ∷ es) in omega arith
 
-lighter_child : (live : List Edge) (c : Class) (e : Edge) (d : ℕ) → (c ≡ NoParent → ⊥) → (c ≡ Inner → Stands live e.target) → weight live (child_rest c e.target d) < 4 * suc (length (under_by c live e.target d))
+lighter_child : (live : List Edge) (c : Class) (e : Edge) (d : ℕ) → (c ≡ NoParent → ⊥) → (c ≡ Inner → Stands live e.target) → weight live (child_rest c e.target d) < 6 * suc (length (under_by c live e.target d))
 lighter_child live Multi e d some stands = omega arith
 lighter_child live Cycle e d some stands = omega arith
 lighter_child live NoParent e d some stands = absurd (some refl)
