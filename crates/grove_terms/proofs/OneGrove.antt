@@ -194,7 +194,7 @@ live_are edits = record {
 }
 
 -- the ends of some edges and the root, in vertex order
-abbrev ends_of : List Edge → List Vertex
+abbrev pub ends_of : List Edge → List Vertex
 ends_of [] = root ∷ []
 ends_of (e ∷ es) = put vertex_cmp e.source (put vertex_cmp e.target (ends_of es))
 
@@ -253,23 +253,28 @@ end_held (x ∷ xs) e v h end = holds-ends x xs v ∙ by_test (or_split (is_same
   by_test (inl same) later = at_end (one_edge x e same) end
   by_test (inr rest) later = or_right (is_same_vertex x.source v) (is_same_vertex x.target v || holds vertex_cmp v (ends_of xs)) (or_right (is_same_vertex x.target v) (holds vertex_cmp v (ends_of xs)) (later rest))
 
-abbrev pub vertices_of : List Edit → List Vertex
+-- the vertices of a graph whose edges that are not Absent are those of a list
+pub vertices_from : (g : Graph) (es : List Edge) → ((e : Edge) → g e ≢ Absent → holds_edge e es ≡ true) → ((e : Edge) → holds_edge e es ≡ true → g e ≢ Absent) → AreVertices g (ends_of es)
+vertices_from g es each no_other = record {
+  in_order = in_vertex_order (ends_of es) (ends_in_order es);
+  each = λ v is. holds-vertices v (ends_of es) ∙ held v is;
+  no_other = λ v h. from_end v (end_from_held es v (sym (holds-vertices v (ends_of es)) ∙ h));
+} where
+  held : (v : Vertex) → IsVertexOf g v → holds vertex_cmp v (ends_of es) ≡ true
+  held v (inl is) = ap (λ x. holds vertex_cmp x (ends_of es)) is ∙ root_held es
+  held v (inr end) = end_held es end.0 v (sym (holds-edges end.0 es) ∙ each end.0 end.1) end.2
+
+  from_end : (v : Vertex) → IsEndIn es v → IsVertexOf g v
+  from_end v (inl is) = inl is
+  from_end v (inr end) = inr (end.0, no_other end.0 (holds-edges end.0 es ∙ end.1), end.2)
+
+abbrev vertices_of : List Edit → List Vertex
 vertices_of edits = ends_of (named_by edits)
 
-vertex_held : (edits : List Edit) (v : Vertex) → IsVertexOf (graph edits) v → holds vertex_cmp v (vertices_of edits) ≡ true
-vertex_held edits v (inl is) = ap (λ x. holds vertex_cmp x (vertices_of edits)) is ∙ root_held (named_by edits)
-vertex_held edits v (inr end) = end_held (named_by edits) end.0 v (holds-named edits end.0 ∙ test_from_present (graph edits end.0) end.1) end.2
-
-vertex_from_end : (edits : List Edit) (v : Vertex) → IsEndIn (named_by edits) v → IsVertexOf (graph edits) v
-vertex_from_end edits v (inl is) = inl is
-vertex_from_end edits v (inr end) = inr (end.0, present_from_test (graph edits end.0) (sym (holds-named edits end.0) ∙ end.1), end.2)
-
-pub vertices_are : (edits : List Edit) → AreVertices (graph edits) (vertices_of edits)
-vertices_are edits = record {
-  in_order = in_vertex_order (vertices_of edits) (ends_in_order (named_by edits));
-  each = λ v is. holds-vertices v (vertices_of edits) ∙ vertex_held edits v is;
-  no_other = λ v h. vertex_from_end edits v (end_from_held (named_by edits) v (sym (holds-vertices v (vertices_of edits)) ∙ h));
-}
+vertices_are : (edits : List Edit) → AreVertices (graph edits) (vertices_of edits)
+vertices_are edits =
+    vertices_from (graph edits) (named_by edits) (λ e some. holds-edges e (named_by edits) ∙ holds-named edits e ∙ test_from_present (graph edits e) some)
+    (λ e held. present_from_test (graph edits e) (sym (holds-named edits e) ∙ sym (holds-edges e (named_by edits)) ∙ held))
 
 -- ---- and a grove
 

@@ -1,0 +1,258 @@
+-- The edits of an action to which no fault applies are of well-formed edges whose numbers lie in their ranges.
+use Rattle.std.proofs.Common.{◌≡◌, ◌≢◌, ℕ, ◌+◌, ◌<◌, ◌≤◌, ◌^◌, Bool, true, false, cond, List, [], ◌∷◌, length, map, refl, sym, ap, subst, ◌∙◌, arith, lt-ltb}
+use borrow.Author.Tests.{ltb-false}
+use Rattle.std.specs.Prelude.{◌&&◌, ◌==◌, nat_lt, None, Some, IfSome, option_and_then}
+use Rattle.edge_lattice.specs.declared.state.State.TheVariants.{Absent}
+use Rattle.grove_names.specs.declared.name.Name.{Name}
+use Rattle.grove_sorts.specs.declared.sort.Sort.{Sort}
+use Rattle.grove_sorts.specs.declared.position.Position.{Position}
+use Rattle.grove_sorts.specs.declared.ctor.Ctor.{Ctor}
+use Rattle.grove_sorts.specs.Ctor.{sort_at, sort_of_ctor, positions, first_position}
+use Rattle.grove_sorts.proofs.Orders.{one_position}
+use Rattle.grove_sorts.proofs.Rows.{first_position_found, places_found}
+use Rattle.grove_edits.specs.declared.vertex.Vertex.{Vertex}
+use Rattle.grove_edits.specs.declared.edge.Edge.{Edge}
+use Rattle.grove_edits.specs.declared.edit.Edit.{Edit}
+use Rattle.grove_edits.specs.Vertex.{is_vertex, literal, VertexInRange}
+use Rattle.grove_edits.specs.Edge.{IsWellFormed, EdgeInRange}
+use Rattle.grove_edits.specs.Graph.{Graph}
+use Rattle.walks.specs.Live.{holds_edge}
+use Rattle.grove_edits.specs.Vertex.{is_same_vertex, stands_in}
+use Rattle.grove_sorts.specs.Position.{is_same_position}
+use Rattle.grove_edits.proofs.Vertices.{same_vertex_exact}
+use Rattle.edge_index.proofs.Ordered.{holds-filter}
+use Rattle.grove_edits.specs.declared.action.Place.{Place}
+use Rattle.grove_edits.specs.declared.action.Action.{Action}
+use Rattle.grove_edits.specs.declared.action.Action.TheVariants.{Construct, Wrap, Become, Delete, Cut, Relocate, Restore}
+use Rattle.grove_edits.specs.declared.act_fault.ActFault.TheVariants.{NamesSpent}
+use Rattle.user_actions.specs.Lists.{GraphLists, AreListsOf}
+use Rattle.user_actions.specs.Names.{is_same_name, new_name, edges_named, greatest_counter}
+use Rattle.user_actions.specs.Place.{edges_at, of_vertex}
+use Rattle.user_actions.specs.Faults.{carried, carried_by_first, edges_cut, else_edges, name_count, last_counter, wrapping_position}
+use Rattle.user_actions.specs.PlainEdits.{PlainEdit, plain, deletions, insertion, new_vertex, to_new_vertex, put_below, wrap_edits, become_edits, relocate_edits}
+use Rattle.user_actions.specs.Plan.{edits_of}
+use Rattle.user_actions.specs.Good.{AreWellFormed, AreInRange, AreOpening, HasLiteralInRange}
+use Rattle.grove_sorts.proofs.Truths.{both_true}
+use Rattle.user_actions.proofs.GoodEdges.{parts_of, well_formed_from, vertex_good, vertex_in_range, no_root_at, sort_from_test}
+use Rattle.user_actions.proofs.PlainGraphs.{AllEdits}
+use Rattle.user_actions.proofs.EditLists.{all_append, all_deletions, all_put_below, all_carry_over, edge_with, held_first}
+use Rattle.user_actions.proofs.NoFault.{NoFault, only_stands, vertex_named_is}
+use Rattle.user_actions.proofs.OnePlace.{held_at_place, live_known, entry_found, carried_is}
+use Rattle.user_actions.proofs.Accepted.{HasPlace, to_construct, to_wrap, to_become, to_delete, to_relocate, to_restore}
+use Rattle.user_actions.proofs.PlanLaws.{edits_here}
+
+abbrev pub IsGood : Edge → Type 0
+IsGood e = IsWellFormed e × EdgeInRange e
+
+-- ---- the new names fit
+
+within_last : (greatest count : ℕ) → cond (nat_lt 0 count && nat_lt last_counter (greatest + count)) (Some (NamesSpent greatest)) None ≡ None → 0 < count → greatest + count ≤ last_counter
+within_last greatest count none positive = by_test (nat_lt last_counter (greatest + count)) refl where
+  by_test : (b : Bool) → nat_lt last_counter (greatest + count) ≡ b → greatest + count ≤ last_counter
+  by_test true above =
+      let both : (nat_lt 0 count && nat_lt last_counter (greatest + count)) ≡ true = ap (λ b. b && nat_lt last_counter (greatest + count)) (lt-ltb 0 count positive) ∙ above in
+      let some : Some (NamesSpent greatest) ≡ None = sym (ap (λ b. cond b (Some (NamesSpent greatest)) None) both) ∙ none in
+      absurd cc
+  by_test false within = ltb-false last_counter (greatest + count) within
+
+module _ (g : Graph) (lists : GraphLists) (of : AreListsOf g lists) (well : AreWellFormed g) (ranged : AreInRange g) (author : ℕ) (positive : 0 < author) (small : author < 2 ^ 32) where
+  good_present : (e : Edge) → g e ≢ Absent → IsGood e
+  good_present e present = (well e present, ranged e present)
+
+  good_vertex : (v : Vertex) → stands_in v lists.vertices ≡ true → (is_vertex v ≡ true) × VertexInRange v
+  good_vertex v stands =
+      let is = of.vertices.no_other v stands in
+      (vertex_good g well v is, vertex_in_range g ranged v is)
+
+  -- an edge with a new name between good vertices, whose target has the sort of the position
+  good_new : (count number : ℕ) (v : Vertex) (p : Position) (t : Vertex) → greatest_counter lists author + count ≤ last_counter → 0 < number → number ≤ count
+      → (is_vertex v ≡ true) × VertexInRange v → (is_vertex t ≡ true) × VertexInRange t → sort_at v.ctor p ≡ Some (sort_of_ctor t.ctor) → IsGood (edge_with author (greatest_counter lists author) number v p t)
+  good_new count number v p t fits from to of_v of_t sort = (
+    well_formed_from (edge_with author (greatest_counter lists author) number v p t)
+        (record { author = positive; counter = omega arith; source = of_v.0; target = of_t.0; sort = sort }),
+    (small, omega arith, of_v.1, of_t.1),
+  )
+
+  -- the new vertex is good, since it is no root
+  good_made : (count : ℕ) (ctor : Ctor) (above : Ctor) (p : Position) → greatest_counter lists author + count ≤ last_counter → 0 < count → literal ctor < 2 ^ 64
+      → sort_at above p ≡ Some (sort_of_ctor ctor) → (is_vertex (new_vertex author (greatest_counter lists author) ctor) ≡ true) × VertexInRange (new_vertex author (greatest_counter lists author) ctor)
+  good_made count ctor above p fits some in_range sort =
+      let v = new_vertex author (greatest_counter lists author) ctor in
+      let a : nat_lt 0 v.name.author ≡ true = lt-ltb 0 author positive in
+      let c : nat_lt 0 v.name.counter ≡ true = lt-ltb 0 (greatest_counter lists author + 1) (omega arith) in (
+        ap (λ b. cond b ((v.name.author == 0) && (v.name.counter == 0)) (nat_lt 0 v.name.author && nat_lt 0 v.name.counter)) (no_root_at above p ctor sort) ∙ ap (λ b. b && nat_lt 0 v.name.counter) a ∙ c,
+        (small, omega arith, in_range),
+      )
+
+  good_live : (e : Edge) → holds_edge e lists.live ≡ true → IsGood e
+  good_live e held = good_present e (live_known g lists of author e held)
+
+  good_target : (e : Edge) → holds_edge e lists.live ≡ true → (is_vertex e.target ≡ true) × VertexInRange e.target
+  good_target e held = let good = good_live e held in ((parts_of e good.0).target, good.1.3)
+
+  -- ---- the edits of each action
+
+  good_deletions : (es : List Edge) → ((e : Edge) → holds_edge e es ≡ true → IsGood e) → AllEdits (λ kind e. IsGood e) (deletions es)
+  good_deletions es each = all_deletions (λ kind e. IsGood e) es each
+
+  wanted_by : (place : Place) (has : HasPlace lists place) (sort : Sort) → has.sort ≡ sort → sort_at has.vertex.ctor place.position ≡ Some sort
+  wanted_by place has sort is = has.position ∙ ap Some is
+
+  stands : (place : Place) (has : HasPlace lists place) → stands_in has.vertex lists.vertices ≡ true
+  stands place has = (only_stands lists place.name has.vertex has.only).0
+
+  good_construct : (place : Place) (ctor : Ctor) (has : HasPlace lists place) (count : ℕ) → has.sort ≡ sort_of_ctor ctor → literal ctor < 2 ^ 64
+      → greatest_counter lists author + count ≤ last_counter → 2 ≤ count → IsGood (edge_with author (greatest_counter lists author) 2 has.vertex place.position (new_vertex author (greatest_counter lists author) ctor))
+  good_construct place ctor has count sort in_range fits enough =
+      let wanted = wanted_by place has (sort_of_ctor ctor) sort in
+      good_new count 2 has.vertex place.position (new_vertex author (greatest_counter lists author) ctor) fits (omega arith) enough (good_vertex has.vertex (stands place has))
+      (good_made count ctor has.vertex.ctor place.position fits (omega arith) in_range wanted) wanted
+
+  -- what stands at a place has the sort that is wanted there
+  sort_of_child : (v : Vertex) (place : Place) (e : Edge) (sort : Sort) → holds_edge e (edges_at lists v place) ≡ true → sort_at v.ctor place.position ≡ Some sort → sort ≡ sort_of_ctor e.target.ctor
+  sort_of_child v place e sort held wanted =
+      let here = held_at_place g lists of author v place e held in
+      let parts = both_true (is_same_vertex e.source v) (is_same_position e.position place.position) here.0 in
+      let source : e.source ≡ v = same_vertex_exact e.source v parts.0 in
+      let position : e.position ≡ place.position = one_position e.position place.position parts.1 in
+      let own = (parts_of e (good_live e here.1).0).sort in
+      let moved : sort_at v.ctor place.position ≡ Some (sort_of_ctor e.target.ctor) = ap (λ (w : Vertex). sort_at w.ctor place.position) (sym source) ∙ ap (sort_at e.source.ctor) (sym position) ∙ own in
+      let both : Some sort ≡ Some (sort_of_ctor e.target.ctor) = sym wanted ∙ moved in
+      cc
+
+  good_wrap : (place : Place) (ctor : Ctor) (has : HasPlace lists place) (below : Position) → has.sort ≡ sort_of_ctor ctor → literal ctor < 2 ^ 64 → first_position ctor has.sort ≡ Some below
+      → greatest_counter lists author + (2 + length (edges_at lists has.vertex place)) ≤ last_counter
+      → AllEdits (λ kind e. IsGood e) (wrap_edits author (greatest_counter lists author) ctor has.vertex place (Some below) (edges_at lists has.vertex place))
+  good_wrap place ctor has below sort in_range wraps fits =
+      let v = has.vertex in
+      let es = edges_at lists v place in
+      let nv = new_vertex author (greatest_counter lists author) ctor in
+      let count : ℕ = 2 + length es in
+      let wanted = wanted_by place has (sort_of_ctor ctor) sort in
+      let found : sort_at ctor below ≡ Some has.sort = subst (λ o. IfSome o (λ q. sort_at ctor q ≡ Some has.sort)) wraps (first_position_found ctor has.sort) in
+      all_append (λ kind e. IsGood e) (deletions es) (to_new_vertex author (greatest_counter lists author) ctor v place ∷ put_below author (greatest_counter lists author) nv below 3 es)
+      (good_deletions es (λ e held. good_live e (held_at_place g lists of author v place e held).1)) (
+        good_construct place ctor has count sort in_range fits (omega arith),
+        all_put_below (λ kind e. IsGood e) author (greatest_counter lists author) nv below 3 es
+            (λ k e from to held.
+            good_new count k nv below e.target fits (omega arith) (omega arith) (good_made count ctor v.ctor place.position fits (omega arith) in_range wanted)
+            (good_target e (held_at_place g lists of author v place e held).1)
+            (found ∙ ap Some (sort_of_child v place e has.sort held has.position))),
+      )
+
+  -- an edge that is carried over has a position that the other constructor has for the sort of its target
+  carried_sort : (ctor : Ctor) (e c : Edge) → holds_edge c (carried ctor e lists.live) ≡ true → (holds_edge c lists.live ≡ true) × (sort_at ctor c.position ≡ Some (sort_of_ctor c.target.ctor))
+  carried_sort ctor e c held =
+      let is = carried_is (positions e.target.ctor) ctor e.target e lists.live c held in
+      let parts = both_true (is_same_vertex c.source e.target) (is_same_position c.position is.entry.0) is.here in
+      let source : c.source ≡ e.target = same_vertex_exact c.source e.target parts.0 in
+      let position : c.position ≡ is.entry.0 = one_position c.position is.entry.0 parts.1 in
+      let own = (parts_of c (good_live c is.live_edge).0).sort in
+      let listed : sort_at e.target.ctor is.entry.0 ≡ Some is.entry.1 = entry_found e.target.ctor is.entry (positions e.target.ctor) is.listed (places_found e.target.ctor) in
+      let moved : sort_at e.target.ctor is.entry.0 ≡ Some (sort_of_ctor c.target.ctor) = ap (λ (w : Vertex). sort_at w.ctor is.entry.0) (sym source) ∙ ap (sort_at c.source.ctor) (sym position) ∙ own in
+      let same : Some is.entry.1 ≡ Some (sort_of_ctor c.target.ctor) = sym listed ∙ moved in
+      (is.live_edge, ap (sort_at ctor) position ∙ sort_from_test (sort_at ctor is.entry.0) is.entry.1 is.sorted ∙ same)
+
+  good_become : (place : Place) (ctor : Ctor) (has : HasPlace lists place) (e : Edge) → has.sort ≡ sort_of_ctor ctor → literal ctor < 2 ^ 64 → edges_at lists has.vertex place ≡ e ∷ []
+      → greatest_counter lists author + (2 + length (carried ctor e lists.live)) ≤ last_counter
+      → AllEdits (λ kind f. IsGood f) (become_edits author (greatest_counter lists author) ctor has.vertex place (e ∷ []) lists.live)
+  good_become place ctor has e sort in_range sole fits =
+      let v = has.vertex in
+      let nv = new_vertex author (greatest_counter lists author) ctor in
+      let cs = carried ctor e lists.live in
+      let count : ℕ = 2 + length cs in
+      let wanted = wanted_by place has (sort_of_ctor ctor) sort in (
+        good_live e (held_at_place g lists of author v place e (ap (holds_edge e) sole ∙ held_first e [])).1,
+        (
+          good_construct place ctor has count sort in_range fits (omega arith),
+          all_carry_over (λ kind f. IsGood f) author (greatest_counter lists author) nv 3 cs (λ f held. good_live f (carried_sort ctor e f held).0)
+              (λ k f from to held.
+              good_new count k nv f.position f.target fits (omega arith) (omega arith) (good_made count ctor v.ctor place.position fits (omega arith) in_range wanted)
+              (good_target f (carried_sort ctor e f held).0) (carried_sort ctor e f held).1),
+        ),
+      )
+
+  named_live : (edge : Name) (f : Edge) → holds_edge f (edges_named edge lists.live) ≡ true → holds_edge f lists.live ≡ true
+  named_live edge f held = (both_true (is_same_name f.name edge) (holds_edge f lists.live) (sym (holds-filter (λ c. is_same_name c.name edge) f lists.live) ∙ held)).1
+
+  good_cut : (opening : List Edge) → AreOpening g opening → (edge : Name) (e : Edge) → holds_edge e (edges_cut lists opening edge) ≡ true → IsGood e
+  good_cut opening opened edge e held = by_opening (edges_named edge opening) refl held where
+    of_opening : holds_edge e (edges_named edge opening) ≡ true → IsGood e
+    of_opening h = good_present e (opened e (both_true (is_same_name e.name edge) (holds_edge e opening) (sym (holds-filter (λ c. is_same_name c.name edge) e opening) ∙ h)).1)
+
+    of_graph : holds_edge e (edges_named edge lists.present) ≡ true → IsGood e
+    of_graph h = good_present e (of.present.no_other e (both_true (is_same_name e.name edge) (holds_edge e lists.present) (sym (holds-filter (λ c. is_same_name c.name edge) e lists.present) ∙ h)).1)
+
+    by_opening : (es : List Edge) → edges_named edge opening ≡ es → holds_edge e (else_edges es (edges_named edge lists.present)) ≡ true → IsGood e
+    by_opening [] is h = of_graph h
+    by_opening (x ∷ xs) is h = of_opening (ap (holds_edge e) is ∙ h)
+
+  -- ---- all of them
+
+  pub good_edits : (opening : List Edge) (action : Action) → AreOpening g opening → HasLiteralInRange action → NoFault lists opening author action
+      → AllEdits (λ kind e. IsGood e) (edits_of lists opening author action)
+  good_edits opening (Construct place ctor) opened in_range none =
+      let to = to_construct lists opening author place ctor none in
+      let fits = within_last (greatest_counter lists author) 2 none.names (omega arith) in
+      subst (AllEdits (λ kind e. IsGood e)) (sym (edits_here lists author (Construct place ctor) place to.has.vertex to.has.only))
+      (good_construct place ctor to.has 2 to.sort in_range fits (omega arith), tt)
+  good_edits opening (Wrap place ctor) opened in_range none =
+      let to = to_wrap lists opening author place ctor none in
+      let v = to.has.vertex in
+      let es = edges_at lists v place in
+      let count : name_count lists (Wrap place ctor) ≡ 2 + length es = ap (λ o. of_vertex o 2 (λ w. 2 + length (edges_at lists w place))) (vertex_named_is lists place.name v to.has.only) in
+      let spent = ap (λ n. cond (nat_lt 0 n && nat_lt last_counter (greatest_counter lists author + n)) (Some (NamesSpent (greatest_counter lists author))) None) (sym count) ∙ none.names in
+      let fits = within_last (greatest_counter lists author) (2 + length es) spent (omega arith) in
+      let wraps : wrapping_position ctor v place ≡ Some to.below = ap (option_and_then (first_position ctor)) to.has.position ∙ to.wraps in
+      subst (AllEdits (λ kind e. IsGood e))
+      (sym (edits_here lists author (Wrap place ctor) place v to.has.only ∙ ap (λ o. wrap_edits author (greatest_counter lists author) ctor v place o es) wraps))
+      (good_wrap place ctor to.has to.below to.sort in_range to.wraps fits)
+  good_edits opening (Become place ctor) opened in_range none =
+      let to = to_become lists opening author place ctor none in
+      let v = to.has.vertex in
+      let cs = carried ctor to.edge lists.live in
+      let count : name_count lists (Become place ctor) ≡ 2 + length cs =
+      ap (λ o. of_vertex o 2 (λ w. 2 + length (carried_by_first ctor (edges_at lists w place) lists.live))) (vertex_named_is lists place.name v to.has.only)
+      ∙ ap (λ es. 2 + length (carried_by_first ctor es lists.live)) to.sole in
+      let spent = ap (λ n. cond (nat_lt 0 n && nat_lt last_counter (greatest_counter lists author + n)) (Some (NamesSpent (greatest_counter lists author))) None) (sym count) ∙ none.names in
+      let fits = within_last (greatest_counter lists author) (2 + length cs) spent (omega arith) in
+      subst (AllEdits (λ kind e. IsGood e)) (sym (edits_here lists author (Become place ctor) place v to.has.only ∙ ap (λ es. become_edits author (greatest_counter lists author) ctor v place es lists.live) to.sole))
+      (good_become place ctor to.has to.edge to.sort in_range to.sole fits)
+  good_edits opening (Delete place) opened in_range none =
+      let has = to_delete lists opening author place none in
+      subst (AllEdits (λ kind e. IsGood e)) (sym (edits_here lists author (Delete place) place has.vertex has.only))
+      (good_deletions (edges_at lists has.vertex place) (λ e held. good_live e (held_at_place g lists of author has.vertex place e held).1))
+  good_edits opening (Cut edge) opened in_range none = good_deletions (edges_cut lists opening edge) (good_cut opening opened edge)
+  good_edits opening (Relocate edge place) opened in_range none =
+      let to = to_relocate lists opening author edge place none in
+      let v = to.has.vertex in
+      let fits = within_last (greatest_counter lists author) 1 none.names (omega arith) in
+      let held = named_live edge to.moved (ap (holds_edge to.moved) to.sole ∙ held_first to.moved []) in
+      subst (AllEdits (λ kind e. IsGood e)) (sym (edits_here lists author (Relocate edge place) place v to.has.only ∙ ap (relocate_edits author (greatest_counter lists author) v place) to.sole)) (
+        good_live to.moved held,
+        (
+          good_new 1 1 v place.position to.moved.target fits (omega arith) (omega arith) (good_vertex v (stands place to.has)) (good_target to.moved held)
+              (wanted_by place to.has (sort_of_ctor to.moved.target.ctor) to.sort),
+          tt,
+        ),
+      )
+  good_edits opening (Restore vertex place) opened in_range none =
+      let to = to_restore lists opening author vertex place none in
+      let v = to.has.vertex in
+      let fits = within_last (greatest_counter lists author) 1 none.names (omega arith) in
+      subst (AllEdits (λ kind e. IsGood e))
+      (sym (edits_here lists author (Restore vertex place) place v to.has.only
+      ∙ ap (λ o. of_vertex o [] (λ m. insertion (new_name author (greatest_counter lists author) 1) v place.position m ∷ [])) (vertex_named_is lists vertex to.moved to.only))) (
+        good_new 1 1 v place.position to.moved fits (omega arith) (omega arith) (good_vertex v (stands place to.has)) (good_vertex to.moved (only_stands lists vertex to.moved to.only).0)
+            (wanted_by place to.has (sort_of_ctor to.moved.ctor) to.sort),
+        tt,
+      )
+
+-- ---- edits that are these
+
+pub edits_from : (ps : List PlainEdit) → AllEdits (λ kind e. IsGood e) ps → (edits : List Edit) × (map plain edits ≡ ps)
+edits_from [] all = ([], refl)
+edits_from ((kind, e) ∷ ps) all =
+    let rest = edits_from ps all.1 in
+    let first : Edit = record { edge = e; kind = kind; well_formed = all.0.0; in_range = all.0.1 } in
+    (first ∷ rest.0, ap (λ qs. plain first ∷ qs) rest.1)

@@ -1,0 +1,15 @@
+pub mod Lists
+pub mod Names
+pub mod Place
+pub mod Faults
+pub mod PlainEdits
+pub mod Plan
+pub mod Good
+pub mod Told
+pub mod NamedEdges
+pub mod Spent
+pub mod NamedVertices
+pub mod Standing
+pub mod Carried
+pub mod After
+pub mod Planned

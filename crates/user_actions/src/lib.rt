@@ -1,0 +1,29 @@
+//! What an author's action does to a graph: it is planned as edits, or refused with the first fault that applies.
+//! Replicas stand on this crate.
+#![tactic(auto)]
+
+mod carried;
+mod edges;
+mod edits;
+mod laws;
+mod new_names;
+mod no_memory;
+mod opening_set;
+mod place;
+mod planned;
+mod planning;
+mod vertices;
+mod view;
+mod walk_up;
+
+pub use laws::{
+    a_place_has_the_vertex_that_was_meant, a_place_is_filled_or_emptied, a_refusal_has_no_edits,
+    children_stand_below_the_new_vertex, every_action_has_one_plan,
+    graphs_of_edits_can_be_planned_on, moves_make_no_cycle_root, new_names_are_new,
+    other_places_stay,
+};
+pub use no_memory::NoMemory;
+pub use opening_set::OpeningSet;
+pub use planned::{Plan, PlanFault};
+pub use planning::plan;
+pub use view::View;

@@ -1,0 +1,58 @@
+ghost use Rattle.std.specs.Prelude.{◌≡◌, ◌+◌, ◌<◌, ◌≤◌, ◌^◌, IfOk, IfErr};
+ghost use Rattle.graph_store.specs.Greatest.{IsGreatest, IsNameOf};
+ghost use Rattle.graph_store.specs.Store.{state_in};
+ghost use Rattle.user_actions.specs.Faults.{last_counter};
+ghost use Rattle.user_actions.specs.Spent.{IsSpent};
+
+use graph_store::GraphStore;
+use grove_edits::{ActFault, Vertex};
+use grove_names::Name;
+use grove_sorts::Ctor;
+
+/// The new names of an author, which follow the greatest counter that the author gave.
+#[derive(Clone, Copy, Debug)]
+pub(crate) struct NewNames {
+    pub(crate) author: u32,
+    pub(crate) greatest: u64,
+}
+
+impl NewNames {
+    /// The new name with a number, of which the first is 1.
+    pub(crate) fn name(&self, number: u64) -> Name
+        requires { self.now.greatest + number ≤ last_counter }
+        ensures author { result.author ≡ self.now.author }
+        ensures counter { result.counter ≡ self.now.greatest + number }
+    {
+        Name {
+            author: self.author,
+            counter: self.greatest + number,
+        }
+    }
+
+    /// The new vertex, which has the first new name.
+    pub(crate) fn vertex(&self, ctor: Ctor) -> Vertex
+        requires { self.now.greatest + 1 ≤ last_counter }
+        ensures author { result.name.author ≡ self.now.author }
+        ensures counter { result.name.counter ≡ self.now.greatest + 1 }
+        ensures ctor { result.ctor ≡ ctor }
+    {
+        Vertex {
+            name: self.name(1),
+            ctor,
+        }
+    }
+}
+
+/// The author's new names, or that there are not so many left.
+pub(crate) fn new_names(store: &GraphStore, author: u32, count: u64) -> Result<NewNames, ActFault>
+    ensures author { IfOk result (λ names. names.author ≡ author) }
+    ensures greatest { IfOk result (λ names. IsGreatest (IsNameOf (state_in store.now)) author names.greatest) }
+    ensures fits { IfOk result (λ names. names.greatest + count ≤ last_counter) }
+    ensures spent { IfErr result (λ fault. IsSpent store.now author count fault) }
+{
+    let greatest = store.greatest(author);
+    match greatest.checked_add(count) {
+        Some(_last) => Ok(NewNames { author, greatest }),
+        None => Err(ActFault::NamesSpent { greatest }),
+    }
+}

@@ -1,0 +1,217 @@
+ghost use Rattle.std.specs.Prelude.{◌≡◌, ◌<◌, [], ◌∷◌, Some, None, IfOk, OnOk, is_none, option_map, slice_get, filter, not, if◌then◌else◌};
+ghost use Rattle.grove_edits.specs.Edge.{is_sort};
+ghost use Rattle.grove_sorts.specs.Ctor.{first_position, sort_of_ctor};
+ghost use Rattle.grove_edits.specs.declared.edge.Edge.{Edge};
+ghost use Rattle.walks.specs.Live.{children_of, parents_of};
+ghost use Rattle.walks.specs.Few.{first_two};
+ghost use Rattle.unicycle_roots.specs.Met.{leads_to};
+ghost use Rattle.edge_index.specs.Lists.{live};
+ghost use Rattle.user_actions.specs.Faults.{other_sort, only_target, two_edges, none_named, below_itself, first_some};
+ghost use Rattle.user_actions.specs.Names.{is_same_name};
+ghost use Rattle.user_actions.specs.Place.{sort_at_place};
+ghost use Rattle.user_actions.specs.Told.{Tells};
+
+use crate::walk_up::leads_to;
+use child_index::ChildIndex;
+use grove_edits::{ActFault, Edge, Place, Vertex};
+use grove_names::Name;
+use grove_sorts::{Ctor, Position, Sort, first_position_of_sort, position_sort, sort_of};
+use parent_index::ParentIndex;
+use std::cmp::Ordering;
+use std::marker::Brand;
+use std::sync::ledger::{Blank, Ledger};
+use walks::{Few, ParentOf, Steps};
+
+/// The live edges from a position of a vertex, in edge order.
+pub(crate) fn edges_at<'a>(
+    children: &'a ChildIndex,
+    vertex: &Vertex,
+    position: Position,
+) -> &'a [Edge]
+    ensures { result.now ≡ children_of vertex.now position (live children.now) }
+{
+    edges_counting::<Brand>(children, vertex, position, Blank::new(1))
+}
+
+fn edges_counting<'a, L: Ledger>(
+    children: &'a ChildIndex,
+    vertex: &Vertex,
+    position: Position,
+    blank: Blank,
+) -> &'a [Edge]
+    requires name { blank.name ≡ L.name }
+    requires parts { blank.parts ≡ L.parts }
+    requires some { 0 < blank.parts }
+    ensures edges { result.now ≡ children_of vertex.now position (live children.now) }
+{
+    let mut steps = Steps::<L>::new(blank);
+    children.children(vertex, position, &mut steps)
+}
+
+/// The sort of the children at a place, or that its vertex has no such position.
+pub(crate) fn wanted_sort(vertex: &Vertex, place: Place) -> Result<Sort, ActFault>
+    ensures sort { IfOk result (λ sort. sort_at_place vertex.now place ≡ Some sort) }
+    ensures fault { Tells (if is_none (sort_at_place vertex.now place) then Some (ActFault.NoPosition vertex.now) else None) result }
+{
+    position_sort(&vertex.ctor, place.position).ok_or(ActFault::NoPosition { vertex: *vertex })
+}
+
+/// Whether what is put at a place has the sort that is wanted there.
+pub(crate) fn check_sort(wanted: Sort, found: Sort) -> Result<(), ActFault>
+    ensures same { OnOk result (wanted ≡ found) }
+    ensures fault { Tells (other_sort (Some wanted) (Some found)) result }
+{
+    if wanted == found {
+        Ok(())
+    } else {
+        Err(ActFault::WrongSort { wanted, found })
+    }
+}
+
+/// Whether the target of the one edge, where there is one, has the sort that is wanted at its new place.
+pub(crate) fn check_target_sort(wanted: Sort, edges: &[Edge]) -> Result<(), ActFault>
+    ensures fault { Tells (other_sort (Some wanted) (option_map (λ v. sort_of_ctor v.ctor) (only_target edges.now))) result }
+    ensures same { OnOk result ((e : Edge) → edges.now ≡ e ∷ [] → wanted ≡ sort_of_ctor e.target.ctor) }
+{
+    match edges {
+        [only] => check_sort(wanted, sort_of(&only.target.ctor)),
+        _ => Ok(()),
+    }
+}
+
+/// Whether nothing stands at a place.
+pub(crate) fn check_free(edges: &[Edge]) -> Result<(), ActFault>
+    ensures { Tells (option_map ActFault.Occupied (slice_get edges.now 0)) result }
+{
+    match edges.first() {
+        None => Ok(()),
+        Some(edge) => Err(ActFault::Occupied { edge: *edge }),
+    }
+}
+
+/// Whether something stands at a place.
+pub(crate) fn check_filled(edges: &[Edge], place: Place) -> Result<(), ActFault>
+    ensures { Tells (if is_none (slice_get edges.now 0) then Some (ActFault.Empty place) else None) result }
+{
+    if edges.is_empty() {
+        Err(ActFault::Empty { place })
+    } else {
+        Ok(())
+    }
+}
+
+/// The one edge at a place.
+pub(crate) fn sole_edge(edges: &[Edge], place: Place) -> Result<Edge, ActFault>
+    ensures sole { IfOk result (λ edge. edges.now ≡ edge ∷ []) }
+    ensures fault { Tells (first_some ((if is_none (slice_get edges.now 0) then Some (ActFault.Empty place) else None) ∷ two_edges edges.now ∷ [])) result }
+{
+    match edges {
+        [] => Err(ActFault::Empty { place }),
+        [edge] => Ok(*edge),
+        [first, second, ..] => Err(ActFault::AmbiguousEdge {
+            first: *first,
+            second: *second,
+        }),
+    }
+}
+
+/// Whether some edge has a name, of those that have it.
+pub(crate) fn check_named(edges: &[Edge], name: Name) -> Result<(), ActFault>
+    ensures { Tells (none_named name edges.now) result }
+{
+    match edges {
+        [] => Err(ActFault::NoEdge { name }),
+        _ => Ok(()),
+    }
+}
+
+/// The one edge with a name, of those that have it.
+pub(crate) fn sole_named(edges: &[Edge], name: Name) -> Result<Edge, ActFault>
+    ensures sole { IfOk result (λ edge. edges.now ≡ edge ∷ []) }
+    ensures fault { Tells (first_some (none_named name edges.now ∷ two_edges edges.now ∷ [])) result }
+{
+    match edges {
+        [] => Err(ActFault::NoEdge { name }),
+        [edge] => Ok(*edge),
+        [first, second, ..] => Err(ActFault::AmbiguousEdge {
+            first: *first,
+            second: *second,
+        }),
+    }
+}
+
+/// Whether nothing but edges with a name stands at a place.
+pub(crate) fn check_free_but(edges: &[Edge], name: Name) -> Result<(), ActFault>
+    ensures { Tells (option_map ActFault.Occupied (slice_get (filter (λ e. not (is_same_name e.name name)) edges.now) 0)) result }
+{
+    for edge in edges {
+        if !is_same_name(edge.name, name) {
+            return Err(ActFault::Occupied { edge: *edge });
+        }
+    }
+    Ok(())
+}
+
+fn is_same_name(a: Name, b: Name) -> bool
+    ensures { result ≡ is_same_name a b }
+{
+    a.cmp(&b) == Ordering::Equal
+}
+
+/// The position of a constructor at which it takes what has a sort.
+pub(crate) fn wrapping_position(ctor: &Ctor, sort: Sort) -> Result<Position, ActFault>
+    ensures position { IfOk result (λ position. first_position ctor.now sort ≡ Some position) }
+    ensures fault { Tells (if is_none (first_position ctor.now sort) then Some (ActFault.CannotWrap ctor.now) else None) result }
+{
+    first_position_of_sort(ctor, sort).ok_or(ActFault::CannotWrap { ctor: *ctor })
+}
+
+/// Whether a vertex does not stand on the walk up from the vertex of its new place.
+pub(crate) fn check_apart(
+    parents: &ParentIndex,
+    vertex: &Vertex,
+    moved: &Vertex,
+) -> Result<(), ActFault>
+    ensures { Tells (below_itself (live parents.now) vertex.now (Some moved.now)) result }
+{
+    if leads_counting::<Brand>(parents, vertex, moved, Blank::new(1)) {
+        Err(ActFault::IntoItself { vertex: *moved })
+    } else {
+        Ok(())
+    }
+}
+
+fn leads_counting<L: Ledger>(
+    parents: &ParentIndex,
+    vertex: &Vertex,
+    moved: &Vertex,
+    blank: Blank,
+) -> bool
+    requires name { blank.name ≡ L.name }
+    requires parts { blank.parts ≡ L.parts }
+    requires some { 0 < blank.parts }
+    ensures { result ≡ leads_to (live parents.now) vertex.now moved.now }
+{
+    let mut steps = Steps::<L>::new(blank);
+    leads_to(vertex, moved, parents, &mut steps)
+}
+
+/// Whether a vertex has no live parent edge.
+pub(crate) fn check_loose(parents: &ParentIndex, moved: &Vertex) -> Result<(), ActFault>
+    ensures { Tells (option_map ActFault.NotLoose (slice_get (parents_of moved.now (live parents.now)) 0)) result }
+{
+    match few_counting::<Brand>(parents, moved, Blank::new(1)) {
+        Few::Zero => Ok(()),
+        Few::One(edge) | Few::More(edge, _) => Err(ActFault::NotLoose { edge }),
+    }
+}
+
+fn few_counting<L: Ledger>(parents: &ParentIndex, vertex: &Vertex, blank: Blank) -> Few
+    requires name { blank.name ≡ L.name }
+    requires parts { blank.parts ≡ L.parts }
+    requires some { 0 < blank.parts }
+    ensures { result ≡ first_two (parents_of vertex.now (live parents.now)) }
+{
+    let mut steps = Steps::<L>::new(blank);
+    parents.few(vertex, &mut steps)
+}

@@ -1,0 +1,54 @@
+ghost use Rattle.std.specs.Prelude.{◌≡◌, ◌<◌};
+ghost use Rattle.grove_edits.specs.Vertex.{is_same_vertex};
+ghost use Rattle.walks.specs.Walk.{above};
+ghost use Rattle.unicycle_roots.specs.Met.{leads_to};
+
+use grove_edits::Vertex;
+use parent_index::ParentIndex;
+use std::cmp::Ordering;
+use std::marker::Brand;
+use std::sync::ledger::{Blank, Ledger};
+use walks::{Few, ParentOf, Steps};
+
+fn is_same(a: &Vertex, b: &Vertex) -> bool
+    ensures { result ≡ is_same_vertex a.now b.now }
+{
+    a.cmp(b) == Ordering::Equal
+}
+
+/// The source of the one live parent edge, if there is exactly one.
+fn vertex_above<P: ParentOf, L: Ledger>(
+    vertex: &Vertex,
+    parents: &P,
+    steps: &mut Steps<L>,
+) -> Option<Vertex>
+    ensures { result ≡ above (P.live parents.now) vertex.now }
+{
+    match parents.few(vertex, steps) {
+        Few::One(edge) => Some(edge.source),
+        Few::Zero | Few::More(_, _) => None,
+    }
+}
+
+/// Whether a vertex stands on the walk up from another. The walk has at most one vertex without a live parent edge that it goes
+/// on from, so a longer one goes round.
+pub(crate) fn leads_to<P: ParentOf, L: Ledger>(
+    from: &Vertex,
+    vertex: &Vertex,
+    parents: &P,
+    steps: &mut Steps<L>,
+) -> bool
+    ensures { result ≡ leads_to (P.live parents.now) from.now vertex.now }
+{
+    let mut at = *from;
+    for _step in 0..parents.vertex_count() {
+        if is_same(&at, vertex) {
+            return true;
+        }
+        let Some(above) = vertex_above(&at, parents, steps) else {
+            return false;
+        };
+        at = above;
+    }
+    is_same(&at, vertex)
+}
