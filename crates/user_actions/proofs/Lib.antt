@@ -7,6 +7,7 @@ pub mod EditLists
 pub mod OnePlace
 pub mod Accepted
 pub mod PlanLaws
+pub mod OneMore
 pub mod Meant
 pub mod Below
 pub mod OnePlan

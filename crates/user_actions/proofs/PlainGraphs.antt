@@ -234,7 +234,7 @@ inserted_live g x ps new inserted known = absent_join (g x) (plain_graph ps x) n
   by_asked Live is = is
   by_asked Deleted is = absurd (from_deleted (λ kind e. kind ≡ Delete → g e ≢ Absent) ps known x is refl new)
 
-live_after : (s t : State) → state_join s t ≡ Live → ((s ≡ Live) × (t ≢ Deleted)) ⊎ (t ≡ Live)
+pub live_after : (s t : State) → state_join s t ≡ Live → ((s ≡ Live) × (t ≢ Deleted)) ⊎ (t ≡ Live)
 live_after Absent Absent h = absurd cc
 live_after Absent Live h = inr refl
 live_after Absent Deleted h = absurd cc

@@ -43,14 +43,16 @@ edits_in_range edits = named_good EdgeInRange (λ edit. edit.in_range) edits
 pub well_formed_along : (g : Graph) (list : List Edit) → IsSame g (graph list) → AreWellFormed g
 well_formed_along g list same e some = edits_well_formed list e (λ absent. some (same e ∙ absent))
 
--- what an earlier graph had is still there
+-- what a graph had as an opening set was made is not Absent in it
+pub opening_of : (g : Graph) (opening : List Edge) → ArePresent (well_formed g) opening → AreOpening g opening
+opening_of g opening of e held absent = of.no_other e held (by_fault (is_none (edge_fault e)) absent) where
+  by_fault : (b : Bool) → g e ≡ Absent → cond b (g e) Absent ≡ Absent
+  by_fault true is = is
+  by_fault false is = refl
+
+-- and is still there later
 pub opening_known : (earlier g : Graph) (edits : List Edit) (opening : List Edge) → ArePresent (well_formed earlier) opening → IsSame g (graph_join earlier (graph edits)) → AreOpening g opening
-opening_known earlier g edits opening of same e held absent =
-    of.no_other e held (by_fault (is_none (edge_fault e)) (both_absent (earlier e) (graph edits e) (sym (same e) ∙ absent)).0)
-  where
-    by_fault : (b : Bool) → earlier e ≡ Absent → cond b (earlier e) Absent ≡ Absent
-    by_fault true is = is
-    by_fault false is = refl
+opening_known earlier g edits opening of same e held absent = opening_of earlier opening of e held (both_absent (earlier e) (graph edits e) (sym (same e) ∙ absent)).0
 
 -- ---- a plan
 

@@ -12,6 +12,8 @@ mod opening_set;
 mod place;
 mod planned;
 mod planning;
+#[cfg(test)]
+mod tests;
 mod vertices;
 mod view;
 mod walk_up;

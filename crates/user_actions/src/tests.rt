@@ -1,0 +1,474 @@
+ghost use Rattle.std.specs.Prelude.{◌≢◌, ◌<◌, IfOk, OnOk};
+ghost use Rattle.edge_lattice.specs.declared.state.State.TheVariants.{Absent};
+ghost use Rattle.grove_edits.specs.declared.edge.Edge.{Edge};
+ghost use Rattle.walks.specs.Whole.{AreLive};
+ghost use Rattle.edge_index.specs.Lists.{live};
+ghost use Rattle.graph_store.specs.Store.{state_in, well_formed};
+ghost use Rattle.user_actions.specs.Good.{AreWellFormed};
+ghost use Rattle.user_actions.specs.Lists.{ArePresent};
+
+use super::*;
+use child_index::ChildIndex;
+use edge_lattice::State;
+use graph_store::GraphStore;
+use grove_edits::{ActFault, Action, Answer, Edge, Edit, Place, Vertex};
+use grove_names::Name;
+use grove_sorts::{Ctor, Position, Sort};
+use parent_index::ParentIndex;
+use std::alloc::Global;
+use std::test::Fail;
+
+fn name(author: u32, counter: u64) -> Name {
+    Name { author, counter }
+}
+
+fn vertex(author: u32, counter: u64, ctor: Ctor) -> Vertex {
+    Vertex {
+        name: name(author, counter),
+        ctor,
+    }
+}
+
+fn edge(author: u32, counter: u64, source: Vertex, position: Position, target: Vertex) -> Edge {
+    Edge {
+        name: name(author, counter),
+        source,
+        position,
+        target,
+    }
+}
+
+fn place(author: u32, counter: u64, position: Position) -> Place {
+    Place {
+        name: name(author, counter),
+        position,
+    }
+}
+
+// Inserts an edge that no edit has named.
+fn insert(
+    edge: Edge,
+    store: &mut GraphStore,
+    children: &mut ChildIndex,
+    parents: &mut ParentIndex,
+) -> Result<(), Fail>
+    requires well_formed { AreWellFormed (state_in store.old) }
+    requires children { AreLive (state_in store.old) (live children.old) }
+    requires parents { AreLive (state_in store.old) (live parents.old) }
+    ensures well_formed { OnOk result (AreWellFormed (state_in store.new)) }
+    ensures children { OnOk result (AreLive (state_in store.new) (live children.new)) }
+    ensures parents { OnOk result (AreLive (state_in store.new) (live parents.new)) }
+    ensures known { OnOk result ((e : Edge) → state_in store.old e ≢ Absent → state_in store.new e ≢ Absent) }
+{
+    let edit = Edit::insert(edge)?;
+    let State::Absent = store.state(&edge) else {
+        return Ok(());
+    };
+    store.reserve_for(&[edge])?;
+    children.reserve_for(&[edge])?;
+    parents.reserve_for(&[edge])?;
+    store.raise(&edit);
+    children.add(&edge);
+    parents.add(&edge);
+    Ok(())
+}
+
+fn insert_each(
+    edges: &[Edge],
+    store: &mut GraphStore,
+    children: &mut ChildIndex,
+    parents: &mut ParentIndex,
+) -> Result<(), Fail>
+    requires well_formed { AreWellFormed (state_in store.old) }
+    requires children { AreLive (state_in store.old) (live children.old) }
+    requires parents { AreLive (state_in store.old) (live parents.old) }
+    ensures well_formed { OnOk result (AreWellFormed (state_in store.new)) }
+    ensures children { OnOk result (AreLive (state_in store.new) (live children.new)) }
+    ensures parents { OnOk result (AreLive (state_in store.new) (live parents.new)) }
+    ensures known { OnOk result ((e : Edge) → state_in store.old e ≢ Absent → state_in store.new e ≢ Absent) }
+{
+    for edge in edges {
+        insert(*edge, store, children, parents)?;
+    }
+    Ok(())
+}
+
+// The opening set of a graph. Where there was no memory it is made again.
+fn opening_set(alloc: Global, store: &GraphStore) -> Result<OpeningSet, NoMemory>
+    ensures opening { IfOk result (λ set. ArePresent (well_formed (state_in store.now)) set) }
+{
+    match OpeningSet::of(alloc, store) {
+        Ok(set) => Ok(set),
+        Err(NoMemory) => OpeningSet::of(alloc, store),
+    }
+}
+
+// What is planned on the graph of some edges, in a block that opened before the later ones came. Where there was no memory it is
+// planned again, so that one refused allocation, whichever it is, changes no answer.
+fn planned(
+    alloc: Global,
+    edges: &[Edge],
+    later: &[Edge],
+    author: u32,
+    action: &Action,
+) -> Result<Result<Plan, ActFault>, Fail>
+    requires { 0 < author }
+{
+    let mut store = GraphStore::new(alloc);
+    let mut children = ChildIndex::new(alloc);
+    let mut parents = ParentIndex::new(alloc);
+    insert_each(edges, &mut store, &mut children, &mut parents)?;
+    let opening = opening_set(alloc, &store)?;
+    insert_each(later, &mut store, &mut children, &mut parents)?;
+    let view = View {
+        store: &store,
+        opening: &opening,
+        children: &children,
+        parents: &parents,
+    };
+    let mut answer = plan(alloc, &view, author, action);
+    if let Err(PlanFault::NoMemory) = answer {
+        answer = plan(alloc, &view, author, action);
+    }
+    match answer {
+        Ok(plan) => Ok(Ok(plan)),
+        Err(PlanFault::Refused(fault)) => Ok(Err(fault)),
+        Err(PlanFault::NoMemory) => Err("out of memory twice".into()),
+    }
+}
+
+// A conflict of a number and a truth value below the root.
+fn conflict() -> [Edge; 2] {
+    [
+        edge(
+            1,
+            2,
+            Vertex::ROOT,
+            Position::Main,
+            vertex(1, 1, Ctor::Num(7)),
+        ),
+        edge(
+            2,
+            2,
+            Vertex::ROOT,
+            Position::Main,
+            vertex(2, 1, Ctor::LitTrue),
+        ),
+    ]
+}
+
+// A pair of whose first components there are two.
+fn pair() -> [Edge; 3] {
+    let pair = vertex(1, 1, Ctor::Pair);
+    [
+        edge(1, 2, Vertex::ROOT, Position::Main, pair),
+        edge(1, 4, pair, Position::First, vertex(1, 3, Ctor::Num(7))),
+        edge(2, 2, pair, Position::First, vertex(2, 1, Ctor::LitTrue)),
+    ]
+}
+
+// A sum of which the left number alone is there.
+fn sum() -> [Edge; 2] {
+    let sum = vertex(1, 1, Ctor::Plus);
+    [
+        edge(1, 2, Vertex::ROOT, Position::Main, sum),
+        edge(1, 4, sum, Position::Left, vertex(1, 3, Ctor::Num(7))),
+    ]
+}
+
+#[test]
+fn the_first_fault_is_told(rt: HostRuntime) -> Result<(), Fail> {
+    let [to_pair, to_seven, to_truth] = pair();
+    let rows = [
+        (
+            Action::Construct {
+                place: place(9, 9, Position::Left),
+                ctor: Ctor::Num(1),
+            },
+            ActFault::NoVertex { name: name(9, 9) },
+        ),
+        (
+            Action::Construct {
+                place: place(1, 3, Position::Left),
+                ctor: Ctor::Num(1),
+            },
+            ActFault::NoPosition {
+                vertex: to_seven.target,
+            },
+        ),
+        (
+            Action::Construct {
+                place: place(0, 0, Position::Main),
+                ctor: Ctor::TNum,
+            },
+            ActFault::WrongSort {
+                wanted: Sort::Exp,
+                found: Sort::Typ,
+            },
+        ),
+        (
+            Action::Construct {
+                place: place(0, 0, Position::Main),
+                ctor: Ctor::Num(1),
+            },
+            ActFault::Occupied { edge: to_pair },
+        ),
+        (
+            Action::Delete {
+                place: place(1, 1, Position::Second),
+            },
+            ActFault::Empty {
+                place: place(1, 1, Position::Second),
+            },
+        ),
+        (
+            Action::Wrap {
+                place: place(1, 1, Position::First),
+                ctor: Ctor::Num(3),
+            },
+            ActFault::CannotWrap { ctor: Ctor::Num(3) },
+        ),
+        (
+            Action::Cut { edge: name(8, 8) },
+            ActFault::NoEdge { name: name(8, 8) },
+        ),
+        (
+            Action::Become {
+                place: place(1, 1, Position::First),
+                ctor: Ctor::Num(9),
+            },
+            ActFault::AmbiguousEdge {
+                first: to_seven,
+                second: to_truth,
+            },
+        ),
+        (
+            Action::Relocate {
+                edge: name(1, 2),
+                place: place(1, 1, Position::Second),
+            },
+            ActFault::IntoItself {
+                vertex: to_pair.target,
+            },
+        ),
+        (
+            Action::Restore {
+                vertex: name(1, 3),
+                place: place(1, 1, Position::Second),
+            },
+            ActFault::NotLoose { edge: to_seven },
+        ),
+    ];
+    for (action, fault) in &rows {
+        let told = planned(rt.alloc(), &pair(), &[], 3, action)?.err();
+        assert_eq!(rt; told, Some(*fault));
+    }
+    Ok(())
+}
+
+#[test]
+fn two_vertices_with_one_name_are_told(rt: HostRuntime) -> Result<(), Fail> {
+    let call = vertex(1, 1, Ctor::Ap);
+    let one = vertex(2, 1, Ctor::Num(1));
+    let two = vertex(2, 1, Ctor::Num(2));
+    let edges = [
+        edge(1, 2, Vertex::ROOT, Position::Main, call),
+        edge(1, 3, call, Position::Fun, one),
+        edge(1, 4, call, Position::Arg, two),
+    ];
+    let action = Action::Construct {
+        place: place(2, 1, Position::Left),
+        ctor: Ctor::Num(5),
+    };
+    let answer = planned(rt.alloc(), &edges, &[], 3, &action)?;
+    let fault = ActFault::AmbiguousVertex {
+        first: one,
+        second: two,
+    };
+    assert_eq!(rt; answer.err(), Some(fault));
+    Ok(())
+}
+
+#[test]
+fn spent_names_are_those_of_one_author(rt: HostRuntime) -> Result<(), Fail> {
+    let sum = vertex(1, 1, Ctor::Plus);
+    let edges = [edge(1, u64::MAX, Vertex::ROOT, Position::Main, sum)];
+    let action = Action::Construct {
+        place: place(1, 1, Position::Left),
+        ctor: Ctor::Num(2),
+    };
+    let refused = planned(rt.alloc(), &edges, &[], 1, &action)?;
+    let fault = ActFault::NamesSpent { greatest: u64::MAX };
+    assert_eq!(rt; refused.err(), Some(fault));
+    let Ok(made) = planned(rt.alloc(), &edges, &[], 2, &action)? else {
+        return Err("the other author is refused".into());
+    };
+    let new = edge(2, 2, sum, Position::Left, vertex(2, 1, Ctor::Num(2)));
+    assert_eq!(rt; made.answer, Answer::Made { vertex: name(2, 1) });
+    assert_eq!(rt; made.edits.as_slice(), [Edit::insert(new)?].as_slice());
+    Ok(())
+}
+
+#[test]
+fn a_conflict_is_wrapped_whole(rt: HostRuntime) -> Result<(), Fail> {
+    let [to_seven, to_truth] = conflict();
+    let action = Action::Wrap {
+        place: place(0, 0, Position::Main),
+        ctor: Ctor::Plus,
+    };
+    let Ok(plan) = planned(rt.alloc(), &conflict(), &[], 3, &action)? else {
+        return Err("the wrap is refused".into());
+    };
+    let sum = vertex(3, 1, Ctor::Plus);
+    assert_eq!(rt; plan.answer, Answer::Made { vertex: sum.name });
+    assert_eq!(rt;
+        plan.edits.as_slice(),
+        [
+            Edit::delete(to_seven)?,
+            Edit::delete(to_truth)?,
+            Edit::insert(edge(3, 2, Vertex::ROOT, Position::Main, sum))?,
+            Edit::insert(edge(3, 3, sum, Position::Left, to_seven.target))?,
+            Edit::insert(edge(3, 4, sum, Position::Left, to_truth.target))?,
+        ]
+        .as_slice()
+    );
+    Ok(())
+}
+
+#[test]
+fn a_child_goes_along_where_its_position_stays(rt: HostRuntime) -> Result<(), Fail> {
+    let [to_sum, to_seven] = sum();
+    let new_sum = vertex(2, 1, Ctor::Plus);
+    let new_pair = vertex(2, 1, Ctor::Pair);
+    let action = Action::Become {
+        place: place(0, 0, Position::Main),
+        ctor: Ctor::Plus,
+    };
+    let Ok(along) = planned(rt.alloc(), &sum(), &[], 2, &action)? else {
+        return Err("the sum is refused".into());
+    };
+    assert_eq!(rt;
+        along.edits.as_slice(),
+        [
+            Edit::delete(to_sum)?,
+            Edit::insert(edge(2, 2, Vertex::ROOT, Position::Main, new_sum))?,
+            Edit::delete(to_seven)?,
+            Edit::insert(edge(2, 3, new_sum, Position::Left, to_seven.target))?,
+        ]
+        .as_slice()
+    );
+    let action = Action::Become {
+        place: place(0, 0, Position::Main),
+        ctor: Ctor::Pair,
+    };
+    let Ok(alone) = planned(rt.alloc(), &sum(), &[], 2, &action)? else {
+        return Err("the pair is refused".into());
+    };
+    assert_eq!(rt;
+        alone.edits.as_slice(),
+        [
+            Edit::delete(to_sum)?,
+            Edit::insert(edge(2, 2, Vertex::ROOT, Position::Main, new_pair))?,
+        ]
+        .as_slice()
+    );
+    Ok(())
+}
+
+#[test]
+fn an_edge_is_deleted_and_a_vertex_moved(rt: HostRuntime) -> Result<(), Fail> {
+    let [_, to_seven] = sum();
+    let action = Action::Delete {
+        place: place(1, 1, Position::Left),
+    };
+    let Ok(deleted) = planned(rt.alloc(), &sum(), &[], 2, &action)? else {
+        return Err("the deletion is refused".into());
+    };
+    assert_eq!(rt; deleted.answer, Answer::Done);
+    assert_eq!(rt;
+        deleted.edits.as_slice(),
+        [Edit::delete(to_seven)?].as_slice()
+    );
+    let action = Action::Relocate {
+        edge: name(1, 4),
+        place: place(1, 1, Position::Right),
+    };
+    let Ok(moved) = planned(rt.alloc(), &sum(), &[], 2, &action)? else {
+        return Err("the move is refused".into());
+    };
+    let new = edge(2, 1, to_seven.source, Position::Right, to_seven.target);
+    assert_eq!(rt; moved.answer, Answer::Moved { edge: new.name });
+    assert_eq!(rt;
+        moved.edits.as_slice(),
+        [Edit::delete(to_seven)?, Edit::insert(new)?].as_slice()
+    );
+    Ok(())
+}
+
+#[test]
+fn a_loose_vertex_is_restored(rt: HostRuntime) -> Result<(), Fail> {
+    let [_, to_seven] = sum();
+    let action = Action::Restore {
+        vertex: name(1, 1),
+        place: place(0, 0, Position::Main),
+    };
+    let Ok(plan) = planned(rt.alloc(), &[to_seven], &[], 2, &action)? else {
+        return Err("the vertex is not restored".into());
+    };
+    let new = edge(2, 1, Vertex::ROOT, Position::Main, to_seven.source);
+    assert_eq!(rt; plan.answer, Answer::Moved { edge: new.name });
+    assert_eq!(rt; plan.edits.as_slice(), [Edit::insert(new)?].as_slice());
+    Ok(())
+}
+
+#[test]
+fn an_edge_that_came_in_the_block_is_cut_only_by_its_own_name(rt: HostRuntime) -> Result<(), Fail> {
+    let first = edge(
+        3,
+        2,
+        Vertex::ROOT,
+        Position::Main,
+        vertex(3, 1, Ctor::Num(7)),
+    );
+    let second = edge(
+        3,
+        2,
+        Vertex::ROOT,
+        Position::Main,
+        vertex(4, 1, Ctor::Num(8)),
+    );
+    let action = Action::Cut { edge: name(3, 2) };
+    for (opened, later, cut) in [
+        (&[first, second][..], &[][..], &[first, second][..]),
+        (&[first][..], &[second][..], &[first][..]),
+        (&[][..], &[first, second][..], &[first, second][..]),
+    ] {
+        let Ok(plan) = planned(rt.alloc(), opened, later, 1, &action)? else {
+            return Err("the cut is refused".into());
+        };
+        assert_eq!(rt; plan.answer, Answer::Done);
+        assert_eq!(rt; plan.edits.len(), cut.len());
+        for (edit, edge) in plan.edits.as_slice().iter().zip(cut) {
+            assert_eq!(rt; *edit, Edit::delete(*edge)?);
+        }
+    }
+    Ok(())
+}
+
+#[test]
+fn an_opening_set_keeps_the_edges_of_its_time(rt: HostRuntime) -> Result<(), Fail> {
+    let [first, second] = conflict();
+    let mut store = GraphStore::new(rt.alloc());
+    assert!(rt; OpeningSet::of(rt.alloc(), &store)?.is_empty());
+    let deletion = Edit::delete(first)?;
+    store.reserve_for(&[first])?;
+    store.raise(&deletion);
+    let opening = OpeningSet::of(rt.alloc(), &store)?;
+    let insertion = Edit::insert(second)?;
+    store.reserve_for(&[second])?;
+    store.raise(&insertion);
+    assert_eq!(rt; opening.len(), 1);
+    assert!(rt; opening.holds(&first));
+    assert!(rt; !opening.holds(&second));
+    Ok(())
+}
