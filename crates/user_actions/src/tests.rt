@@ -105,9 +105,9 @@ fn opening_set(alloc: Global, store: &GraphStore) -> Result<OpeningSet, NoMemory
 
 // What is planned on the graph of some edges, in a block that opened before the later ones came. Where there was no memory it is
 // planned again, so that one refused allocation, whichever it is, changes no answer.
-fn planned(
+fn planned_in_block(
     alloc: Global,
-    edges: &[Edge],
+    opened: &[Edge],
     later: &[Edge],
     author: u32,
     action: &Action,
@@ -117,7 +117,7 @@ fn planned(
     let mut store = GraphStore::new(alloc);
     let mut children = ChildIndex::new(alloc);
     let mut parents = ParentIndex::new(alloc);
-    insert_each(edges, &mut store, &mut children, &mut parents)?;
+    insert_each(opened, &mut store, &mut children, &mut parents)?;
     let opening = opening_set(alloc, &store)?;
     insert_each(later, &mut store, &mut children, &mut parents)?;
     let view = View {
@@ -135,6 +135,18 @@ fn planned(
         Err(PlanFault::Refused(fault)) => Ok(Err(fault)),
         Err(PlanFault::NoMemory) => Err("out of memory twice".into()),
     }
+}
+
+// The same where nothing came in the block.
+fn planned(
+    alloc: Global,
+    edges: &[Edge],
+    author: u32,
+    action: &Action,
+) -> Result<Result<Plan, ActFault>, Fail>
+    requires { 0 < author }
+{
+    planned_in_block(alloc, edges, &[], author, action)
 }
 
 // A conflict of a number and a truth value below the root.
@@ -178,8 +190,9 @@ fn sum() -> [Edge; 2] {
 
 #[test]
 fn the_first_fault_is_told(rt: HostRuntime) -> Result<(), Fail> {
-    let [to_pair, to_seven, to_truth] = pair();
-    let rows = [
+    let edges = pair();
+    let [to_pair, to_seven, to_truth] = edges;
+    for (action, fault) in [
         (
             Action::Construct {
                 place: place(9, 9, Position::Left),
@@ -258,10 +271,11 @@ fn the_first_fault_is_told(rt: HostRuntime) -> Result<(), Fail> {
             },
             ActFault::NotLoose { edge: to_seven },
         ),
-    ];
-    for (action, fault) in &rows {
-        let told = planned(rt.alloc(), &pair(), &[], 3, action)?.err();
-        assert_eq!(rt; told, Some(*fault));
+    ] {
+        let Err(told) = planned(rt.alloc(), &edges, 3, &action)? else {
+            return Err("an action is not refused".into());
+        };
+        assert_eq!(rt; told, fault);
     }
     Ok(())
 }
@@ -280,7 +294,7 @@ fn two_vertices_with_one_name_are_told(rt: HostRuntime) -> Result<(), Fail> {
         place: place(2, 1, Position::Left),
         ctor: Ctor::Num(5),
     };
-    let answer = planned(rt.alloc(), &edges, &[], 3, &action)?;
+    let answer = planned(rt.alloc(), &edges, 3, &action)?;
     let fault = ActFault::AmbiguousVertex {
         first: one,
         second: two,
@@ -297,10 +311,10 @@ fn spent_names_are_those_of_one_author(rt: HostRuntime) -> Result<(), Fail> {
         place: place(1, 1, Position::Left),
         ctor: Ctor::Num(2),
     };
-    let refused = planned(rt.alloc(), &edges, &[], 1, &action)?;
+    let refused = planned(rt.alloc(), &edges, 1, &action)?;
     let fault = ActFault::NamesSpent { greatest: u64::MAX };
     assert_eq!(rt; refused.err(), Some(fault));
-    let Ok(made) = planned(rt.alloc(), &edges, &[], 2, &action)? else {
+    let Ok(made) = planned(rt.alloc(), &edges, 2, &action)? else {
         return Err("the other author is refused".into());
     };
     let new = edge(2, 2, sum, Position::Left, vertex(2, 1, Ctor::Num(2)));
@@ -316,7 +330,7 @@ fn a_conflict_is_wrapped_whole(rt: HostRuntime) -> Result<(), Fail> {
         place: place(0, 0, Position::Main),
         ctor: Ctor::Plus,
     };
-    let Ok(plan) = planned(rt.alloc(), &conflict(), &[], 3, &action)? else {
+    let Ok(plan) = planned(rt.alloc(), &conflict(), 3, &action)? else {
         return Err("the wrap is refused".into());
     };
     let sum = vertex(3, 1, Ctor::Plus);
@@ -344,7 +358,7 @@ fn a_child_goes_along_where_its_position_stays(rt: HostRuntime) -> Result<(), Fa
         place: place(0, 0, Position::Main),
         ctor: Ctor::Plus,
     };
-    let Ok(along) = planned(rt.alloc(), &sum(), &[], 2, &action)? else {
+    let Ok(along) = planned(rt.alloc(), &sum(), 2, &action)? else {
         return Err("the sum is refused".into());
     };
     assert_eq!(rt;
@@ -361,7 +375,7 @@ fn a_child_goes_along_where_its_position_stays(rt: HostRuntime) -> Result<(), Fa
         place: place(0, 0, Position::Main),
         ctor: Ctor::Pair,
     };
-    let Ok(alone) = planned(rt.alloc(), &sum(), &[], 2, &action)? else {
+    let Ok(alone) = planned(rt.alloc(), &sum(), 2, &action)? else {
         return Err("the pair is refused".into());
     };
     assert_eq!(rt;
@@ -381,7 +395,7 @@ fn an_edge_is_deleted_and_a_vertex_moved(rt: HostRuntime) -> Result<(), Fail> {
     let action = Action::Delete {
         place: place(1, 1, Position::Left),
     };
-    let Ok(deleted) = planned(rt.alloc(), &sum(), &[], 2, &action)? else {
+    let Ok(deleted) = planned(rt.alloc(), &sum(), 2, &action)? else {
         return Err("the deletion is refused".into());
     };
     assert_eq!(rt; deleted.answer, Answer::Done);
@@ -393,7 +407,7 @@ fn an_edge_is_deleted_and_a_vertex_moved(rt: HostRuntime) -> Result<(), Fail> {
         edge: name(1, 4),
         place: place(1, 1, Position::Right),
     };
-    let Ok(moved) = planned(rt.alloc(), &sum(), &[], 2, &action)? else {
+    let Ok(moved) = planned(rt.alloc(), &sum(), 2, &action)? else {
         return Err("the move is refused".into());
     };
     let new = edge(2, 1, to_seven.source, Position::Right, to_seven.target);
@@ -412,7 +426,7 @@ fn a_loose_vertex_is_restored(rt: HostRuntime) -> Result<(), Fail> {
         vertex: name(1, 1),
         place: place(0, 0, Position::Main),
     };
-    let Ok(plan) = planned(rt.alloc(), &[to_seven], &[], 2, &action)? else {
+    let Ok(plan) = planned(rt.alloc(), &[to_seven], 2, &action)? else {
         return Err("the vertex is not restored".into());
     };
     let new = edge(2, 1, Vertex::ROOT, Position::Main, to_seven.source);
@@ -443,7 +457,7 @@ fn an_edge_that_came_in_the_block_is_cut_only_by_its_own_name(rt: HostRuntime) -
         (&[first][..], &[second][..], &[first][..]),
         (&[][..], &[first, second][..], &[first, second][..]),
     ] {
-        let Ok(plan) = planned(rt.alloc(), opened, later, 1, &action)? else {
+        let Ok(plan) = planned_in_block(rt.alloc(), opened, later, 1, &action)? else {
             return Err("the cut is refused".into());
         };
         assert_eq!(rt; plan.answer, Answer::Done);

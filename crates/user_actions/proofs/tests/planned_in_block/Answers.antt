@@ -1,6 +1,6 @@
 use Rattle.graph_store.specs.Store.{state_in}
 use Rattle.user_actions.proofs.SomePlan.{opening_of}
-use Rattle.user_actions.proofs.tests.planned.Goals as goal
+use Rattle.user_actions.proofs.tests.planned_in_block.Goals as goal
 
 pub plan-answer-requires-clause-opening : goal.plan-answer-requires-clause-opening
 plan-answer-requires-clause-opening c e held =
