@@ -48,6 +48,7 @@ use Rattle.user_actions.proofs.NoFault.{no_fault, only_one}
 use Rattle.user_actions.proofs.OnePlace.{IsEntry, puts_wrap, puts_become, at_itself}
 use Rattle.user_actions.proofs.Accepted.{made, ToWrap, to_wrap, ToBecome, to_become}
 use Rattle.user_actions.proofs.PlanLaws.{live_along, after_is, edits_here}
+use Rattle.user_actions.proofs.InsertedNames.{made_is}
 use Rattle.user_actions.proofs.Meant.{made_vertex}
 
 -- ---- the edges that are put below a vertex, in edge order
@@ -187,7 +188,7 @@ pub wrapped_stand : (g : Graph) (opening : List Edge) (author : ℕ) (place : Pl
     → IsPlan g opening author (Wrap place ctor) edits (Made name) → IsVertexOf g v → v.name ≡ place.name → wrapping_position ctor v place ≡ Some below → AreLive g before → AreLive (graph_after g edits) after
     → targets_at (vertex_of name ctor) below after ≡ targets_at v place.position before
 wrapped_stand g opening author place ctor edits name v below before after planned vertex at wraps of_g of_h =
-    ap (λ w. targets_at w below after) (sym made_is) ∙ ap (map (λ e. e.target)) left ∙ put_targets author greatest nv below 3 es ∙ ap (targets_at v place.position) (one_live g lists.live before of.live of_g)
+    ap (λ w. targets_at w below after) (sym is_made) ∙ ap (map (λ e. e.target)) left ∙ put_targets author greatest nv below 3 es ∙ ap (targets_at v place.position) (one_live g lists.live before of.live of_g)
   where
     lists : GraphLists
     lists = planned.lists
@@ -219,8 +220,8 @@ wrapped_stand g opening author place ctor edits name v below before after planne
     ps : List PlainEdit
     ps = wrap_edits author greatest ctor v place (Some below) es
 
-    made_is : nv ≡ vertex_of name ctor
-    made_is = made_vertex author greatest ctor name ctor refl is.answer_is
+    is_made : nv ≡ vertex_of name ctor
+    is_made = made_vertex author greatest ctor name ctor refl (made_is lists author (Wrap place ctor) name is.answer_is)
 
     stands : stands_in v lists.vertices ≡ true
     stands = of.vertices.each v vertex
@@ -266,7 +267,7 @@ pub carried_stand : (g : Graph) (opening : List Edge) (author : ℕ) (place : Pl
     → holds_edge replaced (children_of v place.position before) ≡ true → holds_edge child before ≡ true → goes_along ctor replaced child ≡ true
     → stands_in child.target (targets_at (vertex_of name ctor) child.position after) ≡ true
 carried_stand g opening author place ctor edits name v before after replaced child planned vertex at of_g of_h stood held along =
-    ap (λ w. stands_in child.target (targets_at w child.position after)) (sym made_is) ∙ target_stands x (children_of nv child.position after) there
+    ap (λ w. stands_in child.target (targets_at w child.position after)) (sym is_made) ∙ target_stands x (children_of nv child.position after) there
   where
     lists : GraphLists
     lists = planned.lists
@@ -289,8 +290,8 @@ carried_stand g opening author place ctor edits name v before after replaced chi
     nv : Vertex
     nv = new_vertex author greatest ctor
 
-    made_is : nv ≡ vertex_of name ctor
-    made_is = made_vertex author greatest ctor name ctor refl is.answer_is
+    is_made : nv ≡ vertex_of name ctor
+    is_made = made_vertex author greatest ctor name ctor refl (made_is lists author (Become place ctor) name is.answer_is)
 
     same_live : lists.live ≡ before
     same_live = one_live g lists.live before of.live of_g

@@ -115,7 +115,7 @@ inserted_new g opening author action edits answer of =
 some_made : (a b : Name) → Made a ≡ Made b → a ≡ b
 some_made a b h = cc
 
-made_is : (lists : GraphLists) (author : ℕ) (action : Action) (vertex : Name) → Made vertex ≡ answer_of lists author action → vertex ≡ new_name author (greatest_counter lists author) 1
+pub made_is : (lists : GraphLists) (author : ℕ) (action : Action) (vertex : Name) → Made vertex ≡ answer_of lists author action → vertex ≡ new_name author (greatest_counter lists author) 1
 made_is lists author (Construct place ctor) vertex h = some_made vertex (new_name author (greatest_counter lists author) 1) h
 made_is lists author (Wrap place ctor) vertex h = some_made vertex (new_name author (greatest_counter lists author) 1) h
 made_is lists author (Become place ctor) vertex h = some_made vertex (new_name author (greatest_counter lists author) 1) h

@@ -2,8 +2,7 @@
 use Rattle.std.proofs.Common.{◌≡◌, ◌≢◌, true, List, [], ◌∷◌, get_or, filter, refl, sym, ap, ◌∙◌}
 use Rattle.std.specs.Prelude.{◌&&◌, Option, None, Some}
 use Rattle.std.specs.List.{All}
-use Rattle.edge_lattice.specs.declared.state.State.{State}
-use Rattle.edge_lattice.specs.declared.state.State.TheVariants.{Absent, Live, Deleted}
+use Rattle.edge_lattice.specs.declared.state.State.TheVariants.{Absent, Live}
 use Rattle.grove_names.specs.declared.name.Name.{Name}
 use Rattle.grove_sorts.specs.declared.sort.Sort.{Sort}
 use Rattle.grove_sorts.specs.declared.position.Position.{Position}
@@ -28,6 +27,7 @@ use Rattle.user_actions.specs.Lists.{GraphLists, AreListsOf}
 use Rattle.user_actions.specs.Names.{is_same_name, edges_named}
 use Rattle.user_actions.specs.NamedEdges.{AreNamed, is_live, is_live_in}
 use Rattle.user_actions.proofs.EditLists.{held_first}
+use Rattle.user_actions.proofs.SomeLists.{live_from_test}
 use Rattle.user_actions.proofs.GoodEdges.{parts_of, sort_from_test}
 use Rattle.user_actions.proofs.OnePlace.{entry_found, carried_is}
 use Rattle.grove_sorts.proofs.Truths.{both_true}
@@ -63,11 +63,6 @@ two_none None (Some f) h = absurd cc
 two_none (Some f) b h = absurd cc
 
 -- ---- live edges with a name
-
-live_from_test : (s : State) → is_live s ≡ true → s ≡ Live
-live_from_test Absent h = absurd cc
-live_from_test Live h = refl
-live_from_test Deleted h = absurd cc
 
 pub named_live_is : (g : Graph) (lists : GraphLists) → AreListsOf g lists → (name : Name) (ns mv : List Edge) → AreNamed g name ns → mv ≡ filter (is_live_in g) ns → mv ≡ edges_named name lists.live
 named_live_is g lists of name ns mv named is =

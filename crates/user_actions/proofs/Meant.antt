@@ -26,6 +26,7 @@ use Rattle.user_actions.proofs.Truths.{and_true, same_name_itself}
 use Rattle.user_actions.proofs.PlainGraphs.{only_edge}
 use Rattle.user_actions.proofs.NoFault.{only_one}
 use Rattle.user_actions.proofs.Accepted.{made}
+use Rattle.user_actions.proofs.InsertedNames.{made_is}
 use Rattle.user_actions.proofs.PlanLaws.{LeadsToMeant, edge_left}
 
 targets_are : (v : Vertex) (place : Place) (live : List Edge) (e : Edge) (t : Vertex) → children_of v place.position live ≡ e ∷ [] → e.target ≡ t → targets_at v place.position live ≡ t ∷ []
@@ -33,20 +34,17 @@ targets_are v place live e t left target = ap (map (λ c. c.target)) left ∙ ap
 
 -- ---- a vertex that is made
 
-some_name : (a b : Name) → Made a ≡ Made b → a ≡ b
-some_name a b h = cc
-
 some_ctor : (a b : Ctor) → Some a ≡ Some b → a ≡ b
 some_ctor a b h = cc
 
-pub made_vertex : (author greatest : ℕ) (k : Ctor) (name : Name) (ctor : Ctor) → Some k ≡ Some ctor → Made name ≡ Made (new_name author greatest 1) → new_vertex author greatest k ≡ vertex_of name ctor
-made_vertex author greatest k name ctor makes told = ap (vertex_of (new_name author greatest 1)) (some_ctor k ctor makes) ∙ ap (λ n. vertex_of n ctor) (sym (some_name name (new_name author greatest 1) told))
+pub made_vertex : (author greatest : ℕ) (k : Ctor) (name : Name) (ctor : Ctor) → Some k ≡ Some ctor → name ≡ new_name author greatest 1 → new_vertex author greatest k ≡ vertex_of name ctor
+made_vertex author greatest k name ctor makes is = ap (vertex_of (new_name author greatest 1)) (some_ctor k ctor makes) ∙ ap (λ n. vertex_of n ctor) (sym is)
 
 meant_made : (lists : GraphLists) (author : ℕ) (action : Action) (name : Name) (ctor : Ctor) (e : Edge) → made_ctor action ≡ Some ctor → Made name ≡ answer_of lists author action → LeadsToMeant lists author action e
     → e.target ≡ vertex_of name ctor
-meant_made lists author (Construct at k) name ctor e makes told meant = meant ∙ made_vertex author (greatest_counter lists author) k name ctor makes told
-meant_made lists author (Wrap at k) name ctor e makes told meant = meant ∙ made_vertex author (greatest_counter lists author) k name ctor makes told
-meant_made lists author (Become at k) name ctor e makes told meant = meant ∙ made_vertex author (greatest_counter lists author) k name ctor makes told
+meant_made lists author (Construct at k) name ctor e makes told meant = meant ∙ made_vertex author (greatest_counter lists author) k name ctor makes (made_is lists author (Construct at k) name told)
+meant_made lists author (Wrap at k) name ctor e makes told meant = meant ∙ made_vertex author (greatest_counter lists author) k name ctor makes (made_is lists author (Wrap at k) name told)
+meant_made lists author (Become at k) name ctor e makes told meant = meant ∙ made_vertex author (greatest_counter lists author) k name ctor makes (made_is lists author (Become at k) name told)
 meant_made lists author (Delete at) name ctor e makes told meant = absurd cc
 meant_made lists author (Cut edge) name ctor e makes told meant = absurd cc
 meant_made lists author (Relocate edge at) name ctor e makes told meant = absurd cc

@@ -36,7 +36,7 @@ test_from_present Absent h = absurd (h refl)
 test_from_present Live h = refl
 test_from_present Deleted h = refl
 
-live_from_test : (s : State) → is_live s ≡ true → s ≡ Live
+pub live_from_test : (s : State) → is_live s ≡ true → s ≡ Live
 live_from_test Absent h = absurd cc
 live_from_test Live h = refl
 live_from_test Deleted h = absurd cc
