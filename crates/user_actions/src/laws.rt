@@ -15,7 +15,7 @@ ghost use Rattle.grove_edits.specs.declared.answer.Answer.{Answer};
 ghost use Rattle.grove_edits.specs.declared.answer.Answer.TheVariants.{Made, Moved, Refused};
 ghost use Rattle.grove_edits.specs.Vertex.{stands_in};
 ghost use Rattle.grove_edits.specs.Edit.{edit_edge, edit_kind};
-ghost use Rattle.grove_edits.specs.Graph.{Graph, graph, graph_join, IsSame};
+ghost use Rattle.grove_edits.specs.Graph.{Graph, graph, IsSame};
 ghost use Rattle.walks.specs.Live.{IsInEdgeOrder, children_of, holds_edge};
 ghost use Rattle.walks.specs.declared.class.Class.TheVariants.{Cycle};
 ghost use Rattle.walks.specs.Class.{class};
@@ -42,11 +42,13 @@ pub fn every_action_has_one_plan()
 {}
 
 /// Law: what a plan needs of a graph holds of each that some edits make: its edges are well formed, and the edges that an earlier
-/// graph had are still not Absent.
+/// graph had are still not Absent. Graphs with the same states have the same live edges, as a store after some edits and the graph
+/// that the laws below speak of.
 pub fn graphs_of_edits_can_be_planned_on()
     ensures well_formed { (g : Graph) (list : List Edit) → IsSame g (graph list) → AreWellFormed g }
     ensures opening { (earlier g : Graph) (edits : List Edit) (opening : List Edge)
-        → ArePresent (well_formed earlier) opening → IsSame g (graph_join earlier (graph edits)) → AreOpening g opening }
+        → ArePresent (well_formed earlier) opening → IsSame g (graph_after earlier edits) → AreOpening g opening }
+    ensures live { (g h : Graph) (edges : List Edge) → IsSame g h → AreLive g edges → AreLive h edges }
 {}
 
 /// Law: an action that is refused makes no edits.

@@ -1,3 +1,4 @@
+use Rattle.user_actions.proofs.PlanLaws.{live_along}
 use Rattle.user_actions.proofs.SomePlan.{well_formed_along, opening_known}
 use Rattle.user_actions.proofs.laws.graphs_of_edits_can_be_planned_on.Goals as goal
 
@@ -6,3 +7,6 @@ returns-clause-well_formed c = well_formed_along
 
 pub returns-clause-opening : goal.returns-clause-opening
 returns-clause-opening c = opening_known
+
+pub returns-clause-live : goal.returns-clause-live
+returns-clause-live c = live_along
