@@ -436,7 +436,7 @@ fn a_loose_vertex_is_restored(rt: HostRuntime) -> Result<(), Fail> {
 }
 
 #[test]
-fn an_edge_that_came_in_the_block_is_cut_only_by_its_own_name(rt: HostRuntime) -> Result<(), Fail> {
+fn a_cut_takes_the_edges_that_the_block_opened_with(rt: HostRuntime) -> Result<(), Fail> {
     let first = edge(
         3,
         2,
