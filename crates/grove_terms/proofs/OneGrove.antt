@@ -268,10 +268,10 @@ vertices_from g es each no_other = record {
   from_end v (inl is) = inl is
   from_end v (inr end) = inr (end.0, no_other end.0 (holds-edges end.0 es ∙ end.1), end.2)
 
-abbrev vertices_of : List Edit → List Vertex
+abbrev pub vertices_of : List Edit → List Vertex
 vertices_of edits = ends_of (named_by edits)
 
-vertices_are : (edits : List Edit) → AreVertices (graph edits) (vertices_of edits)
+pub vertices_are : (edits : List Edit) → AreVertices (graph edits) (vertices_of edits)
 vertices_are edits =
     vertices_from (graph edits) (named_by edits) (λ e some. holds-edges e (named_by edits) ∙ holds-named edits e ∙ test_from_present (graph edits e) some)
     (λ e held. present_from_test (graph edits e) (sym (holds-named edits e) ∙ sym (holds-edges e (named_by edits)) ∙ held))
