@@ -1,3 +1,4 @@
+pub mod Counting
 pub mod OneDue
 pub mod Statuses
 pub mod WordsAre
