@@ -40,12 +40,17 @@ fn a_text_is_cut_after_every_so_many_bytes(rt: HostRuntime) -> Result<(), Fail> 
     let list = three_edits(rt.alloc())?;
     let pieces = packets(rt.alloc(), &list, &reversed_twice(50))?;
     assert_eq!(rt; pieces.len(), 4);
-    assert_eq!(rt;
-        pieces.get(0),
-        Some(b"+3.4 3.1 plus right 3.3 true\n+3.2 0.0 root main 3.".as_slice())
-    );
-    assert_eq!(rt; pieces.get(3), Some(b"1 plus left 2.1 num:2\n".as_slice()));
-    assert_eq!(rt; pieces.get(4), None);
+    for (index, want) in [
+        (
+            0,
+            b"+3.4 3.1 plus right 3.3 true\n+3.2 0.0 root main 3.".as_slice(),
+        ),
+        (3, b"1 plus left 2.1 num:2\n".as_slice()),
+    ] {
+        let piece = pieces.get(index).ok_or("a piece")?;
+        assert_eq!(rt; piece, want);
+    }
+    assert!(rt; pieces.get(4).is_none());
     Ok(())
 }
 

@@ -8,6 +8,7 @@ use Rattle.std.proofs.lemmas.List.Sums.{sum_by-cons}
 use Rattle.grove_sorts.specs.declared.ident.Ident.{Ident}
 use Rattle.grove_sorts.specs.Ident.{ident_cmp}
 use Rattle.grove_sorts.specs.declared.version.Version.{Version}
+use Rattle.grove_sorts.proofs.Truths.{or_right}
 use Rattle.grove_sorts.proofs.Orders.{ident_cmp_total, ident_cmp_exact, equal_from_test}
 use Rattle.session_script.specs.declared.author.Declared.{Declared}
 use Rattle.session_script.specs.declared.line.Line.{Line}
@@ -78,10 +79,6 @@ same_ident_exact a b e = ident_cmp_exact a b (equal_from_test (ident_cmp a b) e)
 pub same_number_exact : (a b : ℕ) → (b == a) ≡ true → a ≡ b
 same_number_exact a b e = grind (arith, nat_tests)
 
-or_true : (b : Bool) → (b || true) ≡ true
-or_true true = refl
-or_true false = refl
-
 refuted : (b : Bool) → (b ≡ true → ⊥) → b ≡ false
 refuted true not_so = absurd (not_so refl)
 refuted false not_so = refl
@@ -93,14 +90,14 @@ declared_name (r ∷ replicas) zero replica is =
     let same : r ≡ replica = cc in
     ap (λ b. b || list_any (is_same_ident replica) replicas) (ap (is_same_ident replica) same ∙ same_ident_itself replica)
 declared_name (r ∷ replicas) (suc number) replica is =
-    ap (λ b. is_same_ident replica r || b) (declared_name replicas number replica is) ∙ or_true (is_same_ident replica r)
+    ap (λ b. is_same_ident replica r || b) (declared_name replicas number replica is) ∙ or_right (is_same_ident replica r) true refl
 
 -- a number that stands in a list is found there
 found_number : (numbers : List ℕ) (k author : ℕ) → k < length numbers → get_or numbers k author ≡ author → list_any (λ n. n == author) numbers ≡ true
 found_number [] k author within at = absurd (omega arith)
 found_number (n ∷ numbers) zero author within at = ap (λ b. b || list_any (λ m. m == author) numbers) (eq-eqb n author at)
 found_number (n ∷ numbers) (suc k) author within at =
-    ap (λ b. (n == author) || b) (found_number numbers k author (omega arith) at) ∙ or_true (n == author)
+    ap (λ b. (n == author) || b) (found_number numbers k author (omega arith) at) ∙ or_right (n == author) true refl
 
 -- what differs from all others does not stand before itself
 other_than : {A : Type 0} → (x y : A) (more : List A) (front : List A) → AllByRecursion (λ z. x ≡ z → ⊥) (front ++ y ∷ more) → x ≡ y → ⊥

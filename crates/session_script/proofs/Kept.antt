@@ -9,6 +9,7 @@ use Rattle.std.proofs.lemmas.List.Sums.{sum_by-append, sum_by-cons}
 use Rattle.grove_sorts.specs.declared.ident.Ident.{Ident}
 use Rattle.grove_sorts.specs.Ident.{ident_bytes}
 use Rattle.grove_sorts.specs.declared.version.Version.{Version}
+use Rattle.grove_sorts.proofs.Truths.{both_true}
 use Rattle.grove_edits.specs.declared.edit.Edit.{Edit}
 use Rattle.grove_edits.specs.Edit.{edit_edge, edit_kind}
 use Rattle.grove_edits.specs.declared.action.Action.{Action}
@@ -30,7 +31,7 @@ use Rattle.session_script.specs.Session.{replica_name, replica_line, author_line
 use Rattle.session_script.specs.View.{View, seen, start, open_at, items_at, place_at, declared_at, repeats_replica_at, unknown_author_at, repeats_author_at, too_many_at, fault_at}
 use Rattle.session_script.specs.Reading.{numbered, AuthorsAfter, ItemsAfter, LinesAfter}
 use Rattle.session_script.proofs.Views.{first_fault}
-use Rattle.session_script.proofs.Told.{name_is}
+use Rattle.session_script.proofs.Told.{name_is, all_append}
 use Rattle.session_script.proofs.Good.{same_ident_itself, same_number_exact}
 
 -- ---- where there is no fault no condition holds
@@ -58,12 +59,6 @@ fine_at v s none =
     record { place = h.0; declared = h.1; new_replica = h.2; known_author = h.3; new_author = h.4; few = h.5 }
 
 -- ---- tests
-
--- what both tests say
-pub both : (a b : Bool) → (a && b) ≡ true → (a ≡ true) × (b ≡ true)
-both true true h = (refl, refl)
-both true false h = absurd cc
-both false b h = absurd cc
 
 neither : (a b : Bool) → (a || b) ≡ false → (a ≡ false) × (b ≡ false)
 neither true b h = absurd cc
@@ -105,9 +100,8 @@ no_less a b h = grind (arith, nat_tests)
 
 -- ---- one more at the end
 
-all_push : {A : Type 0} → (P : A → Type 0) (xs : List A) (x : A) → AllByRecursion P xs → P x → AllByRecursion P (xs ++ x ∷ [])
-all_push P [] x all is = (is, tt)
-all_push P (y ∷ xs) x all is = (all.0, all_push P xs x all.1 is)
+pub all_push : {A : Type 0} → (P : A → Type 0) (xs : List A) (x : A) → AllByRecursion P xs → P x → AllByRecursion P (xs ++ x ∷ [])
+all_push P xs x all is = all_append P xs (x ∷ []) all (is, tt)
 
 all_of_none : {A : Type 0} → (P : A → Type 0) (xs : List A) → xs ≡ [] → AllByRecursion P xs
 all_of_none P xs none = subst (AllByRecursion P) (sym none) tt
@@ -275,7 +269,7 @@ session_lines_more version texts v authors items lines h fine =
 replica_lines_more : (texts : List (List ℕ)) (v : View) (authors : List Declared) (items : List Item) (lines : List Line) (r : Ident) → HasLines texts v authors items lines → Fine v (Replica r)
     → HasLines (texts ++ replica_line r ∷ []) (seen v (Replica r)) authors items lines
 replica_lines_more texts v authors items lines r h fine =
-    let place = both v.begun v.only_replicas fine.place in
+    let place = both_true v.begun v.only_replicas fine.place in
     let none = h.only_replicas place.1 in
     let closed = no_blocks v.ends v.blocks none.2 in
     let replicas = v.replicas ++ r ∷ [] in record {
@@ -300,7 +294,7 @@ author_lines_more : (texts : List (List ℕ)) (v : View) (authors : List Declare
 author_lines_more texts v authors items lines n r k h fine is =
     let d : Declared = record { author = n; replica = k } in
     let t = statement_text (Author n r) in
-    let place = both v.some_replica v.only_declared fine.place in
+    let place = both_true v.some_replica v.only_declared fine.place in
     let yes = h.begun place.0 in
     let none = h.only_declared place.1 in
     let closed = no_blocks v.ends v.blocks none.1 in
@@ -324,7 +318,7 @@ item_lines_more : (texts : List (List ℕ)) (v : View) (authors : List Declared)
     → item_lines v.replicas i ≡ t ∷ []
     → v.begun ≡ true → texts ++ t ∷ [] ≡ all_lines v.version v.replicas authors (items ++ i ∷ []) (open_at v) lines
 item_lines_more texts v authors items lines i t h place is e =
-    ap (λ (ts : List (List ℕ)). ts ++ t ∷ []) (h.told e) ∙ one_item_more v.version v.replicas authors items i (open_at v) lines t (not_true (open_at v) (both v.some_replica (not (open_at v)) place).1) is
+    ap (λ (ts : List (List ℕ)). ts ++ t ∷ []) (h.told e) ∙ one_item_more v.version v.replicas authors items i (open_at v) lines t (not_true (open_at v) (both_true v.some_replica (not (open_at v)) place).1) is
 
 still_begun : (begun some_replica : Bool) (P : Type 0) → (some_replica ≡ true → (begun ≡ true) × P) → (some_replica || false) ≡ true → ((begun || false) ≡ true) × P
 still_begun begun some_replica P h e = let yes = h (kept_true some_replica e) in (ap (λ b. b || false) yes.0, yes.1)
@@ -361,7 +355,7 @@ show_lines_more texts v authors items lines h fine = record {
 block_lines_more : (texts : List (List ℕ)) (v : View) (authors : List Declared) (items : List Item) (lines : List Line) → HasLines texts v authors items lines → Fine v Block
     → HasLines (texts ++ codes "block" ∷ []) (seen v Block) authors items lines
 block_lines_more texts v authors items lines h fine =
-    let place = both v.some_replica (not (open_at v)) fine.place in
+    let place = both_true v.some_replica (not (open_at v)) fine.place in
     let closed = not_true (open_at v) place.1 in
     let all_ended : v.blocks ≤ v.ends = is_within v.blocks v.ends closed in record {
       nothing = λ e. absurd cc;
@@ -506,7 +500,7 @@ nothing_is_within = record {
 replica_within : (texts : List (List ℕ)) (v : View) (authors : List Declared) (items : List Item) (lines : List Line) (r : Ident) → HasLines texts v authors items lines → Fine v (Replica r)
     → IsWithin v authors items lines → IsWithin (seen v (Replica r)) authors items lines
 replica_within texts v authors items lines r h fine w =
-    let none = h.only_replicas (both v.begun v.only_replicas fine.place).1 in
+    let none = h.only_replicas (both_true v.begun v.only_replicas fine.place).1 in
     let replicas = v.replicas ++ r ∷ [] in
     let few : length v.replicas < 8 = is_below (length v.replicas) 8 fine.few in record {
       numbers = w.numbers;
@@ -532,7 +526,7 @@ author_within : (texts : List (List ℕ)) (v : View) (authors : List Declared) (
     → IsAuthor n → slice_get v.replicas k ≡ Some r
     → IsWithin v authors items lines → IsWithin (seen v (Author n r)) (authors ++ record { author = n; replica = k } ∷ []) items lines
 author_within texts v authors items lines n r k h fine is_author is w =
-    let none = h.only_declared (both v.some_replica v.only_declared fine.place).1 in
+    let none = h.only_declared (both_true v.some_replica v.only_declared fine.place).1 in
     let d : Declared = record { author = n; replica = k } in
     let numbers = v.authors ++ n ∷ [] in
     let few : length v.authors < 64 = is_below (length v.authors) 64 fine.few in record {
@@ -806,7 +800,7 @@ are_items session (item.Show ∷ items) h = (tt, are_items session items h.1)
 pub whole_session : (session : sessions.Session) (texts : List (List ℕ)) (v : View) (lines : List Line) → v.version ≡ session.version → v.replicas ≡ session.replicas → items_at v ≡ true
     → HasLines texts v session.authors session.items lines → IsWithin v session.authors session.items lines → IsKnown v session.items lines → IsSession session × (texts ≡ session_lines session)
 whole_session session texts v lines version same place h w k =
-    let parts = both v.some_replica (not (open_at v)) place in
+    let parts = both_true v.some_replica (not (open_at v)) place in
     let closed = not_true (open_at v) parts.1 in
     let yes = h.begun parts.0 in
     let numbers : List ℕ = author_numbers session.authors in

@@ -24,7 +24,7 @@ use Rattle.session_script.specs.Script.{ended_line, script_text, AreKnown, Begin
 use Rattle.session_script.specs.Session.{author_numbers, Spells}
 use Rattle.session_script.specs.View.{View, version_after, view_at, seen, start, view, items_at, place_at, declared_at, repeats_replica_at, unknown_author_at, repeats_author_at, too_many_at, fault_at}
 use Rattle.session_script.specs.Reading.{view_of, AuthorsAfter, ItemsAfter, LinesAfter}
-use Rattle.session_script.proofs.Kept.{fine_at, HasLines, lines_of_nothing, lines_more, IsWithin, nothing_is_within, within_more, IsKnown, nothing_is_known, known_more, whole_session}
+use Rattle.session_script.proofs.Kept.{all_push, fine_at, HasLines, lines_of_nothing, lines_more, IsWithin, nothing_is_within, within_more, IsKnown, nothing_is_known, known_more, whole_session}
 use Rattle.session_script.proofs.Told.{ended_lines}
 use Rattle.session_script.proofs.Views.{after-append, first_fault, fault_is, ended_is, version_push}
 
@@ -76,10 +76,6 @@ nothing_yet text reading is no_authors no_items no_lines = record {
 
 -- ---- one more statement
 
-in_range-push : (before : List Statement) (s : Statement) → AllByRecursion InRange before → InRange s → AllByRecursion InRange (before ++ s ∷ [])
-in_range-push [] s all is = (is, tt)
-in_range-push (b ∷ before) s all is = (all.0, in_range-push before s all.1 is)
-
 GoOn-push : (front before : List Statement) (s : Statement) → GoOn front before → statement_fault (front ++ before) s ≡ None → GoOn front (before ++ s ∷ [])
 GoOn-push front [] s good fine = (subst (λ (b : List Statement). statement_fault b s ≡ None) (append-nil front) fine, tt)
 GoOn-push front (b ∷ before) s good fine =
@@ -111,7 +107,7 @@ one_more text rest bytes more line old new s h parts says fine viewed authors it
     record {
       before = h.before ++ s ∷ [];
       begin = record {
-        in_range = in_range-push h.before s h.begin.in_range says.in_range;
+        in_range = all_push InRange h.before s h.begin.in_range says.in_range;
         of_version = AreKnown-push [] h.before s h.begin.of_version (subst (λ (v : Version). IsStatementOf v s) (sym h.version) says.of_version);
         good = GoOn-push [] h.before s h.begin.good fault_free;
       };

@@ -19,6 +19,7 @@ use Rattle.grove_sorts.specs.declared.version.Version.{Version}
 use Rattle.grove_sorts.specs.declared.version.Version.TheVariants.{One, Two}
 use Rattle.grove_sorts.specs.Ctor.{InRange as CtorInRange, ctor_text}
 use Rattle.grove_sorts.specs.Position.{position_text}
+use Rattle.grove_sorts.proofs.Truths.{both_true}
 use Rattle.grove_sorts.proofs.Identifiers.{ident_exact, identifier_spelled}
 use Rattle.grove_sorts.proofs.Texts.{ctor_text_injective, position_text_injective, Lacks-ident_bytes, Lacks-ctor_text, Lacks-position_text}
 use Rattle.grove_edits.specs.declared.edge.Edge.{Edge}
@@ -293,14 +294,10 @@ Lacks-name name in_range = Lacks-name_text 10 name in_range (λ e. absurd (omega
 abbrev are_above : List ℕ → Bool
 are_above = list_all (nat_le 32)
 
-both_parts : (a b : Bool) → (a && b) ≡ true → (a ≡ true) × (b ≡ true)
-both_parts true b e = (refl, e)
-both_parts false b e = absurd (false≢true e)
-
 Lacks-above : (bytes : List ℕ) → are_above bytes ≡ true → Lacks 10 bytes
 Lacks-above [] above = tt
 Lacks-above (byte ∷ bytes) above =
-    let parts = both_parts (nat_le 32 byte) (are_above bytes) above in
+    let parts = both_true (nat_le 32 byte) (are_above bytes) above in
     let apart : byte ≢ 10 = λ e. absurd (grind (arith, nat_tests)) in
     (apart, Lacks-above bytes parts.1)
 

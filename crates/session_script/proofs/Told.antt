@@ -180,9 +180,9 @@ told_text session ss h = ended_lines ss ∙ ap (flat_map (λ (t : List ℕ). t +
 
 -- ---- they are in range
 
-InRange-append : (xs ys : List Statement) → AllByRecursion InRange xs → AllByRecursion InRange ys → AllByRecursion InRange (xs ++ ys)
-InRange-append [] ys h k = k
-InRange-append (x ∷ xs) ys h k = (h.0, InRange-append xs ys h.1 k)
+pub all_append : {A : Type 0} → (P : A → Type 0) (xs ys : List A) → AllByRecursion P xs → AllByRecursion P ys → AllByRecursion P (xs ++ ys)
+all_append P [] ys h k = k
+all_append P (x ∷ xs) ys h k = (h.0, all_append P xs ys h.1 k)
 
 replicas_in_range : (replicas : List Ident) → AllByRecursion InRange (map Replica replicas)
 replicas_in_range [] = tt
@@ -221,29 +221,25 @@ item_in_range : (session : sessions.Session) (i : Item) (ss : List Statement) �
     → ItemTold session.replicas i ss → AllByRecursion InRange ss
 item_in_range session (item.Load number edit) ss ds is h = subst (AllByRecursion InRange) (sym h.2) (tt, tt)
 item_in_range session (item.Block block) ss ds is h =
-    subst (AllByRecursion InRange) (sym h.2) (tt, InRange-append h.0 (End ∷ []) (lines_in_range session block.lines h.0 ds is h.1) (tt, tt))
+    subst (AllByRecursion InRange) (sym h.2) (tt, all_append InRange h.0 (End ∷ []) (lines_in_range session block.lines h.0 ds is h.1) (tt, tt))
 item_in_range session item.Show ss ds is h = subst (AllByRecursion InRange) (sym h) (tt, tt)
 
 items_in_range : (session : sessions.Session) (items : List Item) (ss : List Statement) → AllByRecursion (IsDeclared session) session.authors → AllByRecursion (IsItem session) items
     → ItemsTold session.replicas items ss → AllByRecursion InRange ss
 items_in_range session [] ss ds is h = subst (AllByRecursion InRange) (sym h) tt
 items_in_range session (i ∷ items) ss ds is h =
-    subst (AllByRecursion InRange) (sym h.4) (InRange-append h.0 h.1 (item_in_range session i h.0 ds is.0 h.2) (items_in_range session items h.1 ds is.1 h.3))
+    subst (AllByRecursion InRange) (sym h.4) (all_append InRange h.0 h.1 (item_in_range session i h.0 ds is.0 h.2) (items_in_range session items h.1 ds is.1 h.3))
 
 pub told_in_range : (session : sessions.Session) (ss : List Statement) → IsSession session → Told session ss → AllByRecursion InRange ss
 told_in_range session ss is h =
     subst (AllByRecursion InRange) (sym h.whole) (
       tt,
-      InRange-append (map Replica session.replicas) (h.declared ++ h.done) (replicas_in_range session.replicas)
-          (InRange-append h.declared h.done (authors_in_range session session.authors h.declared is.authors h.are_declared)
+      all_append InRange (map Replica session.replicas) (h.declared ++ h.done) (replicas_in_range session.replicas)
+          (all_append InRange h.declared h.done (authors_in_range session session.authors h.declared is.authors h.are_declared)
           (items_in_range session session.items h.done is.authors is.items h.are_done)),
     )
 
 -- ---- they are of the session's version
-
-known-append : (version : Version) (xs ys : List Statement) → AllByRecursion (IsStatementOf version) xs → AllByRecursion (IsStatementOf version) ys → AllByRecursion (IsStatementOf version) (xs ++ ys)
-known-append version [] ys h k = k
-known-append version (x ∷ xs) ys h k = (h.0, known-append version xs ys h.1 k)
 
 replicas_known : (version : Version) (replicas : List Ident) → AllByRecursion (IsReplicaOf version) replicas → AllByRecursion (IsStatementOf version) (map Replica replicas)
 replicas_known version [] h = tt
@@ -280,14 +276,14 @@ item_known : (version : Version) (replicas : List Ident) (i : Item) (ss : List S
 item_known version replicas (item.Load number edit) ss names is h =
     subst (AllByRecursion (IsStatementOf version)) (sym h.2) ((name_known version replicas number h.0 names h.1, is), tt)
 item_known version replicas (item.Block block) ss names is h =
-    subst (AllByRecursion (IsStatementOf version)) (sym h.2) (tt, known-append version h.0 (End ∷ []) (lines_known version replicas block.lines h.0 names is h.1) (tt, tt))
+    subst (AllByRecursion (IsStatementOf version)) (sym h.2) (tt, all_append (IsStatementOf version) h.0 (End ∷ []) (lines_known version replicas block.lines h.0 names is h.1) (tt, tt))
 item_known version replicas item.Show ss names is h = subst (AllByRecursion (IsStatementOf version)) (sym h) (tt, tt)
 
 items_known : (version : Version) (replicas : List Ident) (items : List Item) (ss : List Statement) → AllByRecursion (IsReplicaOf version) replicas → AllByRecursion (IsItemOf version) items
     → ItemsTold replicas items ss → AllByRecursion (IsStatementOf version) ss
 items_known version replicas [] ss names is h = subst (AllByRecursion (IsStatementOf version)) (sym h) tt
 items_known version replicas (i ∷ items) ss names is h =
-    subst (AllByRecursion (IsStatementOf version)) (sym h.4) (known-append version h.0 h.1 (item_known version replicas i h.0 names is.0 h.2) (items_known version replicas items h.1 names is.1 h.3))
+    subst (AllByRecursion (IsStatementOf version)) (sym h.4) (all_append (IsStatementOf version) h.0 h.1 (item_known version replicas i h.0 names is.0 h.2) (items_known version replicas items h.1 names is.1 h.3))
 
 -- behind the first line, which tells the version
 known_behind : (version : Version) (front ss : List Statement) → AllByRecursion (IsStatementOf version) ss → AreKnown (Session version ∷ front) ss
@@ -300,7 +296,7 @@ told_known session ss is h =
     subst (AreKnown []) (sym h.whole) (
       tt,
       known_behind version [] (map Replica session.replicas ++ (h.declared ++ h.done))
-          (known-append version (map Replica session.replicas) (h.declared ++ h.done) (replicas_known version session.replicas is.replicas_of_version)
-          (known-append version h.declared h.done (authors_known version session.replicas session.authors h.declared is.replicas_of_version h.are_declared)
+          (all_append (IsStatementOf version) (map Replica session.replicas) (h.declared ++ h.done) (replicas_known version session.replicas is.replicas_of_version)
+          (all_append (IsStatementOf version) h.declared h.done (authors_known version session.replicas session.authors h.declared is.replicas_of_version h.are_declared)
           (items_known version session.replicas session.items h.done is.replicas_of_version is.items_of_version h.are_done))),
     )

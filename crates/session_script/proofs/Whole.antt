@@ -3,6 +3,7 @@ use Rattle.std.proofs.Common.{◌≡◌, ℕ, suc, Bool, true, false, ◌&&◌, 
 use Rattle.std.specs.List.{list_any, flat_map, AllByRecursion}
 use Rattle.grove_sorts.specs.declared.ident.Ident.{Ident}
 use Rattle.grove_sorts.specs.declared.version.Version.{Version}
+use Rattle.grove_sorts.proofs.Truths.{both_true}
 use Rattle.session_script.specs.declared.author.Declared.{Declared}
 use Rattle.session_script.specs.declared.item.Block as blocks
 use Rattle.session_script.specs.declared.item.Item.{Item}
@@ -21,7 +22,7 @@ use Rattle.session_script.specs.Reading.{numbered, AuthorsAfter, ItemsAfter, Lin
 use Rattle.session_script.proofs.Views.{GoesOn, fault_is, ended_is, view-push, version_push}
 use Rattle.session_script.proofs.Told.{ended_lines, told, told_text}
 use Rattle.session_script.proofs.Good.{same_ident_exact, told_good}
-use Rattle.session_script.proofs.Kept.{both, Fine, fine_at, HasLines, lines_of_nothing, lines_more, IsWithin, nothing_is_within, within_more, IsKnown, nothing_is_known, known_more, whole_session}
+use Rattle.session_script.proofs.Kept.{Fine, fine_at, HasLines, lines_of_nothing, lines_more, IsWithin, nothing_is_within, within_more, IsKnown, nothing_is_known, known_more, whole_session}
 
 -- ---- one more statement can be taken
 
@@ -40,13 +41,13 @@ has_number (first ∷ replicas) replica h = number_by first replica replicas (is
 
 authors_after : (s : Statement) (v : View) (old : List Declared) → Fine v s → (new : List Declared) × AuthorsAfter v.replicas old s new
 authors_after (Author author replica) v old fine =
-    let found = has_number v.replicas replica (both (declared_at v replica) true fine.declared).0 in
+    let found = has_number v.replicas replica (both_true (declared_at v replica) true fine.declared).0 in
     (old ++ record { author = author; replica = found.0 } ∷ [], (found.0, found.1, refl))
 authors_after _ v old fine = (old, refl)
 
 items_after : (s : Statement) (v : View) (old : List Item) (lines : List Line) → Fine v s → (new : List Item) × ItemsAfter v.replicas old lines s new
 items_after (Load replica edit) v old lines fine =
-    let found = has_number v.replicas replica (both (declared_at v replica) true fine.declared).0 in
+    let found = has_number v.replicas replica (both_true (declared_at v replica) true fine.declared).0 in
     (old ++ item.Load found.0 edit ∷ [], (found.0, found.1, refl))
 items_after End v old lines fine =
     let block : blocks.Block = record { lines = lines } in (old ++ item.Block block ∷ [], (block, refl, refl))
@@ -56,9 +57,9 @@ items_after _ v old lines fine = (old, refl)
 lines_after : (s : Statement) (v : View) (old : List Line) → Fine v s → (new : List Line) × LinesAfter v.replicas old s new
 lines_after (Act author action) v old fine = (old ++ line.Author author action ∷ [], refl)
 lines_after (Send send) v old fine =
-    let known = both (declared_at v send.from) (declared_at v send.to && true) fine.declared in
+    let known = both_true (declared_at v send.from) (declared_at v send.to && true) fine.declared in
     let from = has_number v.replicas send.from known.0 in
-    let to = has_number v.replicas send.to (both (declared_at v send.to) true known.1).0 in
+    let to = has_number v.replicas send.to (both_true (declared_at v send.to) true known.1).0 in
     (old ++ line.Send (numbered from.0 to.0 send) ∷ [], (from.0, to.0, from.1, to.1, refl))
 lines_after End v old fine = ([], refl)
 lines_after _ v old fine = (old, refl)
