@@ -49,13 +49,13 @@ given_tree TypeSort c d f = of_type (tree_type c f)
 given_tree Pat c d f = of_name (pattern_name c)
 given_tree Top c d f = nothing
 
-given-none : (s : Sort) (f : Forest) (p : Position) (d : Demanded) → given_at s 0 f p d ≡ nothing
+pub given-none : (s : Sort) (f : Forest) (p : Position) (d : Demanded) → given_at s 0 f p d ≡ nothing
 given-none Exp f p d = refl
 given-none TypeSort f p d = refl
 given-none Pat f p d = refl
 given-none Top f p d = refl
 
-given-several : (s : Sort) (n : ℕ) (f : Forest) (p : Position) (d : Demanded) → given_at s (suc (suc n)) f p d ≡ nothing
+pub given-several : (s : Sort) (n : ℕ) (f : Forest) (p : Position) (d : Demanded) → given_at s (suc (suc n)) f p d ≡ nothing
 given-several Exp n f p d = refl
 given-several TypeSort n f p d = refl
 given-several Pat n f p d = refl
@@ -146,7 +146,7 @@ abbrev pub places_give : Expression → Forest → List (Position × Sort) → L
 places_give x f [] before = []
 places_give x f (p ∷ ps) before = given_at p.1 (count_at f p.0) f p.0 (demand x before) ∷ places_give x f ps (types_then p.1 f p.0 (demand x before) before)
 
-places_give-append : (x : Expression) (f : Forest) (ps qs : List (Position × Sort)) (before : List Typ)
+pub places_give-append : (x : Expression) (f : Forest) (ps qs : List (Position × Sort)) (before : List Typ)
     → places_give x f (ps ++ qs) before ≡ places_give x f ps before ++ places_give x f qs (types_at x (judged_in f) ps before)
 places_give-append x f [] qs before = refl
 places_give-append x f (p ∷ ps) qs before =
@@ -159,7 +159,7 @@ places_give-append x f (p ∷ ps) qs before =
     by_sort true = refl
     by_sort false = refl
 
-types_at-append : (x : Expression) (f : Forest) (ps qs : List (Position × Sort)) (before : List Typ)
+pub types_at-append : (x : Expression) (f : Forest) (ps qs : List (Position × Sort)) (before : List Typ)
     → types_at x (judged_in f) (ps ++ qs) before ≡ types_at x (judged_in f) qs (types_at x (judged_in f) ps before)
 types_at-append x f [] qs before = refl
 types_at-append x f (p ∷ ps) qs before =
@@ -208,7 +208,7 @@ one_more [] (suc n) p ps e = absurd cc
 one_more (q ∷ row) zero p ps e = (ap (λ (qs : List (Position × Sort)). take 1 qs) e, ap (λ (qs : List (Position × Sort)). drop 1 qs) e)
 one_more (q ∷ row) (suc n) p ps e = let more = one_more row n p ps e in (ap (λ qs. q ∷ qs) more.0, more.1)
 
-all_taken : (row : List (Position × Sort)) (n : ℕ) → drop n row ≡ [] → take n row ≡ row
+pub all_taken : (row : List (Position × Sort)) (n : ℕ) → drop n row ≡ [] → take n row ≡ row
 all_taken [] zero e = refl
 all_taken [] (suc n) e = refl
 all_taken (q ∷ row) zero e = absurd cc
@@ -285,7 +285,7 @@ settled_known _ x f scope Synthesise ts = refl
 settled_known _ x f scope (Analyse t) ts = refl
 
 -- and the type that it is
-made_known : (c : Ctor) (x : Expression) (f : Forest) → made_of c (places_give x f (positions c) []) ≡ tree_type c f
+pub made_known : (c : Ctor) (x : Expression) (f : Forest) → made_of c (places_give x f (positions c) []) ≡ tree_type c f
 made_known ctor.TArrow x f = refl
 made_known ctor.TProd x f = refl
 made_known ctor.TSum x f = refl
@@ -320,7 +320,7 @@ counts c d e n p ps same row exp = by_sort (sort_of_ctor c) refl same where
   by_sort Pat is same = no_expression (pattern_judges_none c is)
   by_sort TypeSort is same = no_expression (type_judges_none c is)
 
-all_demand : (c : Ctor) (d e : Demanded) (f : Forest) → Agree (sort_of_ctor c) d e → Demands c d (expression c e.scope e.wanted f) f
+pub all_demand : (c : Ctor) (d e : Demanded) (f : Forest) → Agree (sort_of_ctor c) d e → Demands c d (expression c e.scope e.wanted f) f
 all_demand c d e f same n p ps row = by_sort p.1 refl where
   x : Expression
   x = expression c e.scope e.wanted f
@@ -333,14 +333,14 @@ all_demand c d e f same n p ps row = by_sort p.1 refl where
   by_sort Pat is = tt
   by_sort TypeSort is = tt
 
-settled_whole : (c : Ctor) (e : Demanded) (f : Forest) → settled (expression_of (after c e (expression c e.scope e.wanted f) f (positions c))) (before_of (after c e (expression c e.scope e.wanted f) f (positions c)))
+pub settled_whole : (c : Ctor) (e : Demanded) (f : Forest) → settled (expression_of (after c e (expression c e.scope e.wanted f) f (positions c))) (before_of (after c e (expression c e.scope e.wanted f) f (positions c)))
     ≡ settled (expression c e.scope e.wanted f) (children_types (expression c e.scope e.wanted f) f)
 settled_whole c e f =
     let x : Expression = expression c e.scope e.wanted f in
     ap (settled (expression_of (after c e x f (positions c)))) (all_known c e x f) ∙ settled_known c x f e.scope e.wanted (types_at x (judged_in f) (positions c) [])
 
 -- so each vertex gives what its tree gives, and its node is marked as that of the tree
-gives_whole : (c : Ctor) (s : Sort) (d e : Demanded) (f : Forest) → Agree s d e → given_by_sort s (after c d (expression c e.scope e.wanted f) f (positions c)) ≡ given_tree s c e f
+pub gives_whole : (c : Ctor) (s : Sort) (d e : Demanded) (f : Forest) → Agree s d e → given_by_sort s (after c d (expression c e.scope e.wanted f) f (positions c)) ≡ given_tree s c e f
 gives_whole c Exp d e f same =
     ap (λ (y : Demanded). given_by_sort Exp (after c y (expression c e.scope e.wanted f) f (positions c))) same ∙ ap (λ (m : Marked). of_type m.typ) (settled_whole c e f)
 gives_whole c TypeSort d e f same = ap of_type (made_known c (expression c e.scope e.wanted f) f)
