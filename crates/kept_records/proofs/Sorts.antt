@@ -1,0 +1,82 @@
+-- Children have the sorts that their positions want.
+use Rattle.std.proofs.Common.{◌≡◌, ◌⊎◌, inl, inr, Bool, true, false, cond, List, [], ◌∷◌, refl, subst}
+use Rattle.std.specs.Prelude.{◌==◌, if◌then◌else◌, Option, Some, None, is_none, IsTrue}
+use Rattle.std.specs.List.{AllByRecursion}
+use Rattle.std.proofs.lemmas.Bool.{false≢true}
+use Rattle.grove_sorts.specs.declared.position.Position.{Position}
+use Rattle.grove_sorts.specs.declared.position.Position.TheVariants.{Annot}
+use Rattle.grove_sorts.specs.declared.sort.Sort.{Sort}
+use Rattle.grove_sorts.specs.declared.sort.Sort.TheVariants.{Top, Exp, Pat, Typ as TypeSort}
+use Rattle.grove_sorts.specs.declared.ctor.Ctor.{Ctor}
+use Rattle.grove_sorts.specs.declared.ctor.Ctor.TheVariants.{Root, Lam, PVar, TNum, TBool, TArrow, TProd, TSum}
+use Rattle.marking.proofs.ByRows.{no_top_in}
+use Rattle.grove_sorts.specs.Position.{position_number}
+use Rattle.grove_sorts.specs.Ctor.{positions, sort_in, sort_at, sort_of_ctor}
+use Rattle.grove_edits.specs.declared.edge.Edge.{Edge}
+use Rattle.grove_edits.specs.declared.edge.EdgeFault.TheVariants.{BadVertex, NoPosition, WrongSort}
+use Rattle.grove_edits.specs.Edge.{IsWellFormed, has_good_vertices, has_position, has_sort, is_sort}
+
+has_sort_by : (good place sort : Bool) → IsTrue (is_none (if good then (if place then (if sort then None else Some WrongSort) else Some NoPosition) else Some BadVertex)) → sort ≡ true
+has_sort_by true true true h = refl
+has_sort_by true true false h = absurd (false≢true h)
+has_sort_by true false sort h = absurd (false≢true h)
+has_sort_by false place sort h = absurd (false≢true h)
+
+is_sort_exact : (o : Option Sort) (s : Sort) → is_sort o s ≡ true → o ≡ Some s
+is_sort_exact None s h = absurd cc
+is_sort_exact (Some Top) Top h = refl
+is_sort_exact (Some Top) Exp h = absurd cc
+is_sort_exact (Some Top) Pat h = absurd cc
+is_sort_exact (Some Top) TypeSort h = absurd cc
+is_sort_exact (Some Exp) Top h = absurd cc
+is_sort_exact (Some Exp) Exp h = refl
+is_sort_exact (Some Exp) Pat h = absurd cc
+is_sort_exact (Some Exp) TypeSort h = absurd cc
+is_sort_exact (Some Pat) Top h = absurd cc
+is_sort_exact (Some Pat) Exp h = absurd cc
+is_sort_exact (Some Pat) Pat h = refl
+is_sort_exact (Some Pat) TypeSort h = absurd cc
+is_sort_exact (Some TypeSort) Top h = absurd cc
+is_sort_exact (Some TypeSort) Exp h = absurd cc
+is_sort_exact (Some TypeSort) Pat h = absurd cc
+is_sort_exact (Some TypeSort) TypeSort h = refl
+
+-- the position of a well-formed edge wants the sort of its target
+pub wanted_sort : (e : Edge) → IsWellFormed e → sort_at e.source.ctor e.position ≡ Some (sort_of_ctor e.target.ctor)
+wanted_sort e well = is_sort_exact (sort_at e.source.ctor e.position) (sort_of_ctor e.target.ctor) (has_sort_by (has_good_vertices e) (has_position e) (has_sort e) well)
+
+-- ---- the sorts in the table
+
+some_sort : (s t : Sort) → Some s ≡ Some t → s ≡ t
+some_sort s t e = cc
+
+sort_in_all : (P : Sort → Type 0) (ps : List (Position × Sort)) → AllByRecursion (λ q. P q.1) ps → (p : Position) (s : Sort) → sort_in ps p ≡ Some s → P s
+sort_in_all P [] all p s is = absurd cc
+sort_in_all P (q ∷ qs) all p s is = by_test (position_number q.0 == position_number p) is (sort_in_all P qs all.1 p s) where
+  by_test : (b : Bool) → cond b (Some q.1) (sort_in qs p) ≡ Some s → (sort_in qs p ≡ Some s → P s) → P s
+  by_test true is later = subst P (some_sort q.1 s is) all.0
+  by_test false is later = later is
+
+-- no position wants a root
+pub never_top : (c : Ctor) (p : Position) → sort_at c p ≡ Some Top → ⊥
+never_top c p is = sort_in_all (λ s. s ≡ Top → ⊥) (positions c) (no_top_in c) p Top is refl
+
+-- a vertex that is judged as an expression is, the root included
+abbrev pub IsJudged : Ctor → Type 0
+IsJudged c = (sort_of_ctor c ≡ Exp) ⊎ (sort_of_ctor c ≡ Top)
+
+-- expressions stand below expressions and below the root
+pub above_expression : (c : Ctor) (p : Position) → sort_at c p ≡ Some Exp → IsJudged c
+above_expression Root p is = inr refl
+above_expression (PVar x) p is = absurd cc
+above_expression TNum p is = absurd cc
+above_expression TBool p is = absurd cc
+above_expression TArrow p is = absurd (sort_in_all (λ s. s ≡ Exp → ⊥) (positions TArrow) (λ e. cc, (λ e. cc, tt)) p Exp is refl)
+above_expression TProd p is = absurd (sort_in_all (λ s. s ≡ Exp → ⊥) (positions TProd) (λ e. cc, (λ e. cc, tt)) p Exp is refl)
+above_expression TSum p is = absurd (sort_in_all (λ s. s ≡ Exp → ⊥) (positions TSum) (λ e. cc, (λ e. cc, tt)) p Exp is refl)
+above_expression _ p is = inl refl
+
+-- what stands at a position for a type is a type
+pub at_annotation : (c : Ctor) (s : Sort) → sort_at c Annot ≡ Some s → s ≡ TypeSort
+at_annotation Lam s is = cc
+at_annotation _ s is = absurd cc
