@@ -1,3 +1,4 @@
+pub mod Words
 pub mod Statements
 pub mod Scripts
 pub mod Views
