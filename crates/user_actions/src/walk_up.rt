@@ -1,20 +1,12 @@
 ghost use Rattle.std.specs.Prelude.{◌≡◌, ◌<◌};
-ghost use Rattle.grove_edits.specs.Vertex.{is_same_vertex};
 ghost use Rattle.walks.specs.Walk.{above};
 ghost use Rattle.unicycle_roots.specs.Met.{leads_to};
 
-use grove_edits::Vertex;
+use grove_edits::{Vertex, is_same_vertex};
 use parent_index::ParentIndex;
-use std::cmp::Ordering;
 use std::marker::Brand;
 use std::sync::ledger::{Blank, Ledger};
 use walks::{Few, ParentOf, Steps};
-
-fn is_same(a: &Vertex, b: &Vertex) -> bool
-    ensures { result ≡ is_same_vertex a.now b.now }
-{
-    a.cmp(b) == Ordering::Equal
-}
 
 /// The source of the one live parent edge, if there is exactly one.
 fn vertex_above<P: ParentOf, L: Ledger>(
@@ -42,7 +34,7 @@ pub(crate) fn leads_to<P: ParentOf, L: Ledger>(
 {
     let mut at = *from;
     for _step in 0..parents.vertex_count() {
-        if is_same(&at, vertex) {
+        if is_same_vertex(&at, vertex) {
             return true;
         }
         let Some(above) = vertex_above(&at, parents, steps) else {
@@ -50,5 +42,5 @@ pub(crate) fn leads_to<P: ParentOf, L: Ledger>(
         };
         at = above;
     }
-    is_same(&at, vertex)
+    is_same_vertex(&at, vertex)
 }
