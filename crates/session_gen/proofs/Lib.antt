@@ -1,6 +1,0 @@
-pub mod Numerals
-pub mod Groups
-pub mod MoreLoads
-pub mod SessionLines
-pub mod GeneratedSession
-pub mod Examples
