@@ -1,2 +1,0 @@
-pub mod OneJournal
-pub mod SameCommands
