@@ -27,9 +27,21 @@ enum Form {
 }
 
 impl TypeTable {
-    /// Appends the text of a type: `?`, `num`, `bool`, `(A->B)`, `(A*B)` or `(A+B)`. A type with parts below so many levels is `..`. The
-    /// memory of the walk is that of `out`.
+    /// Appends the text of a type: `?`, `num`, `bool`, `(A->B)`, `(A*B)` or `(A+B)`. A type with parts below so many levels is `..`. A
+    /// type without parts takes no memory but that of its text; the memory of the walk over another is that of `out`.
     pub fn write_type(&self, t: TypeId, levels: u32, out: &mut Vec<u8>) -> Result<(), NoMemory>
+        requires { IsTypeOf self.now t }
+        ensures written { OnOk result (out.new.items ≡ out.old.items ++ type_text levels (type_at self.now t)) }
+        ensures unchanged { OnErr result (out.new.items ≡ out.old.items) }
+    {
+        match self.form(Piece::Whole(t, levels)) {
+            Form::Fixed(text) => Ok(out.extend_from_slice(text)?),
+            Form::Parts(_, _, _, _) => self.write_parts(t, levels, out),
+        }
+    }
+
+    // The same, of a type that is written piece by piece.
+    fn write_parts(&self, t: TypeId, levels: u32, out: &mut Vec<u8>) -> Result<(), NoMemory>
         requires { IsTypeOf self.now t }
         ensures written { OnOk result (out.new.items ≡ out.old.items ++ type_text levels (type_at self.now t)) }
         ensures unchanged { OnErr result (out.new.items ≡ out.old.items) }
