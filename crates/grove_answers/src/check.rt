@@ -10,10 +10,11 @@ use crate::no_memory::NoMemory;
 use crate::program::Program;
 use crate::report::Report;
 use crate::reporting::report_program;
-use crate::walk::Part;
 use ctx_table::CtxTable;
 use grove_edits::EditList;
 use grove_printer::{Section, print_marked_lines_of};
+use grove_terms::Tree;
+use marking::MarkedTree;
 use plain_typing::is_typed;
 use std::alloc::Global;
 use text_parts::write_number;
@@ -73,12 +74,13 @@ impl Report for Checked {
     fn take(
         &mut self,
         alloc: Global,
-        part: &Part,
+        tree: &Tree,
+        marked: &MarkedTree,
         types: &mut TypeTable,
         contexts: &mut CtxTable,
     ) -> Result<(), NoMemory> {
-        print_marked_lines_of(&part.marked, types, &mut self.text)?;
-        if is_typed(alloc, &part.tree, types, contexts)? {
+        print_marked_lines_of(marked, types, &mut self.text)?;
+        if is_typed(alloc, tree, types, contexts)? {
             self.typed = self.typed.checked_add(1).ok_or(NoMemory)?;
         }
         Ok(())

@@ -7,9 +7,10 @@ ghost use Rattle.marking.specs.Numbers.{AreMarkedNodesOf};
 ghost use Rattle.grove_printer.specs.declared.section.Section.{Section};
 
 use crate::no_memory::NoMemory;
-use crate::walk::Part;
 use ctx_table::CtxTable;
 use grove_printer::Section;
+use grove_terms::Tree;
+use marking::MarkedTree;
 use std::alloc::Global;
 use type_core::TypeTable;
 
@@ -25,17 +26,18 @@ pub(crate) trait Report {
     fn begin(&mut self, section: Section, trees: usize) -> Result<(), NoMemory>
         ensures { OnOk result (begins self.old section trees self.new) };
 
-    /// The next tree of the list.
+    /// The next tree of the list, with its marking.
     fn take(
         &mut self,
         alloc: Global,
-        part: &Part,
+        tree: &Tree,
+        marked: &MarkedTree,
         types: &mut TypeTable,
         contexts: &mut CtxTable,
     ) -> Result<(), NoMemory>
-        requires sorted { IsSortedTree part.now.tree }
-        requires numbers { AreMarkedNodesOf types.old part.now.marked }
-        ensures { OnOk result (takes self.old (part.now.tree ∷ []) (meant_nodes types.old part.now.marked ∷ []) self.new) };
+        requires sorted { IsSortedTree tree.now }
+        requires numbers { AreMarkedNodesOf types.old marked.now }
+        ensures { OnOk result (takes self.old (tree.now ∷ []) (meant_nodes types.old marked.now ∷ []) self.new) };
 
     ghost takes_none: { (r : Self) → takes r [] [] r };
 

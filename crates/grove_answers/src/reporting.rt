@@ -81,8 +81,9 @@ fn report_trees<R: Report>(
     ensures seen { OnOk result (OnlyInner table.now walk.new.seen) }
 {
     for head in heads {
-        let part = walk.part(alloc, table, head)?;
-        report.take(alloc, &part, &mut walk.types, &mut walk.contexts)?;
+        let tree = walk.tree(alloc, table, head)?;
+        let marked = walk.marking(alloc, &tree)?;
+        report.take(alloc, &tree, &marked, &mut walk.types, &mut walk.contexts)?;
     }
     Ok(())
 }

@@ -8,10 +8,11 @@ use crate::no_memory::NoMemory;
 use crate::program::Program;
 use crate::report::Report;
 use crate::reporting::report_program;
-use crate::walk::Part;
 use ctx_table::CtxTable;
 use grove_edits::EditList;
 use grove_printer::{Section, print_heading, print_tree};
+use grove_terms::Tree;
+use marking::MarkedTree;
 use std::alloc::Global;
 use type_core::TypeTable;
 
@@ -50,10 +51,11 @@ impl Report for Shown {
     fn take(
         &mut self,
         _alloc: Global,
-        part: &Part,
+        _tree: &Tree,
+        marked: &MarkedTree,
         types: &mut TypeTable,
         _contexts: &mut CtxTable,
     ) -> Result<(), NoMemory> {
-        Ok(print_tree(&part.marked, types, &mut self.text)?)
+        Ok(print_tree(marked, types, &mut self.text)?)
     }
 }

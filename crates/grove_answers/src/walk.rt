@@ -1,6 +1,4 @@
 ghost use Rattle.std.specs.Prelude.{◌≡◌, IfOk};
-ghost use Rattle.grove_edits.specs.Graph.{graph};
-ghost use Rattle.walks.specs.Whole.{AreLive};
 ghost use Rattle.graph_table.specs.Table.{live};
 ghost use Rattle.grove_terms.specs.Grove.{IsTreeOf};
 ghost use Rattle.grove_decompose.specs.Trees.{OnlyInner};
@@ -28,13 +26,6 @@ pub(crate) struct Walk {
     pub(crate) contexts: CtxTable,
 }
 
-/// A tree with its marking.
-#[derive(Drop)]
-pub(crate) struct Part {
-    pub(crate) tree: Tree,
-    pub(crate) marked: MarkedTree,
-}
-
 impl Walk {
     /// Before the first tree.
     pub(crate) fn new(alloc: Global, table: &GraphTable) -> Result<Walk, NoMemory>
@@ -47,24 +38,33 @@ impl Walk {
         })
     }
 
-    /// The tree of a vertex that heads one, with its marking.
-    pub(crate) fn part(
+    /// The tree of a vertex that heads one.
+    pub(crate) fn tree(
         &mut self,
         alloc: Global,
         table: &GraphTable,
         head: &Numbered,
-    ) -> Result<Part, NoMemory>
-        requires whole { AreLive (graph table.now.edits) (live table.now) }
+    ) -> Result<Tree, NoMemory>
         requires head { IsHead table.now head.now }
         requires seen { OnlyInner table.now self.old.seen }
-        ensures tree { IfOk result (λ part. IsTreeOf (live table.now) head.now.vertex part.tree) }
-        ensures sorted { IfOk result (λ part. IsSortedTree part.tree) }
-        ensures marked { IfOk result (λ part. IsMarkedTree part.tree (meant_nodes self.new.types part.marked)) }
-        ensures numbers { IfOk result (λ part. AreMarkedNodesOf self.new.types part.marked) }
+        ensures tree { IfOk result (λ tree. IsTreeOf (live table.now) head.now.vertex tree) }
+        ensures sorted { IfOk result IsSortedTree }
         ensures seen { OnlyInner table.now self.new.seen }
     {
-        let tree = tree_by_number(alloc, table, head, &mut self.seen)?;
-        let marked = mark_tree(alloc, &tree, &mut self.types, &mut self.contexts)?;
-        Ok(Part { tree, marked })
+        Ok(tree_by_number(alloc, table, head, &mut self.seen)?)
+    }
+
+    /// The marking of a tree.
+    pub(crate) fn marking<'t>(
+        &mut self,
+        alloc: Global,
+        tree: &'t Tree,
+    ) -> Result<MarkedTree<'t>, NoMemory>
+        requires { IsSortedTree tree.now }
+        ensures marked { IfOk result (λ marked. IsMarkedTree tree.now (meant_nodes self.new.types marked)) }
+        ensures numbers { IfOk result (AreMarkedNodesOf self.new.types) }
+        ensures seen { self.new.seen ≡ self.old.seen }
+    {
+        Ok(mark_tree(alloc, tree, &mut self.types, &mut self.contexts)?)
     }
 }

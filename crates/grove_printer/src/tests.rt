@@ -20,17 +20,21 @@ fn vertex(author: u32, counter: u64, ctor: Ctor) -> Vertex {
     }
 }
 
+fn root() -> Node {
+    Node {
+        depth: 0,
+        position: None,
+        edge: None,
+        what: What::Vertex(vertex(0, 0, Ctor::Root)),
+    }
+}
+
 // The tree of the root and another node.
-fn root_and(alloc: Global, node: MarkedNode) -> Result<MarkedTree, Fail>
-    ensures { (types : List Typ) → IsMarkedNodeOf types node → IfOk result (AreMarkedNodesOf types) }
+fn tree_of<'t>(alloc: Global, root: &'t Node, node: MarkedNode<'t>) -> Result<MarkedTree<'t>, Fail>
+    ensures { (types : List Typ) → IsMarkedNodeOf types node.entry → IfOk result (AreMarkedNodesOf types) }
 {
     let head = MarkedNode {
-        node: Node {
-            depth: 0,
-            position: None,
-            edge: None,
-            what: What::Vertex(vertex(0, 0, Ctor::Root)),
-        },
+        node: root,
         mode: None,
         typ: None,
         mark: Mark::None,
@@ -42,11 +46,15 @@ fn root_and(alloc: Global, node: MarkedNode) -> Result<MarkedTree, Fail>
 }
 
 // The marked grove of that tree alone.
-fn below_the_root(alloc: Global, node: MarkedNode) -> Result<MarkedGrove, Fail>
-    ensures { (types : List Typ) → IsMarkedNodeOf types node → IfOk result (IsMarkedGroveOf types) }
+fn grove_of<'t>(
+    alloc: Global,
+    root: &'t Node,
+    node: MarkedNode<'t>,
+) -> Result<MarkedGrove<'t>, Fail>
+    ensures { (types : List Typ) → IsMarkedNodeOf types node.entry → IfOk result (IsMarkedGroveOf types) }
 {
     let mut none = MarkedTreeList::new(alloc);
-    none.push(root_and(alloc, node)?)?;
+    none.push(tree_of(alloc, root, node)?)?;
     Ok(MarkedGrove {
         none,
         multi: MarkedTreeList::new(alloc),
@@ -57,18 +65,20 @@ fn below_the_root(alloc: Global, node: MarkedNode) -> Result<MarkedGrove, Fail>
 #[test]
 fn a_marked_grove_is_printed(rt: HostRuntime) -> Result<(), Fail> {
     let types = TypeTable::new(rt.alloc())?;
+    let root = root();
+    let node = Node {
+        depth: 1,
+        position: Some(Position::Main),
+        edge: None,
+        what: What::Hole(Sort::Exp),
+    };
     let hole = MarkedNode {
-        node: Node {
-            depth: 1,
-            position: Some(Position::Main),
-            edge: None,
-            what: What::Hole(Sort::Exp),
-        },
+        node: &node,
         mode: Some(Mode::Ana(types.boolean())),
         typ: Some(types.num()),
         mark: Mark::Inconsistent,
     };
-    let marked = below_the_root(rt.alloc(), hole)?;
+    let marked = grove_of(rt.alloc(), &root, hole)?;
     let mut text = Vec::new(rt.alloc());
     print_grove(&marked, &types, &mut text)?;
     assert_eq!(rt;
@@ -87,18 +97,20 @@ cycle 0
 #[test]
 fn a_tree_is_printed_by_itself(rt: HostRuntime) -> Result<(), Fail> {
     let types = TypeTable::new(rt.alloc())?;
+    let root = root();
+    let node = Node {
+        depth: 1,
+        position: Some(Position::Main),
+        edge: None,
+        what: What::Hole(Sort::Exp),
+    };
     let free = MarkedNode {
-        node: Node {
-            depth: 1,
-            position: Some(Position::Main),
-            edge: None,
-            what: What::Hole(Sort::Exp),
-        },
+        node: &node,
         mode: Some(Mode::Syn),
         typ: Some(types.unknown()),
         mark: Mark::Free,
     };
-    let tree = root_and(rt.alloc(), free)?;
+    let tree = tree_of(rt.alloc(), &root, free)?;
     let mut text = Vec::new(rt.alloc());
     print_heading(Section::NoParent, 1, &mut text)?;
     print_tree(&tree, &types, &mut text)?;
@@ -128,18 +140,20 @@ fn a_marked_line_stands_alone(rt: HostRuntime) -> Result<(), Fail> {
         position: Position::Main,
         target: choose,
     };
-    let node = MarkedNode {
-        node: Node {
-            depth: 1,
-            position: Some(Position::Main),
-            edge: Some(edge),
-            what: What::Vertex(choose),
-        },
+    let root = root();
+    let node = Node {
+        depth: 1,
+        position: Some(Position::Main),
+        edge: Some(edge),
+        what: What::Vertex(choose),
+    };
+    let marked_node = MarkedNode {
+        node: &node,
         mode: Some(Mode::Syn),
         typ: Some(types.unknown()),
         mark: Mark::Branches,
     };
-    let marked = below_the_root(rt.alloc(), node)?;
+    let marked = grove_of(rt.alloc(), &root, marked_node)?;
     let mut text = Vec::new(rt.alloc());
     print_marked_lines(&marked, &types, &mut text)?;
     assert_eq!(rt;
@@ -162,18 +176,20 @@ fn an_injection_against_a_number_is_printed(rt: HostRuntime) -> Result<(), Fail>
         position: Position::Left,
         target: injection,
     };
-    let node = MarkedNode {
-        node: Node {
-            depth: 2,
-            position: Some(Position::Left),
-            edge: Some(edge),
-            what: What::Vertex(injection),
-        },
+    let root = root();
+    let node = Node {
+        depth: 2,
+        position: Some(Position::Left),
+        edge: Some(edge),
+        what: What::Vertex(injection),
+    };
+    let marked_node = MarkedNode {
+        node: &node,
         mode: Some(Mode::Ana(types.num())),
         typ: Some(types.num()),
         mark: Mark::InjAgainst,
     };
-    let marked = below_the_root(rt.alloc(), node)?;
+    let marked = grove_of(rt.alloc(), &root, marked_node)?;
     let mut text = Vec::new(rt.alloc());
     print_marked_lines(&marked, &types, &mut text)?;
     assert_eq!(rt;

@@ -1,5 +1,5 @@
 -- A position is filled.
-use Rattle.std.proofs.Common.{◌≡◌, ℕ, zero, suc, ◌+◌, ◌<◌, ◌≤◌, ◌⊎◌, inl, inr, List, [], ◌∷◌, ◌++◌, length, set, take, map, Option, Some, None, IfSome, refl, sym, ap, subst, ◌∙◌, arith, length-set}
+use Rattle.std.proofs.Common.{◌≡◌, ℕ, zero, suc, ◌+◌, ◌<◌, ◌≤◌, ◌⊎◌, inl, inr, List, [], ◌∷◌, ◌++◌, length, set, take, map, Option, Some, None, IfSome, refl, sym, ap, subst, ◌∙◌, arith}
 use Rattle.std.specs.Prelude.{slice_get}
 use Rattle.std.specs.Option.{option_map}
 use Rattle.std.specs.List.{slice_index_or}
@@ -13,8 +13,9 @@ use Rattle.type_core.specs.Typ.{Typ}
 use Rattle.ctx_table.specs.Context.{Context}
 use Rattle.mark_step.specs.Node.{demanded_at}
 use Rattle.judging.specs.declared.frame.Given.{Given}
+use Rattle.judging.specs.declared.frame.GivenRow.{GivenRow}
 use Rattle.judging.specs.declared.frame.OpenVertex.{OpenVertex}
-use Rattle.judging.specs.Frames.{given_at, given_before, opened_at, filled_with, IsGivenOf, IsFilledOf, IsOpenOf}
+use Rattle.judging.specs.Frames.{given_at, givens, with_given, given_before, opened_at, filled_with, IsGivenOf, IsFilledOf, IsOpenOf}
 use Rattle.judging.specs.Machine as machine
 
 -- ---- what a list has at its places once one is set
@@ -38,28 +39,68 @@ set-rest P (x ∷ gs) zero g all (suc i) le = all (suc i) (omega arith)
 set-rest P (x ∷ gs) (suc n) g all zero le = absurd (omega (arith, le))
 set-rest P (x ∷ gs) (suc n) g all (suc i) le = set-rest P gs n g (λ j more. all (suc j) (omega (arith, more))) i (omega (arith, le))
 
+-- ---- a row
+
+pub five : (r : GivenRow) → length (givens r) ≡ 5
+five r = refl
+
+pub givens-with : (r : GivenRow) (n : ℕ) (g : Given) → givens (with_given r n g) ≡ set (givens r) n g
+givens-with r zero g = refl
+givens-with r (suc zero) g = refl
+givens-with r (suc (suc zero)) g = refl
+givens-with r (suc (suc (suc zero))) g = refl
+givens-with r (suc (suc (suc (suc zero)))) g = refl
+givens-with r (suc (suc (suc (suc (suc n))))) g = refl
+
+-- what holds of each part of a row holds at each index
+pub each_given : (P : Given → Type 0) (r : GivenRow) → P r.first → P r.second → P r.third → P r.fourth → P r.fifth → (i : ℕ) → IfSome (slice_get (givens r) i) P
+each_given P r a b c d e zero = a
+each_given P r a b c d e (suc zero) = b
+each_given P r a b c d e (suc (suc zero)) = c
+each_given P r a b c d e (suc (suc (suc zero))) = d
+each_given P r a b c d e (suc (suc (suc (suc zero)))) = e
+each_given P r a b c d e (suc (suc (suc (suc (suc n))))) = tt
+
+-- the last part is at the last index
+pub last_given : (r : GivenRow) (i : ℕ) → i < 5 → (i ≡ 0 → ⊥) → (i ≡ 1 → ⊥) → (i ≡ 2 → ⊥) → (i ≡ 3 → ⊥) → slice_get (givens r) i ≡ Some r.fifth
+last_given r zero lt a b c d = absurd (a refl)
+last_given r (suc zero) lt a b c d = absurd (b refl)
+last_given r (suc (suc zero)) lt a b c d = absurd (c refl)
+last_given r (suc (suc (suc zero))) lt a b c d = absurd (d refl)
+last_given r (suc (suc (suc (suc zero)))) lt a b c d = refl
+last_given r (suc (suc (suc (suc (suc n))))) lt a b c d = absurd (omega (arith, lt))
+
+-- past the last index the row stays
+pub none_given : (r : GivenRow) (n : ℕ) (g : Given) → (n ≡ 0 → ⊥) → (n ≡ 1 → ⊥) → (n ≡ 2 → ⊥) → (n ≡ 3 → ⊥) → (n ≡ 4 → ⊥) → r ≡ with_given r n g
+none_given r zero g a b c d e = absurd (a refl)
+none_given r (suc zero) g a b c d e = absurd (b refl)
+none_given r (suc (suc zero)) g a b c d e = absurd (c refl)
+none_given r (suc (suc (suc zero))) g a b c d e = absurd (d refl)
+none_given r (suc (suc (suc (suc zero)))) g a b c d e = absurd (e refl)
+none_given r (suc (suc (suc (suc (suc n))))) g a b c d e = refl
+
 -- ---- the vertex after its next position gave something
 
-module _ (types : List Typ) (ctxs : List Context) (g : Given) (o : OpenVertex) (is : IsOpenOf types ctxs o) (some : o.next < length (positions o.ctor)) where
-  short : o.next < length o.given
-  short = omega (arith, some, row_short o.ctor, is.filled.wide)
+module _ (types : List Typ) (ctxs : List Context) (g : Given) (o : OpenVertex) (is : IsOpenOf types ctxs o) (some : o.next < length (positions o.ctor.now)) where
+  short : o.next < length (givens o.given)
+  short = omega (arith, some, row_short o.ctor.now, five o.given)
 
   next_one : o.next + 1 ≡ suc o.next
   next_one = omega arith
 
   pub opened_filled : opened_at types ctxs (filled_with g o) ≡ machine.filled (given_at types g) (opened_at types ctxs o)
   opened_filled =
-      ap (λ (gs : List machine.Given). record { ctor = o.ctor; demanded = demanded_at types ctxs o.demand; given = gs })
-      (ap (λ n. map (given_at types) (take n (set o.given o.next g))) next_one ∙ ap (map (given_at types)) (take-set o.given o.next g short) ∙ map-append (given_at types) (given_before o) (g ∷ []))
+      ap (λ (gs : List machine.Given). record { ctor = o.ctor.now; demanded = demanded_at types ctxs o.demand; given = gs })
+      (ap (λ (gs : List Given). map (given_at types) (take (o.next + 1) gs)) (givens-with o.given o.next g) ∙ ap (λ n. map (given_at types) (take n (set (givens o.given) o.next g))) next_one ∙ ap (map (given_at types)) (take-set (givens o.given) o.next g short) ∙ map-append (given_at types) (given_before o) (g ∷ []))
 
   pub is_filled : IsGivenOf types g → IsOpenOf types ctxs (filled_with g o)
   is_filled given = record {
     demand = is.demand;
     filled = record {
-      numbers = set-all (IsGivenOf types) o.given o.next g given is.filled.numbers;
-      rest = set-rest (λ x. given_at types x ≡ machine.nothing) o.given o.next g is.filled.rest;
+      numbers = subst (λ (gs : List Given). (i : ℕ) → IfSome (slice_get gs i) (IsGivenOf types)) (sym (givens-with o.given o.next g)) (set-all (IsGivenOf types) (givens o.given) o.next g given is.filled.numbers);
+      rest = subst (λ (gs : List Given). (i : ℕ) → o.next + 1 ≤ i → IfSome (slice_get gs i) (λ x. given_at types x ≡ machine.nothing)) (sym (givens-with o.given o.next g))
+          (set-rest (λ x. given_at types x ≡ machine.nothing) (givens o.given) o.next g is.filled.rest);
       within = omega (arith, some);
-      wide = length-set o.given o.next g ∙ is.filled.wide;
     };
   }
 
@@ -74,11 +115,17 @@ gave_before types (x ∷ gs) zero i d lt rest =
 gave_before types (x ∷ gs) (suc n) zero d lt rest = refl
 gave_before types (x ∷ gs) (suc n) (suc i) d lt rest = gave_before types gs n i d (omega (arith, lt)) (λ j le. rest (suc j) (omega (arith, le)))
 
-pub gave_is : (types : List Typ) (o : OpenVertex) (i : ℕ) (d : Given) → IsFilledOf types o → i < 5 → machine.gave (map (given_at types) (given_before o)) i ≡ given_at types (slice_index_or o.given i d)
-gave_is types o i d is lt = gave_before types o.given o.next i d (omega (arith, lt, is.wide)) is.rest
+pub gave_is : (types : List Typ) (o : OpenVertex) (i : ℕ) (d : Given) → IsFilledOf types o → i < 5 → machine.gave (map (given_at types) (given_before o)) i ≡ given_at types (slice_index_or (givens o.given) i d)
+gave_is types o i d is lt = gave_before types (givens o.given) o.next i d (omega (arith, lt, five o.given)) is.rest
 
-pub gave_number : (types : List Typ) (o : OpenVertex) (i : ℕ) (d : Given) → IsFilledOf types o → i < 5 → IsGivenOf types (slice_index_or o.given i d)
-gave_number types o i d is lt = subst (λ (x : Option Given). IfSome x (IsGivenOf types)) (slice_get-get_or o.given i d (omega (arith, lt, is.wide))) (is.numbers i)
+pub gave_number : (types : List Typ) (o : OpenVertex) (i : ℕ) (d : Given) → IsFilledOf types o → i < 5 → IsGivenOf types (slice_index_or (givens o.given) i d)
+gave_number types o i d is lt = subst (λ (x : Option Given). IfSome x (IsGivenOf types)) (slice_get-get_or (givens o.given) i d (omega (arith, lt, five o.given))) (is.numbers i)
+
+pub made_is : (types : List Typ) (o : OpenVertex) → IsFilledOf types o
+    → machine.made_of o.ctor.now (map (given_at types) (given_before o)) ≡ machine.made o.ctor.now (given_at types o.given.first).typ (given_at types o.given.second).typ
+made_is types o is =
+    ap (λ (g : machine.Given). machine.made o.ctor.now g.typ (machine.gave (map (given_at types) (given_before o)) 1).typ) (gave_is types o 0 o.given.first is (omega arith))
+    ∙ ap (λ (g : machine.Given). machine.made o.ctor.now (given_at types o.given.first).typ g.typ) (gave_is types o 1 o.given.first is (omega arith))
 
 -- ---- the types so far, by index
 

@@ -42,9 +42,9 @@ left_none (p ∷ ps) zero le = absurd (omega arith)
 left_none (p ∷ ps) (suc i) le = left_none ps i (omega arith)
 
 -- where positions are left, the vertex is the innermost frame
-pub stays_open : (types : List Typ) (ctxs : List Context) (place : ℕ) (o : OpenVertex) (fs new : List (ℕ × Frame)) (out : List MarkedNode) → o.next < length (positions o.ctor) → new ≡ fs ++ (place, Open o) ∷ []
+pub stays_open : (types : List Typ) (ctxs : List Context) (place : ℕ) (o : OpenVertex) (fs new : List (ℕ × Frame)) (out : List MarkedNode) → o.next < length (positions o.ctor.now) → new ≡ fs ++ (place, Open o) ∷ []
     → machine.at (frames_at types ctxs new) out ≡ machine.opened place (opened_at types ctxs o) (left_of o) (frames_at types ctxs fs) out
-stays_open types ctxs place o fs new out some pushed = by (left-cases (positions o.ctor) o.next some) where
+stays_open types ctxs place o fs new out some pushed = by (left-cases (positions o.ctor.now) o.next some) where
   by : ((p : Position × Sort) × (qs : List (Position × Sort)) × (left_of o ≡ p ∷ qs))
       → machine.at (frames_at types ctxs new) out ≡ machine.opened place (opened_at types ctxs o) (left_of o) (frames_at types ctxs fs) out
   by (p, qs, left) =
@@ -55,14 +55,14 @@ stays_open types ctxs place o fs new out some pushed = by (left-cases (positions
 
 -- where none is left, what marking adds is put to its node
 pub closes : (old new : List Typ) (ctxs : List Context) (place : ℕ) (o : OpenVertex) (c : Closed) (fs : List (ℕ × Frame)) (out after : List MarkedNode) → KeepsTypes old new → AreFramesOf old ctxs (frames_in fs)
-    → length (positions o.ctor) ≤ o.next → added_at new c ≡ machine.added_of (opened_at old ctxs o) → given_at new c.given ≡ machine.given_of (opened_at old ctxs o)
+    → length (positions o.ctor.now) ≤ o.next → added_at new c ≡ machine.added_of (opened_at old ctxs o) → given_at new c.given ≡ machine.given_of (opened_at old ctxs o)
     → after ≡ machine.add_at (added_at new c) out place
     → machine.deliver (given_at new c.given) (frames_at new ctxs fs) after ≡ machine.opened place (opened_at old ctxs o) (left_of o) (frames_at old ctxs fs) out
 closes old new ctxs place o c fs out after keeps frames whole adds gives is =
     ap (λ x. machine.deliver x (frames_at new ctxs fs) after) gives
     ∙ ap (λ xs. machine.deliver (machine.given_of (opened_at old ctxs o)) xs after) (frames_at-kept old new ctxs ctxs keeps (contexts-itself ctxs) fs frames)
     ∙ ap (λ xs. machine.deliver (machine.given_of (opened_at old ctxs o)) (frames_at old ctxs fs) xs) (is ∙ ap (λ (a : machine.Added). machine.add_at a out place) adds)
-    ∙ ap (λ ps. machine.opened place (opened_at old ctxs o) ps (frames_at old ctxs fs) out) (sym (left_none (positions o.ctor) o.next whole))
+    ∙ ap (λ ps. machine.opened place (opened_at old ctxs o) ps (frames_at old ctxs fs) out) (sym (left_none (positions o.ctor.now) o.next whole))
 
 pub framed : (types : List Typ) (ctxs : List Context) (fs new : List Frame) (f : Frame) → AreFramesOf types ctxs fs → IsFrameOf types ctxs f → new ≡ fs ++ f ∷ [] → AreFramesOf types ctxs new
 framed types ctxs fs new f all is pushed = subst (AreFramesOf types ctxs) (sym pushed) (are_frames-push types ctxs fs f all is)
@@ -73,9 +73,9 @@ placed types ctxs fs new place f all is pushed = framed types ctxs (frames_in fs
 
 -- ---- something is given to a vertex
 
-pub fills : (types : List Typ) (ctxs : List Context) (place : ℕ) (o : OpenVertex) (g : Given) (fs : List machine.Frame) (out : List MarkedNode) → IsOpenOf types ctxs o → o.next < length (positions o.ctor)
+pub fills : (types : List Typ) (ctxs : List Context) (place : ℕ) (o : OpenVertex) (g : Given) (fs : List machine.Frame) (out : List MarkedNode) → IsOpenOf types ctxs o → o.next < length (positions o.ctor.now)
     → machine.opened place (opened_at types ctxs (filled_with g o)) (left_of (filled_with g o)) fs out ≡ machine.deliver (given_at types g) (frame_at types ctxs place (Open o) ∷ fs) out
-fills types ctxs place o g fs out is some = by (left-cases (positions o.ctor) o.next some) where
+fills types ctxs place o g fs out is some = by (left-cases (positions o.ctor.now) o.next some) where
   next_one : o.next + 1 ≡ suc o.next
   next_one = omega arith
 
@@ -84,7 +84,7 @@ fills types ctxs place o g fs out is some = by (left-cases (positions o.ctor) o.
   by (p, qs, left) =
       ap (λ (v : machine.Opened). machine.opened place v (left_of (filled_with g o)) fs out) (opened_filled types ctxs g o is some)
       ∙ ap (λ ps. machine.opened place (machine.filled (given_at types g) (opened_at types ctxs o)) ps fs out)
-      (ap (λ n. drop n (positions o.ctor)) next_one ∙ (one_more (positions o.ctor) o.next p qs left).1)
+      (ap (λ n. drop n (positions o.ctor.now)) next_one ∙ (one_more (positions o.ctor.now) o.next p qs left).1)
       ∙ sym (deliver-of (given_at types g) place (opened_at types ctxs o) p qs fs out)
       ∙ ap (λ ps. machine.deliver (given_at types g) (frame_of place (opened_at types ctxs o) ps ∷ fs) out) (sym left)
 
@@ -110,13 +110,13 @@ here (q ∷ row) zero p ps e = cc
 here (q ∷ row) (suc i) p ps e = here row i p ps e
 
 -- what is demanded at the position that comes next
-pub next_of_open : (types : List Typ) (ctxs : List Context) (o : OpenVertex) → o.next < length (positions o.ctor)
-    → machine.demanded_by (opened_at types ctxs o) (unwrap_or (sort_at_index o.ctor o.next) Top) ≡ machine.demanded_in (frame_at types ctxs 0 (Open o))
-next_of_open types ctxs o some = by (left-cases (positions o.ctor) o.next some) where
+pub next_of_open : (types : List Typ) (ctxs : List Context) (o : OpenVertex) → o.next < length (positions o.ctor.now)
+    → machine.demanded_by (opened_at types ctxs o) (unwrap_or (sort_at_index o.ctor.now o.next) Top) ≡ machine.demanded_in (frame_at types ctxs 0 (Open o))
+next_of_open types ctxs o some = by (left-cases (positions o.ctor.now) o.next some) where
   by : ((p : Position × Sort) × (qs : List (Position × Sort)) × (left_of o ≡ p ∷ qs))
-      → machine.demanded_by (opened_at types ctxs o) (unwrap_or (sort_at_index o.ctor o.next) Top) ≡ machine.demanded_in (frame_at types ctxs 0 (Open o))
+      → machine.demanded_by (opened_at types ctxs o) (unwrap_or (sort_at_index o.ctor.now o.next) Top) ≡ machine.demanded_in (frame_at types ctxs 0 (Open o))
   by (p, qs, left) =
-      ap (λ (s : Option Sort). machine.demanded_by (opened_at types ctxs o) (unwrap_or s Top)) (ap (option_map (λ q. q.1)) (here (positions o.ctor) o.next p qs left))
+      ap (λ (s : Option Sort). machine.demanded_by (opened_at types ctxs o) (unwrap_or s Top)) (ap (option_map (λ q. q.1)) (here (positions o.ctor.now) o.next p qs left))
       ∙ ap (λ ps. machine.demanded_in (frame_of 0 (opened_at types ctxs o) ps)) (sym left)
 
 -- where the nodes stand does not matter for what is demanded

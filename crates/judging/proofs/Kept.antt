@@ -1,6 +1,7 @@
 -- What is open stands for the same over tables that keep the meaning of their numbers.
 use Rattle.std.proofs.Common.{◌≡◌, ℕ, zero, suc, List, [], ◌∷◌, ◌++◌, map, take, Option, Some, None, IfSome, refl, sym, ap, subst, ◌∙◌, arith}
 use Rattle.std.specs.Prelude.{slice_get}
+use Rattle.std.specs.Option.{option_map}
 use Rattle.std.proofs.lemmas.List.{map-append}
 use Rattle.std.proofs.lemmas.List.Elements.{All-nil, All-cons, All-head, All-tail}
 use Rattle.type_core.specs.declared.type_id.TypeId.{TypeId}
@@ -19,7 +20,7 @@ use Rattle.judging.specs.declared.frame.Given.{Given}
 use Rattle.judging.specs.declared.frame.OpenVertex.{OpenVertex}
 use Rattle.judging.specs.declared.frame.Frame.{Frame}
 use Rattle.judging.specs.declared.frame.Frame.TheVariants.{Open, Several}
-use Rattle.judging.specs.Frames.{given_at, given_before, opened_at, left_of, frame_of, frame_at, frames_at, frames_in, IsGivenOf, IsFilledOf, IsOpenOf, IsFrameOf, AreFramesOf}
+use Rattle.judging.specs.Frames.{given_at, givens, given_before, opened_at, left_of, frame_of, frame_at, frames_at, frames_in, IsGivenOf, IsFilledOf, IsOpenOf, IsFrameOf, AreFramesOf}
 use Rattle.judging.specs.Machine as machine
 
 -- what holds of each element holds of each before a place
@@ -82,7 +83,7 @@ module _ (old new : List Typ) (keeps : KeepsTypes old new) where
   some_number_kept (Some t) h = number_kept t h
 
   pub given_kept : (g : Given) → IsGivenOf old g → given_at new g ≡ given_at old g
-  given_kept g h = ap (λ t. record { typ = t; name = g.name }) (keeps.types g.typ h)
+  given_kept g h = ap (λ t. record { typ = t; name = option_map (λ n. n.now) g.name }) (keeps.types g.typ h)
 
   some_given_kept : (o : Option Given) → IfSome o (IsGivenOf old) → IfSome o (IsGivenOf new)
   some_given_kept None h = tt
@@ -94,10 +95,9 @@ module _ (old new : List Typ) (keeps : KeepsTypes old new) where
 
   pub filled_kept : (o : OpenVertex) → IsFilledOf old o → IsFilledOf new o
   filled_kept o h = record {
-    numbers = λ i. some_given_kept (slice_get o.given i) (h.numbers i);
-    rest = λ i le. nothing_kept (slice_get o.given i) (h.numbers i) (h.rest i le);
+    numbers = λ i. some_given_kept (slice_get (givens o.given) i) (h.numbers i);
+    rest = λ i le. nothing_kept (slice_get (givens o.given) i) (h.numbers i) (h.rest i le);
     within = h.within;
-    wide = h.wide;
   }
 
   givens_kept : (gs : List Given) → ((i : ℕ) → IfSome (slice_get gs i) (IsGivenOf old)) → map (given_at new) gs ≡ map (given_at old) gs
@@ -127,9 +127,9 @@ module _ (old new : List Typ) (oldc newc : List Context) (keeps : KeepsTypes old
 
   pub opened_at-kept : (o : OpenVertex) → IsOpenOf old oldc o → opened_at new newc o ≡ opened_at old oldc o
   opened_at-kept o h =
-      ap (λ (d : Demanded). record { ctor = o.ctor; demanded = d; given = map (given_at new) (given_before o) }) (demanded_at-kept o.demand h.demand)
-      ∙ ap (λ (gs : List machine.Given). record { ctor = o.ctor; demanded = demanded_at old oldc o.demand; given = gs })
-      (givens_kept old new keeps (given_before o) (some_before (IsGivenOf old) o.given o.next h.filled.numbers))
+      ap (λ (d : Demanded). record { ctor = o.ctor.now; demanded = d; given = map (given_at new) (given_before o) }) (demanded_at-kept o.demand h.demand)
+      ∙ ap (λ (gs : List machine.Given). record { ctor = o.ctor.now; demanded = demanded_at old oldc o.demand; given = gs })
+      (givens_kept old new keeps (given_before o) (some_before (IsGivenOf old) (givens o.given) o.next h.filled.numbers))
 
   pub frame_kept : (f : Frame) → IsFrameOf old oldc f → IsFrameOf new newc f
   frame_kept (Open o) h = (open_kept o h.0, h.1)

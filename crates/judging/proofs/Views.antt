@@ -17,9 +17,10 @@ use Rattle.mark_step.specs.Rows.{is_exp}
 use Rattle.mark_step.specs.Node.{expression_at, type_or_unknown, types_from, types_before, types_done, sort_at_index, IsScopeOf, IsModeOf, IsNodeOf, AreDone, AreDoneBefore}
 use Rattle.judging.specs.declared.frame.Given.{Given}
 use Rattle.judging.specs.declared.frame.OpenVertex.{OpenVertex}
-use Rattle.judging.specs.Frames.{given_at, given_before, opened_at, IsGivenOf, IsOpenOf, IsViewOf}
+use Rattle.judging.specs.Frames.{given_at, givens, given_before, opened_at, IsGivenOf, IsOpenOf, IsViewOf}
 use Rattle.judging.specs.Machine.{types_given, before_of, expression_of}
 use Rattle.judging.proofs.Kept.{some_before}
+use Rattle.judging.proofs.Filling.{five}
 
 -- the types that the first positions gave are those of the expressions among them
 types_from-given : (types : List Typ) (done : List (Option TypeId)) (i : ℕ) (ps : List (Position × Sort)) (gs : List Given)
@@ -67,11 +68,11 @@ known_sort (p ∷ ps) zero e = omega arith
 known_sort (p ∷ ps) (suc i) e = omega (arith, known_sort ps i e)
 
 module _ (types : List Typ) (ctxs : List Context) (o : OpenVertex) (v : NodeView) (is : IsOpenOf types ctxs o) (view : IsViewOf types o v) where
-  long : o.next ≤ length o.given
-  long = omega (arith, is.filled.within, row_short o.ctor, is.filled.wide)
+  long : o.next ≤ length (givens o.given)
+  long = omega (arith, is.filled.within, row_short o.ctor.now, five o.given)
 
   so_many : length (given_before o) ≡ o.next
-  so_many = omega (arith, length-take o.next o.given, long)
+  so_many = omega (arith, length-take o.next (givens o.given), long)
 
   pub expression_is : expression_at types ctxs v ≡ expression_of (opened_at types ctxs o)
   expression_is =
@@ -83,29 +84,29 @@ module _ (types : List Typ) (ctxs : List Context) (o : OpenVertex) (v : NodeView
 
   pub before_is : types_before types v o.next ≡ before_of (opened_at types ctxs o)
   before_is =
-      ap (λ c. types_from types v.done 0 (take o.next (positions c))) view.ctor ∙ ap (λ n. types_from types v.done 0 (take n (positions o.ctor))) (sym so_many)
-      ∙ types_from-given types v.done 0 (positions o.ctor) (given_before o) (λ j. ap (λ k. slice_index_or v.done k None) (start j) ∙ view.done j)
+      ap (λ c. types_from types v.done 0 (take o.next (positions c))) view.ctor ∙ ap (λ n. types_from types v.done 0 (take n (positions o.ctor.now))) (sym so_many)
+      ∙ types_from-given types v.done 0 (positions o.ctor.now) (given_before o) (λ j. ap (λ k. slice_index_or v.done k None) (start j) ∙ view.done j)
     where
       start : (j : ℕ) → 0 + j ≡ j
       start j = omega arith
 
-  pub done_is : o.next ≡ length (positions o.ctor) → types_done types v ≡ before_of (opened_at types ctxs o)
+  pub done_is : o.next ≡ length (positions o.ctor.now) → types_done types v ≡ before_of (opened_at types ctxs o)
   done_is whole =
-      ap (λ c. types_from types v.done 0 (positions c)) view.ctor ∙ ap (types_from types v.done 0) (sym (take-all (positions o.ctor)))
-      ∙ ap (λ n. types_from types v.done 0 (take n (positions o.ctor))) (sym whole) ∙ ap (λ c. types_from types v.done 0 (take o.next (positions c))) (sym view.ctor) ∙ before_is
+      ap (λ c. types_from types v.done 0 (positions c)) view.ctor ∙ ap (types_from types v.done 0) (sym (take-all (positions o.ctor.now)))
+      ∙ ap (λ n. types_from types v.done 0 (take n (positions o.ctor.now))) (sym whole) ∙ ap (λ c. types_from types v.done 0 (take o.next (positions c))) (sym view.ctor) ∙ before_is
 
   pub node_is : IsNodeOf types ctxs v
   node_is = record {
     ctx = subst (IsScopeOf types ctxs) (sym view.ctx) is.demand.ctx;
     mode = subst (IsModeOf types) (sym view.mode) is.demand.mode;
     binder = view.number;
-    done = λ i. number_of types (slice_get (given_before o) i) (slice_index_or v.done i None) (some_before (IsGivenOf types) o.given o.next is.filled.numbers i) (view.done i);
+    done = λ i. number_of types (slice_get (given_before o) i) (slice_index_or v.done i None) (some_before (IsGivenOf types) (givens o.given) o.next is.filled.numbers i) (view.done i);
   }
 
   pub done_before : AreDoneBefore v o.next
-  done_before i lt exp = some_of (slice_get (given_before o) i) (slice_index_or v.done i None) (some_within o.given o.next i lt long) (view.done i)
+  done_before i lt exp = some_of (slice_get (given_before o) i) (slice_index_or v.done i None) (some_within (givens o.given) o.next i lt long) (view.done i)
 
-  pub all_done : o.next ≡ length (positions o.ctor) → AreDone v
+  pub all_done : o.next ≡ length (positions o.ctor.now) → AreDone v
   all_done whole i exp =
-      let within : i < length (positions o.ctor) = known_sort (positions o.ctor) i (ap (λ c. sort_at_index c i) (sym view.ctor) ∙ exp) in
+      let within : i < length (positions o.ctor.now) = known_sort (positions o.ctor.now) i (ap (λ c. sort_at_index c i) (sym view.ctor) ∙ exp) in
       done_before i (omega (arith, within, whole)) exp

@@ -1,4 +1,5 @@
 ghost use Rattle.std.specs.Prelude.{◌≡◌, map, length, None, IfOk};
+ghost use Rattle.std.specs.Option.{option_map};
 ghost use Rattle.grove_sorts.specs.declared.sort.Sort.{Sort};
 ghost use Rattle.grove_sorts.specs.Ctor.{positions, sort_of_ctor};
 ghost use Rattle.mark_step.specs.declared.node.Mark.{Mark};
@@ -40,21 +41,21 @@ fn type_of(
     }
 }
 
-fn name_of(ctor: &Ctor) -> Option<Ident>
-    ensures { result ≡ pattern_name ctor.now }
+fn name_of(ctor: &Ctor) -> Option<&Ident>
+    ensures { option_map (λ n. n.now) result ≡ pattern_name ctor.now }
 {
     match ctor {
-        Ctor::PVar(name) => Some(*name),
+        Ctor::PVar(name) => Some(name),
         _ => None,
     }
 }
 
 // A vertex without a type, which gives this.
-fn untyped(given: Given) -> Closed
+fn untyped<'t>(given: Given<'t>) -> Closed<'t>
     ensures mode { result.mode ≡ None }
     ensures typ { result.typ ≡ None }
     ensures mark { result.mark ≡ Mark.None }
-    ensures given { result.given ≡ given }
+    ensures given { result.given ≡ given.entry }
 {
     Closed {
         mode: None,
@@ -64,15 +65,15 @@ fn untyped(given: Given) -> Closed
     }
 }
 
-fn close_expression(
+fn close_expression<'t>(
     alloc: Global,
     types: &mut TypeTable,
     ctxs: &CtxTable,
-    vertex: &OpenVertex,
-) -> Result<Closed, NoMemory>
-    requires sort { sort_of_ctor vertex.now.ctor ≡ Sort.Exp }
+    vertex: &OpenVertex<'t>,
+) -> Result<Closed<'t>, NoMemory>
+    requires sort { sort_of_ctor vertex.now.ctor.now ≡ Sort.Exp }
     requires vertex { IsOpenOf types.old ctxs.now vertex.now }
-    requires whole { vertex.now.next ≡ length (positions vertex.now.ctor) }
+    requires whole { vertex.now.next ≡ length (positions vertex.now.ctor.now) }
     ensures added { IfOk result (λ c. added_at types.new c ≡ added_by_sort Sort.Exp (opened_at types.old ctxs.now vertex.now)) }
     ensures given { IfOk result (λ c. given_at types.new c.given ≡ given_by_sort Sort.Exp (opened_at types.old ctxs.now vertex.now)) }
     ensures numbers { IfOk result (IsClosedOf types.new) }
@@ -91,16 +92,16 @@ fn close_expression(
     })
 }
 
-fn close_type(types: &mut TypeTable, vertex: &OpenVertex) -> Result<Closed, NoMemory>
+fn close_type<'t>(types: &mut TypeTable, vertex: &OpenVertex<'t>) -> Result<Closed<'t>, NoMemory>
     requires { IsFilledOf types.old vertex.now }
-    ensures added { IfOk result (λ c. added_at types.new c ≡ type_added (made_of vertex.now.ctor (map (given_at types.old) (given_before vertex.now)))) }
-    ensures given { IfOk result (λ c. given_at types.new c.given ≡ of_type (made_of vertex.now.ctor (map (given_at types.old) (given_before vertex.now)))) }
+    ensures added { IfOk result (λ c. added_at types.new c ≡ type_added (made_of vertex.now.ctor.now (map (given_at types.old) (given_before vertex.now)))) }
+    ensures given { IfOk result (λ c. given_at types.new c.given ≡ of_type (made_of vertex.now.ctor.now (map (given_at types.old) (given_before vertex.now)))) }
     ensures numbers { IfOk result (IsClosedOf types.new) }
     ensures kept { KeepsTypes types.old types.new }
 {
-    let first = vertex.given[0].typ;
-    let second = vertex.given[1].typ;
-    let typ = type_of(types, &vertex.ctor, first, second)?;
+    let first = vertex.given.first.typ;
+    let second = vertex.given.second.typ;
+    let typ = type_of(types, vertex.ctor, first, second)?;
     Ok(Closed {
         mode: None,
         typ: Some(typ),
@@ -111,25 +112,25 @@ fn close_type(types: &mut TypeTable, vertex: &OpenVertex) -> Result<Closed, NoMe
 
 /// What marking adds to the node of a vertex whose positions are all judged, and what the vertex gives. The numbers of the table keep
 /// their meaning, also where memory runs out.
-pub fn close(
+pub fn close<'t>(
     alloc: Global,
     types: &mut TypeTable,
     ctxs: &CtxTable,
-    vertex: &OpenVertex,
-) -> Result<Closed, NoMemory>
+    vertex: &OpenVertex<'t>,
+) -> Result<Closed<'t>, NoMemory>
     requires vertex { IsOpenOf types.old ctxs.now vertex.now }
-    requires whole { vertex.now.next ≡ length (positions vertex.now.ctor) }
+    requires whole { vertex.now.next ≡ length (positions vertex.now.ctor.now) }
     ensures added { IfOk result (λ c. added_at types.new c ≡ added_of (opened_at types.old ctxs.now vertex.now)) }
     ensures given { IfOk result (λ c. given_at types.new c.given ≡ given_of (opened_at types.old ctxs.now vertex.now)) }
     ensures numbers { IfOk result (IsClosedOf types.new) }
     ensures kept { KeepsTypes types.old types.new }
 {
-    match sort_of(&vertex.ctor) {
+    match sort_of(vertex.ctor) {
         Sort::Exp => close_expression(alloc, types, ctxs, vertex),
         Sort::Typ => close_type(types, vertex),
         Sort::Pat => Ok(untyped(Given {
             typ: types.unknown(),
-            name: name_of(&vertex.ctor),
+            name: name_of(vertex.ctor),
         })),
         Sort::Top => Ok(untyped(nothing(types))),
     }

@@ -10,7 +10,7 @@ mod opening;
 mod view;
 
 pub use closing::close;
-pub use frame::{Closed, Frame, Given, OpenVertex};
+pub use frame::{Closed, Frame, Given, GivenRow, OpenVertex};
 pub use laws::taking_all_nodes_marks_the_tree;
 pub use no_memory::NoMemory;
 pub use opening::{demand_at, demand_next, fill, fresh, nothing};

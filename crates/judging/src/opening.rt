@@ -8,19 +8,19 @@ ghost use Rattle.ctx_table.specs.CtxTable.{KeepsContexts};
 ghost use Rattle.mark_step.specs.Node.{demanded_at, IsDemandOf, sort_at_index};
 ghost use Rattle.judging.specs.Machine as machine;
 ghost use Rattle.judging.specs.Machine.{demanded_by};
-ghost use Rattle.judging.specs.Frames.{given_at, opened_at, left_of, demanded_of, filled_with, IsGivenOf, IsOpenOf, IsFrameOf};
+ghost use Rattle.judging.specs.Frames.{given_at, opened_at, left_of, demanded_of, with_given, filled_with, IsGivenOf, IsOpenOf, IsFrameOf};
 
-use crate::frame::{Frame, Given, OpenVertex};
+use crate::frame::{Frame, Given, GivenRow, OpenVertex};
 use crate::no_memory::NoMemory;
 use crate::view::{sort_at_place, view};
 use ctx_table::CtxTable;
-use grove_sorts::{Ctor, Sort, WIDEST, sort_of};
+use grove_sorts::{Ctor, Sort, sort_of};
 use mark_step::{Demand, Mode, child_demand};
 use std::alloc::Global;
 use type_core::TypeTable;
 
 /// What is given where there is neither a type nor a name.
-pub fn nothing(types: &TypeTable) -> Given
+pub fn nothing<'t>(types: &TypeTable) -> Given<'t>
     ensures given { given_at types.now result ≡ machine.nothing }
     ensures number { IsGivenOf types.now result }
 {
@@ -31,25 +31,61 @@ pub fn nothing(types: &TypeTable) -> Given
 }
 
 /// A vertex none of whose positions is judged, and of which this is demanded.
-pub fn fresh(types: &TypeTable, ctor: Ctor, demand: Demand) -> OpenVertex
-    ensures opened { (ctxs : List Context) → opened_at types.now ctxs result ≡ machine.fresh ctor (demanded_at types.now ctxs demand) }
-    ensures left { left_of result ≡ positions ctor }
+pub fn fresh<'t>(types: &TypeTable, ctor: &'t Ctor, demand: Demand) -> OpenVertex<'t>
+    ensures opened { (ctxs : List Context) → opened_at types.now ctxs result ≡ machine.fresh ctor.now (demanded_at types.now ctxs demand) }
+    ensures left { left_of result ≡ positions ctor.now }
     ensures numbers { (ctxs : List Context) → IsDemandOf types.now ctxs demand → IsOpenOf types.now ctxs result }
 {
+    let nothing = nothing(types);
     OpenVertex {
         ctor,
         demand,
-        given: [nothing(types); WIDEST],
+        given: GivenRow {
+            first: nothing,
+            second: nothing,
+            third: nothing,
+            fourth: nothing,
+            fifth: nothing,
+        },
         next: 0,
     }
 }
 
-/// Gives a vertex what the child at its next position has given.
-pub fn fill(vertex: &mut OpenVertex, given: Given)
-    requires { vertex.old.next < length (positions vertex.old.ctor) }
-    ensures { vertex.new ≡ filled_with given vertex.old }
+// The row with what the position with an index gave.
+fn with_given<'t>(row: GivenRow<'t>, index: usize, given: Given<'t>) -> GivenRow<'t>
+    ensures { result ≡ with_given row.entry index given.entry }
 {
-    vertex.given[vertex.next] = given;
+    match index {
+        0 => GivenRow {
+            first: given,
+            ..row
+        },
+        1 => GivenRow {
+            second: given,
+            ..row
+        },
+        2 => GivenRow {
+            third: given,
+            ..row
+        },
+        3 => GivenRow {
+            fourth: given,
+            ..row
+        },
+        4 => GivenRow {
+            fifth: given,
+            ..row
+        },
+        _ => row,
+    }
+}
+
+/// Gives a vertex what the child at its next position has given.
+pub fn fill<'t>(vertex: &mut OpenVertex<'t>, given: Given<'t>)
+    requires { vertex.old.next < length (positions vertex.old.ctor.now) }
+    ensures { vertex.new ≡ filled_with given.entry vertex.old }
+{
+    vertex.given = with_given(vertex.given, vertex.next, given);
     vertex.next += 1;
 }
 
@@ -61,15 +97,15 @@ pub fn demand_at(
     vertex: &OpenVertex,
 ) -> Result<Demand, NoMemory>
     requires vertex { IsOpenOf types.old ctxs.old vertex.now }
-    requires next { vertex.now.next < length (positions vertex.now.ctor) }
+    requires next { vertex.now.next < length (positions vertex.now.ctor.now) }
     ensures demand { IfOk result (λ d. demanded_at types.new ctxs.new d
-        ≡ demanded_by (opened_at types.old ctxs.old vertex.now) (unwrap_or (sort_at_index vertex.now.ctor vertex.now.next) Sort.Top)) }
+        ≡ demanded_by (opened_at types.old ctxs.old vertex.now) (unwrap_or (sort_at_index vertex.now.ctor.now vertex.now.next) Sort.Top)) }
     ensures number { IfOk result (IsDemandOf types.new ctxs.new) }
     ensures types { KeepsTypes types.old types.new }
     ensures contexts { KeepsContexts ctxs.old ctxs.new }
 {
-    if sort_of(&vertex.ctor) == Sort::Exp
-        && sort_at_place(&vertex.ctor, vertex.next) == Some(Sort::Exp)
+    if sort_of(vertex.ctor) == Sort::Exp
+        && sort_at_place(vertex.ctor, vertex.next) == Some(Sort::Exp)
     {
         let view = view(types, vertex);
         return Ok(child_demand(alloc, types, ctxs, &view, vertex.next)?);

@@ -10,7 +10,8 @@ fn a_base_type_gives_itself(rt: HostRuntime) -> Result<(), Fail> {
     let mut types = TypeTable::new(rt.alloc())?;
     let mut ctxs = CtxTable::new(rt.alloc())?;
     let demand = demand_next(rt.alloc(), &mut types, &mut ctxs, None)?;
-    let open = fresh(&types, Ctor::TNum, demand);
+    let ctor = Ctor::TNum;
+    let open = fresh(&types, &ctor, demand);
     let closed = close(rt.alloc(), &mut types, &ctxs, &open)?;
     assert_eq!(rt; closed.typ, Some(types.num()));
     assert_eq!(rt; closed.given.typ, types.num());

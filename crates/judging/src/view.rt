@@ -1,4 +1,4 @@
-ghost use Rattle.std.specs.Prelude.{◌≡◌, ◌≤◌, ℕ, map, length, slice_get, None};
+ghost use Rattle.std.specs.Prelude.{◌≡◌, ◌<◌, ◌≤◌, ℕ, map, length, slice_get, Some, None};
 ghost use Rattle.std.specs.Option.{option_map};
 ghost use Rattle.std.specs.List.{slice_index_or};
 ghost use Rattle.grove_sorts.specs.Ctor.{positions};
@@ -6,9 +6,9 @@ ghost use Rattle.type_core.specs.Typ.{Unknown};
 ghost use Rattle.type_core.specs.TypeTable.{IsTypeOf, type_at};
 ghost use Rattle.mark_step.specs.Node.{bound_at, sort_at_index};
 ghost use Rattle.judging.specs.Machine.{bound_by};
-ghost use Rattle.judging.specs.Frames.{given_at, given_before, IsFilledOf, IsViewOf};
+ghost use Rattle.judging.specs.Frames.{given_at, givens, given_before, IsFilledOf, IsViewOf};
 
-use crate::frame::OpenVertex;
+use crate::frame::{Given, GivenRow, OpenVertex};
 use grove_sorts::{Ctor, Ident, Sort, WIDEST, place_at};
 use mark_step::{Binder, NodeView};
 use type_core::{TypeId, TypeTable};
@@ -22,37 +22,37 @@ pub(crate) fn sort_at_place(ctor: &Ctor, index: usize) -> Option<Sort>
 }
 
 // What the vertex binds, a case in its left body, as far as its positions are judged.
-fn binder(types: &TypeTable, vertex: &OpenVertex) -> Binder
+fn binder<'t>(types: &TypeTable, vertex: &OpenVertex<'t>) -> Binder<'t>
     requires { IsFilledOf types.now vertex.now }
-    ensures name { result.name ≡ (bound_by vertex.now.ctor (map (given_at types.now) (given_before vertex.now))).name }
-    ensures typ { type_at types.now result.typ ≡ (bound_by vertex.now.ctor (map (given_at types.now) (given_before vertex.now))).typ }
+    ensures name { option_map (λ n. n.now) result.name ≡ (bound_by vertex.now.ctor.now (map (given_at types.now) (given_before vertex.now))).name }
+    ensures typ { type_at types.now result.typ ≡ (bound_by vertex.now.ctor.now (map (given_at types.now) (given_before vertex.now))).typ }
     ensures number { IsTypeOf types.now result.typ }
 {
     match vertex.ctor {
         Ctor::Lam => Binder {
-            name: vertex.given[0].name,
-            typ: vertex.given[1].typ,
+            name: vertex.given.first.name,
+            typ: vertex.given.second.typ,
         },
-        Ctor::Let => named(types, vertex.given[0].name),
-        Ctor::Case => named(types, vertex.given[1].name),
+        Ctor::Let => named(types, vertex.given.first.name),
+        Ctor::Case => named(types, vertex.given.second.name),
         _ => named(types, None),
     }
 }
 
 // What a case binds in its right body.
-fn second_binder(types: &TypeTable, vertex: &OpenVertex) -> Binder
+fn second_binder<'t>(types: &TypeTable, vertex: &OpenVertex<'t>) -> Binder<'t>
     requires { IsFilledOf types.now vertex.now }
-    ensures { result.name ≡ (bound_by vertex.now.ctor (map (given_at types.now) (given_before vertex.now))).second }
+    ensures { option_map (λ n. n.now) result.name ≡ (bound_by vertex.now.ctor.now (map (given_at types.now) (given_before vertex.now))).second }
 {
     match vertex.ctor {
-        Ctor::Case => named(types, vertex.given[3].name),
+        Ctor::Case => named(types, vertex.given.fourth.name),
         _ => named(types, None),
     }
 }
 
 // A binder that ascribes no type.
-fn named(types: &TypeTable, name: Option<Ident>) -> Binder
-    ensures name { result.name ≡ name }
+fn named<'t>(types: &TypeTable, name: Option<&'t Ident>) -> Binder<'t>
+    ensures name { option_map (λ n. n.now) result.name ≡ option_map (λ n. n.now) name.entry }
     ensures typ { type_at types.now result.typ ≡ Unknown }
     ensures number { IsTypeOf types.now result.typ }
 {
@@ -62,20 +62,34 @@ fn named(types: &TypeTable, name: Option<Ident>) -> Binder
     }
 }
 
+// What the position with an index gave.
+fn given_at_index<'t>(row: &GivenRow<'t>, index: usize) -> Given<'t>
+    requires { index < 5 }
+    ensures { slice_get (givens row.now) index ≡ Some result }
+{
+    match index {
+        0 => row.first,
+        1 => row.second,
+        2 => row.third,
+        3 => row.fourth,
+        _ => row.fifth,
+    }
+}
+
 // The types that the positions so far gave, by their index.
 fn types_so_far(vertex: &OpenVertex) -> [Option<TypeId>; WIDEST]
-    requires { vertex.now.next ≤ length (positions vertex.now.ctor) }
+    requires { vertex.now.next ≤ length (positions vertex.now.ctor.now) }
     ensures { (i : ℕ) → slice_index_or result i None ≡ option_map (λ g. g.typ) (slice_get (given_before vertex.now) i) }
 {
     let mut types = [None; WIDEST];
     for index in 0..vertex.next {
-        types[index] = Some(vertex.given[index].typ);
+        types[index] = Some(given_at_index(&vertex.given, index).typ);
     }
     types
 }
 
 // The vertex as its rule sees it.
-pub(crate) fn view(types: &TypeTable, vertex: &OpenVertex) -> NodeView
+pub(crate) fn view<'t>(types: &TypeTable, vertex: &OpenVertex<'t>) -> NodeView<'t>
     requires { IsFilledOf types.now vertex.now }
     ensures { IsViewOf types.now vertex.now result }
 {

@@ -2,7 +2,6 @@
 use Rattle.std.proofs.Common.{◌≡◌, ℕ, zero, suc, List, [], ◌∷◌, ◌++◌, length, set, Option, Some, None, IfSome, refl, ap, ◌∙◌}
 use Rattle.std.specs.Prelude.{slice_get}
 use Rattle.std.specs.Option.{option_map}
-use Rattle.grove_terms.specs.declared.node.Node.{Node}
 use Rattle.mark_step.specs.declared.node.Mark.{Mark}
 use Rattle.type_core.specs.declared.type_id.TypeId.{TypeId}
 use Rattle.type_core.specs.Typ.{Typ}
@@ -40,8 +39,8 @@ module _ (old new : List Typ) (keeps : KeepsTypes old new) where
 
   pub meant_kept : (m : MarkedNode) → IsMarkedNodeOf old m → meant new m ≡ meant old m
   meant_kept m h =
-      ap (λ (w : Option Wanted). record { node = m.node; wanted = w; typ = option_map (type_at new) m.typ; mark = m.mark }) (some_wanted_kept m.mode h.mode)
-      ∙ ap (λ (t : Option Typ). record { node = m.node; wanted = option_map (wanted_at old) m.mode; typ = t; mark = m.mark }) (some_type_kept m.typ h.typ)
+      ap (λ (w : Option Wanted). record { node = m.node.now; wanted = w; typ = option_map (type_at new) m.typ; mark = m.mark }) (some_wanted_kept m.mode h.mode)
+      ∙ ap (λ (t : Option Typ). record { node = m.node.now; wanted = option_map (wanted_at old) m.mode; typ = t; mark = m.mark }) (some_type_kept m.typ h.typ)
 
   pub marked_nodes_kept : (ms : List MarkedNode) → AreMarkedNodesOf old ms → AreMarkedNodesOf new ms
   marked_nodes_kept [] all = tt
@@ -74,8 +73,8 @@ pub settles : (old new : List MarkedNode) (i : ℕ) (mode : Option Mode) (typ : 
 settles old new i mode typ mark there past = by (slice_get old i) refl where
   put : (ms : List MarkedNode) (i : ℕ) (m : MarkedNode) → slice_get ms i ≡ Some m → set ms i (record { node = m.node; mode = mode; typ = typ; mark = mark }) ≡ settled_at ms i mode typ mark
   put [] i m is = refl
-  put (x ∷ ms) zero m is = ap (λ (n : Node). record { node = n; mode = mode; typ = typ; mark = mark } ∷ ms) (same x m is) where
-    same : (a b : MarkedNode) → Some a ≡ Some b → b.node ≡ a.node
+  put (x ∷ ms) zero m is = ap (λ (y : MarkedNode). record { node = y.node; mode = mode; typ = typ; mark = mark } ∷ ms) (same x m is) where
+    same : (a b : MarkedNode) → Some a ≡ Some b → b ≡ a
     same a b e = cc
   put (x ∷ ms) (suc i) m is = ap (λ xs. x ∷ xs) (put ms i m is)
 

@@ -32,7 +32,7 @@ use Rattle.mark_rules.proofs.Kept.{state_at-kept, meant_nodes_kept, marked_nodes
 -- ---- a vertex is closed
 
 pub is_closed : (old new : List Typ) (ctxs : List Context) (place : ℕ) (o : OpenVertex) (c : Closed) (fs : List (ℕ × Frame)) (out after : List MarkedNode) → KeepsTypes old new → AreFramesOf old ctxs (frames_in fs) → AreMarkedNodesOf old out
-    → length (positions o.ctor) ≤ o.next → added_at new c ≡ machine.added_of (opened_at old ctxs o) → given_at new c.given ≡ machine.given_of (opened_at old ctxs o) → after ≡ settled_at out place c.mode c.typ c.mark
+    → length (positions o.ctor.now) ≤ o.next → added_at new c ≡ machine.added_of (opened_at old ctxs o) → given_at new c.given ≡ machine.given_of (opened_at old ctxs o) → after ≡ settled_at out place c.mode c.typ c.mark
     → machine.deliver (given_at new c.given) (frames_at new ctxs fs) (meant_nodes new after) ≡ machine.opened place (opened_at old ctxs o) (left_of o) (frames_at old ctxs fs) (meant_nodes old out)
 is_closed old new ctxs place o c fs out after keeps all nodes whole adds gives is =
     frames.closes old new ctxs place o c fs (meant_nodes old out) (meant_nodes new after) keeps all whole adds gives

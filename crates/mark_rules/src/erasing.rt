@@ -33,7 +33,7 @@ fn erase_tree(alloc: Global, marked: &MarkedTree) -> Result<Tree, NoMemory>
 {
     let mut tree = Tree::new(alloc);
     for node in marked.as_slice() {
-        tree.push(node.node)?;
+        tree.push(*node.node)?;
     }
     Ok(tree)
 }

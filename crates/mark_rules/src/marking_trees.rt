@@ -16,12 +16,12 @@ use type_core::TypeTable;
 
 /// The nodes of a well-sorted tree with what marking adds to them. The numbers of both tables keep their meaning, also where memory
 /// runs out.
-pub fn mark_tree(
+pub fn mark_tree<'t>(
     alloc: Global,
-    tree: &Tree,
+    tree: &'t Tree,
     types: &mut TypeTable,
     ctxs: &mut CtxTable,
-) -> Result<MarkedTree, NoMemory>
+) -> Result<MarkedTree<'t>, NoMemory>
     requires sorted { IsSortedTree tree.now }
     ensures marked { IfOk result (λ marked. IsMarkedTree tree.now (meant_nodes types.new marked)) }
     ensures numbers { IfOk result (λ marked. AreMarkedNodesOf types.new marked) }
@@ -38,12 +38,12 @@ pub fn mark_tree(
     Ok(walk.out)
 }
 
-fn mark_trees(
+fn mark_trees<'t>(
     alloc: Global,
-    trees: &TreeList,
+    trees: &'t TreeList,
     types: &mut TypeTable,
     ctxs: &mut CtxTable,
-) -> Result<MarkedTreeList, NoMemory>
+) -> Result<MarkedTreeList<'t>, NoMemory>
     requires sorted { AreSortedTrees trees.now }
     ensures marked { IfOk result (λ marked. AreMarkedTrees trees.now (map (meant_nodes types.new) marked)) }
     ensures numbers { IfOk result (λ marked. AreMarkedListsOf types.new marked) }
@@ -59,12 +59,12 @@ fn mark_trees(
 
 /// The trees of a grove of well-sorted trees, each marked by itself. The numbers of both tables keep their meaning, also where memory
 /// runs out.
-pub fn mark_grove(
+pub fn mark_grove<'t>(
     alloc: Global,
-    grove: &Grove,
+    grove: &'t Grove,
     types: &mut TypeTable,
     ctxs: &mut CtxTable,
-) -> Result<MarkedGrove, NoMemory>
+) -> Result<MarkedGrove<'t>, NoMemory>
     requires sorted { IsSortedGrove grove.now }
     ensures marked { IfOk result (λ marked. IsMarkedGrove grove.now (meant_grove types.new marked)) }
     ensures numbers { IfOk result (λ marked. IsMarkedGroveOf types.new marked) }

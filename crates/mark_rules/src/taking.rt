@@ -25,10 +25,10 @@ use type_core::TypeTable;
 
 /// A tree of which some nodes are marked.
 #[derive(Debug, Drop)]
-pub(crate) struct Walk {
+pub(crate) struct Walk<'t> {
     /// What is open, innermost last, each with the index of its node.
-    pub(crate) frames: Vec<(usize, Frame)>,
-    pub(crate) out: MarkedTree,
+    pub(crate) frames: Vec<(usize, Frame<'t>)>,
+    pub(crate) out: MarkedTree<'t>,
 }
 
 // The node of an open vertex, which is not marked yet.
@@ -37,7 +37,7 @@ fn unsettled(node: &Node) -> MarkedNode
     ensures numbers { (types : List Typ) → IsMarkedNodeOf types result }
 {
     MarkedNode {
-        node: *node,
+        node,
         mode: None,
         typ: None,
         mark: Mark::None,
@@ -45,7 +45,7 @@ fn unsettled(node: &Node) -> MarkedNode
 }
 
 // The node of a position without a sole child, or of a reference.
-fn plain(types: &TypeTable, sort: Sort, mode: Mode, node: &Node) -> MarkedNode
+fn plain<'t>(types: &TypeTable, sort: Sort, mode: Mode, node: &'t Node) -> MarkedNode<'t>
     requires { IsModeOf types.now mode }
     ensures node { meant types.now result ≡ marked_plain sort (wanted_at types.now mode) node.now }
     ensures numbers { IsMarkedNodeOf types.now result }
@@ -57,7 +57,7 @@ fn plain(types: &TypeTable, sort: Sort, mode: Mode, node: &Node) -> MarkedNode
         Sort::Pat | Sort::Top => (None, None),
     };
     MarkedNode {
-        node: *node,
+        node,
         mode,
         typ,
         mark: Mark::None,
@@ -65,13 +65,13 @@ fn plain(types: &TypeTable, sort: Sort, mode: Mode, node: &Node) -> MarkedNode
 }
 
 // Lists such a node, and tells what it gives.
-fn list_plain(
+fn list_plain<'t>(
     types: &TypeTable,
-    out: &mut MarkedTree,
+    out: &mut MarkedTree<'t>,
     sort: Sort,
     mode: Mode,
-    node: &Node,
-) -> Result<Given, NoMemory>
+    node: &'t Node,
+) -> Result<Given<'t>, NoMemory>
     requires mode { IsModeOf types.now mode }
     requires out { AreMarkedNodesOf types.now out.old }
     ensures out { OnOk result (meant_nodes types.now out.new ≡ meant_nodes types.now out.old ++ marked_plain sort (wanted_at types.now mode) node.now ∷ []) }
@@ -84,14 +84,14 @@ fn list_plain(
 }
 
 // Opens the vertex, whose node has this index, where some of its positions are left, and else closes it and tells what it gives.
-fn go_on(
+fn go_on<'t>(
     alloc: Global,
     types: &mut TypeTable,
     ctxs: &CtxTable,
-    walk: &mut Walk,
+    walk: &mut Walk<'t>,
     place: usize,
-    vertex: &OpenVertex,
-) -> Result<Option<Given>, NoMemory>
+    vertex: &OpenVertex<'t>,
+) -> Result<Option<Given<'t>>, NoMemory>
     requires walk { IsWalkOf types.old ctxs.now walk.old }
     requires vertex { IsOpenOf types.old ctxs.now vertex.now }
     ensures state { IfOk result (λ given. given_on types.new ctxs.now given walk.new ≡ opened place (opened_at types.old ctxs.now vertex.now) (left_of vertex.now)
@@ -101,7 +101,7 @@ fn go_on(
     ensures walk { OnOk result (IsWalkOf types.new ctxs.now walk.new) }
     ensures kept { KeepsTypes types.old types.new }
 {
-    if vertex.next < position_count(&vertex.ctor) {
+    if vertex.next < position_count(vertex.ctor) {
         walk.frames.push((place, Frame::Open(*vertex)))?;
         return Ok(None);
     }
@@ -111,19 +111,19 @@ fn go_on(
 }
 
 // Gives something to a frame that was the innermost, and tells what that gives to the next one.
-fn pass(
+fn pass<'t>(
     alloc: Global,
     types: &mut TypeTable,
     ctxs: &CtxTable,
-    walk: &mut Walk,
+    walk: &mut Walk<'t>,
     place: usize,
-    frame: &mut Frame,
-    given: Given,
-) -> Result<Option<Given>, NoMemory>
+    frame: &mut Frame<'t>,
+    given: Given<'t>,
+) -> Result<Option<Given<'t>>, NoMemory>
     requires walk { IsWalkOf types.old ctxs.now walk.old }
     requires frame { IsFrameOf types.old ctxs.now frame.old }
     requires given { IsGivenOf types.old given }
-    ensures state { IfOk result (λ g. given_on types.new ctxs.now g walk.new ≡ deliver (given_at types.old given)
+    ensures state { IfOk result (λ g. given_on types.new ctxs.now g walk.new ≡ deliver (given_at types.old given.entry)
         (frame_at types.old ctxs.now place frame.old ∷ frames_at types.old ctxs.now walk.old.frames.items) (meant_nodes types.old walk.old.out)) }
     ensures given { IfOk result (λ given. IfSome given (IsGivenOf types.new)) }
     ensures shorter { IfOk result (λ given. IfSome given (λ g. length walk.new.frames.items ≡ length walk.old.frames.items)) }
@@ -147,16 +147,16 @@ fn pass(
 }
 
 // Gives something to the innermost frame, and where that is whole, what it gives to the next one, and so on.
-fn hand_on(
+fn hand_on<'t>(
     alloc: Global,
     types: &mut TypeTable,
     ctxs: &CtxTable,
-    walk: &mut Walk,
-    given: Option<Given>,
+    walk: &mut Walk<'t>,
+    given: Option<Given<'t>>,
 ) -> Result<(), NoMemory>
     requires walk { IsWalkOf types.old ctxs.now walk.old }
     requires given { IfSome given (IsGivenOf types.old) }
-    ensures state { OnOk result (state_at types.new ctxs.now walk.new ≡ given_on types.old ctxs.now given walk.old) }
+    ensures state { OnOk result (state_at types.new ctxs.now walk.new ≡ given_on types.old ctxs.now given.entry walk.old) }
     ensures walk { OnOk result (IsWalkOf types.new ctxs.now walk.new) }
     ensures kept { KeepsTypes types.old types.new }
 {
@@ -171,14 +171,14 @@ fn hand_on(
 }
 
 // Marks a node, of which this is demanded, as far as it can be, and tells what it gives.
-fn begin(
+fn begin<'t>(
     alloc: Global,
     types: &mut TypeTable,
     ctxs: &CtxTable,
-    walk: &mut Walk,
-    node: &Node,
+    walk: &mut Walk<'t>,
+    node: &'t Node,
     demand: Demand,
-) -> Result<Option<Given>, NoMemory>
+) -> Result<Option<Given<'t>>, NoMemory>
     requires walk { IsWalkOf types.old ctxs.now walk.old }
     requires demand { IsDemandOf types.old ctxs.now demand }
     ensures state { IfOk result (λ g. given_on types.new ctxs.now g walk.new ≡ taken node.now.what node.now (demanded_at types.old ctxs.now demand)
@@ -189,20 +189,20 @@ fn begin(
 {
     let mode = demand.mode;
     let place = walk.out.len();
-    match node.what {
+    match &node.what {
         What::Vertex(vertex) => {
             walk.out.push(unsettled(node))?;
-            let begun = fresh(types, vertex.ctor, demand);
+            let begun = fresh(types, &vertex.ctor, demand);
             go_on(alloc, types, ctxs, walk, place, &begun)
         }
-        What::Hole(sort) => Ok(Some(list_plain(types, &mut walk.out, sort, mode, node)?)),
+        What::Hole(sort) => Ok(Some(list_plain(types, &mut walk.out, *sort, mode, node)?)),
         What::Conflict(sort, count) => {
-            list_plain(types, &mut walk.out, sort, mode, node)?;
+            list_plain(types, &mut walk.out, *sort, mode, node)?;
             let each = Demand {
                 ctx: demand.ctx,
                 mode: Mode::Syn,
             };
-            walk.frames.push((place, Frame::Several(each, count)))?;
+            walk.frames.push((place, Frame::Several(each, *count)))?;
             Ok(None)
         }
         What::MultiRef(vertex) | What::CycleRef(vertex) => {
@@ -212,7 +212,7 @@ fn begin(
     }
 }
 
-fn innermost(frames: &[(usize, Frame)]) -> Option<&Frame>
+fn innermost<'f, 't>(frames: &'f [(usize, Frame<'t>)]) -> Option<&'f Frame<'t>>
     ensures { option_map (λ frame. frame.now) result ≡ option_map (λ frame. frame.1) (slice_get frames.now (length frames.now - 1)) }
 {
     let (_, frame) = frames.last()?;
@@ -220,12 +220,12 @@ fn innermost(frames: &[(usize, Frame)]) -> Option<&Frame>
 }
 
 // Takes the next node.
-pub(crate) fn take(
+pub(crate) fn take<'t>(
     alloc: Global,
     types: &mut TypeTable,
     ctxs: &mut CtxTable,
-    walk: &mut Walk,
-    node: &Node,
+    walk: &mut Walk<'t>,
+    node: &'t Node,
 ) -> Result<(), NoMemory>
     requires walk { IsWalkOf types.old ctxs.old walk.old }
     ensures state { OnOk result (state_at types.new ctxs.new walk.new ≡ step (state_at types.old ctxs.old walk.old) node.now) }

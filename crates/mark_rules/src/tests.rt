@@ -21,7 +21,7 @@ fn a_hole_is_a_hole_again(rt: HostRuntime) -> Result<(), Fail> {
     };
     let mut tree = MarkedTree::new(rt.alloc());
     tree.push(MarkedNode {
-        node,
+        node: &node,
         mode: Some(Mode::Syn),
         typ: Some(types.unknown()),
         mark: Mark::None,
@@ -60,7 +60,8 @@ fn a_number_is_marked(rt: HostRuntime) -> Result<(), Fail> {
     let mut types = TypeTable::new(rt.alloc())?;
     let mut ctxs = CtxTable::new(rt.alloc())?;
     let mut tree = Tree::new(rt.alloc());
-    tree.push(SEVEN)?;
+    let seven = SEVEN;
+    tree.push(seven)?;
     let mut none = TreeList::new(rt.alloc());
     none.push(tree)?;
     let grove = Grove {
@@ -72,7 +73,7 @@ fn a_number_is_marked(rt: HostRuntime) -> Result<(), Fail> {
     assert_eq!(rt;
         marked.none.get(0).and_then(|tree| tree.get(0)),
         Some(MarkedNode {
-            node: SEVEN,
+            node: &seven,
             mode: Some(Mode::Syn),
             typ: Some(types.num()),
             mark: Mark::None,

@@ -94,10 +94,10 @@ module _ (types grown : List Typ) (kept : KeepsTypes types grown) where
         cc
 
     pub types_before-kept : (node : NodeView) (index : ℕ) → IsNodeOf types ctxs node → types_before grown node index ≡ types_before types node index
-    types_before-kept node index n = types_from-kept node.done n.done 0 (take index (positions node.ctor))
+    types_before-kept node index n = types_from-kept node.done n.done 0 (take index (positions node.ctor.now))
 
     pub types_done-kept : (node : NodeView) → IsNodeOf types ctxs node → types_done grown node ≡ types_done types node
-    types_done-kept node n = types_from-kept node.done n.done 0 (positions node.ctor)
+    types_done-kept node n = types_from-kept node.done n.done 0 (positions node.ctor.now)
 
     pub IsNodeOf-kept : (node : NodeView) → IsNodeOf types ctxs node → IsNodeOf grown more node
     IsNodeOf-kept node n = record {
@@ -156,17 +156,17 @@ module _ (types : List Typ) (done : List (Option TypeId)) where
       split-later (is_exp p.1) (type_here i) all before (type_here (i + suc n)) (subst (λ k. IsSplit all before (type_here k)) same rest)
 
 -- the answer of a node's rule is a row's
-pub settled_by_row : (types : List Typ) (ctxs : List Context) (node : NodeView) → sort_of_ctor node.ctor ≡ Exp
+pub settled_by_row : (types : List Typ) (ctxs : List Context) (node : NodeView) → sort_of_ctor node.ctor.now ≡ Exp
     → Follows (expression_at types ctxs node) (judgements (expression_at types ctxs node) (types_done types node)) (settled (expression_at types ctxs node) (types_done types node))
 settled_by_row types ctxs node exp =
-    functions_follow_rows (expression_at types ctxs node) (types_done types node) exp (types_from-length types node.done node.ctor)
+    functions_follow_rows (expression_at types ctxs node) (types_done types node) exp (types_from-length types node.done node.ctor.now)
 
 -- what is demanded of a child is what that row says
-pub demanded_by_row : (types : List Typ) (ctxs : List Context) (node : NodeView) (index : ℕ) → sort_at_index node.ctor index ≡ Some Exp
+pub demanded_by_row : (types : List Typ) (ctxs : List Context) (node : NodeView) (index : ℕ) → sort_at_index node.ctor.now index ≡ Some Exp
     → slice_get (judgements (expression_at types ctxs node) (types_done types node)) (length (types_before types node index))
     ≡ Some (judged (demand (expression_at types ctxs node) (types_before types node index)) (type_or_unknown types (get_or node.done index None)))
 demanded_by_row types ctxs node index h =
-    let s = types_from-split types node.done 0 index (positions node.ctor) h in
+    let s = types_from-split types node.done 0 index (positions node.ctor.now) h in
     let e = expression_at types ctxs node in
     let at = judgements_after-at e [] (types_done types node) (length (types_before types node index)) _ s.next in
     at ∙ ap (λ bs. Some (judged (demand e bs) (type_or_unknown types (get_or node.done (0 + index) None)))) s.first
@@ -221,15 +221,15 @@ types_from-skip types done i zero (p ∷ ps) ne = by p.1 ne
 types_from-skip types done i (suc n) (p ∷ ps) ne =
     ap (λ ts. if is_exp p.1 then (type_or_unknown types (get_or done i None) ∷ ts) else ts) (types_from-skip types done (i + 1) n ps ne)
 
-pub types_before-done : (types : List Typ) (node : NodeView) (index : ℕ) (t : TypeId) → sort_at_index node.ctor index ≡ Some Exp → index < length node.done
+pub types_before-done : (types : List Typ) (node : NodeView) (index : ℕ) (t : TypeId) → sort_at_index node.ctor.now index ≡ Some Exp → index < length node.done
     → types_before types (record node { done = set node.done index (Some t) }) (index + 1) ≡ types_before types node index ++ type_at types t ∷ []
 types_before-done types node index t h within =
-    let last = types_from-set types t node.done 0 index (positions node.ctor) h (omega arith) in
-    rw add-one (subst (λ k. types_from types (set node.done k (Some t)) 0 (take (suc index) (positions node.ctor)) ≡ types_before types node index ++ type_at types t ∷ []) (zero-add index) last)
+    let last = types_from-set types t node.done 0 index (positions node.ctor.now) h (omega arith) in
+    rw add-one (subst (λ k. types_from types (set node.done k (Some t)) 0 (take (suc index) (positions node.ctor.now)) ≡ types_before types node index ++ type_at types t ∷ []) (zero-add index) last)
 
-pub types_before-skipped : (types : List Typ) (node : NodeView) (index : ℕ) → sort_at_index node.ctor index ≢ Some Exp
+pub types_before-skipped : (types : List Typ) (node : NodeView) (index : ℕ) → sort_at_index node.ctor.now index ≢ Some Exp
     → types_before types node (index + 1) ≡ types_before types node index
-types_before-skipped types node index ne = rw add-one (types_from-skip types node.done 0 index (positions node.ctor) ne)
+types_before-skipped types node index ne = rw add-one (types_from-skip types node.done 0 index (positions node.ctor.now) ne)
 
-pub types_before-all : (types : List Typ) (node : NodeView) → types_before types node (length (positions node.ctor)) ≡ types_done types node
-types_before-all types node = ap (types_from types node.done 0) (take-length (positions node.ctor))
+pub types_before-all : (types : List Typ) (node : NodeView) → types_before types node (length (positions node.ctor.now)) ≡ types_done types node
+types_before-all types node = ap (types_from types node.done 0) (take-length (positions node.ctor.now))

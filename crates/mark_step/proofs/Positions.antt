@@ -1,6 +1,7 @@
 -- What is known at each position of a `let` and of a case.
 use Rattle.std.proofs.Common.{◌≡◌, ◌<◌, ◌≤◌, ℕ, zero, suc, List, [], ◌∷◌, Option, None, Some, refl, arith}
 use Rattle.std.specs.Prelude.{take, Result, Ok, Err, IfOk}
+use Rattle.std.specs.Option.{option_map}
 use Rattle.std.specs.List.{slice_index_or}
 use Rattle.grove_sorts.specs.declared.ctor.Ctor.{Ctor}
 use Rattle.grove_sorts.specs.declared.ctor.Ctor.TheVariants.{Let, Case}
@@ -21,16 +22,16 @@ if_ok_then (Ok t) of x y is same = cc
 if_ok_then (Err e) of x y is same = tt
 
 module _ (types : List Typ) (node : NodeView) (index : ℕ) where
-  before_definition : node.ctor ≡ Let → index < 2 → types_before types node index ≡ []
-  before_definition is early = by node.ctor is index early where
+  before_definition : node.ctor.now ≡ Let → index < 2 → types_before types node index ≡ []
+  before_definition is early = by node.ctor.now is index early where
     by : (ctor : Ctor) → ctor ≡ Let → (index : ℕ) → index < 2 → types_from types node.done 0 (take index (positions ctor)) ≡ []
     by Let is zero early = refl
     by Let is (suc zero) early = refl
     by Let is (suc (suc n)) early = absurd (omega (arith, early))
     by _ is index early = absurd cc
 
-  after_definition : node.ctor ≡ Let → 2 ≤ index → (ts : List Typ) × (types_before types node index ≡ type_or_unknown types (slice_index_or node.done 1 None) ∷ ts)
-  after_definition is late = by node.ctor is index late where
+  after_definition : node.ctor.now ≡ Let → 2 ≤ index → (ts : List Typ) × (types_before types node index ≡ type_or_unknown types (slice_index_or node.done 1 None) ∷ ts)
+  after_definition is late = by node.ctor.now is index late where
     by : (ctor : Ctor) → ctor ≡ Let → (index : ℕ) → 2 ≤ index
         → (ts : List Typ) × (types_from types node.done 0 (take index (positions ctor)) ≡ type_or_unknown types (slice_index_or node.done 1 None) ∷ ts)
     by Let is zero late = absurd (omega (arith, late))
@@ -38,23 +39,23 @@ module _ (types : List Typ) (node : NodeView) (index : ℕ) where
     by Let is (suc (suc n)) late = (_, refl)
     by _ is index late = absurd cc
 
-  pub definition_wanted : (w : Wanted) → node.ctor ≡ Let → index < 2 → Synthesise ≡ wanted_of_rest w (types_before types node index)
+  pub definition_wanted : (w : Wanted) → node.ctor.now ≡ Let → index < 2 → Synthesise ≡ wanted_of_rest w (types_before types node index)
   definition_wanted w is early = let known = before_definition is early in cc
 
-  pub body_wanted : (w : Wanted) → node.ctor ≡ Let → 2 ≤ index → w ≡ wanted_of_rest w (types_before types node index)
+  pub body_wanted : (w : Wanted) → node.ctor.now ≡ Let → 2 ≤ index → w ≡ wanted_of_rest w (types_before types node index)
   body_wanted w is late = let known = after_definition is late in let same = known.1 in cc
 
-  pub definition_scope : (scope : Scope) → node.ctor ≡ Let → index < 2 → scope ≡ scope_in_let (bound_at types node) scope (types_before types node index)
+  pub definition_scope : (scope : Scope) → node.ctor.now ≡ Let → index < 2 → scope ≡ scope_in_let (bound_at types node) scope (types_before types node index)
   definition_scope scope is early = let known = before_definition is early in cc
 
-  pub body_scope : (scope : Scope) (t : TypeId) → node.ctor ≡ Let → 2 ≤ index → slice_index_or node.done 1 None ≡ Some t
-      → bind node.binder.name (type_at types t) scope ≡ scope_in_let (bound_at types node) scope (types_before types node index)
+  pub body_scope : (scope : Scope) (t : TypeId) → node.ctor.now ≡ Let → 2 ≤ index → slice_index_or node.done 1 None ≡ Some t
+      → bind (option_map (λ n. n.now) node.binder.name) (type_at types t) scope ≡ scope_in_let (bound_at types node) scope (types_before types node index)
   body_scope scope t is late done = let known = after_definition is late in let same = known.1 in cc
 
   -- in a case
 
-  at_left : node.ctor ≡ Case → 1 ≤ index → index < 3 → types_before types node index ≡ type_or_unknown types (slice_index_or node.done 0 None) ∷ []
-  at_left is late early = by node.ctor is index late early where
+  at_left : node.ctor.now ≡ Case → 1 ≤ index → index < 3 → types_before types node index ≡ type_or_unknown types (slice_index_or node.done 0 None) ∷ []
+  at_left is late early = by node.ctor.now is index late early where
     by : (ctor : Ctor) → ctor ≡ Case → (index : ℕ) → 1 ≤ index → index < 3
         → types_from types node.done 0 (take index (positions ctor)) ≡ type_or_unknown types (slice_index_or node.done 0 None) ∷ []
     by Case is zero late early = absurd (omega (arith, late))
@@ -63,9 +64,9 @@ module _ (types : List Typ) (node : NodeView) (index : ℕ) where
     by Case is (suc (suc (suc n))) late early = absurd (omega (arith, early))
     by _ is index late early = absurd cc
 
-  at_right : node.ctor ≡ Case → 3 ≤ index
+  at_right : node.ctor.now ≡ Case → 3 ≤ index
       → (t : Typ) × (ts : List Typ) × (types_before types node index ≡ type_or_unknown types (slice_index_or node.done 0 None) ∷ t ∷ ts)
-  at_right is late = by node.ctor is index late where
+  at_right is late = by node.ctor.now is index late where
     by : (ctor : Ctor) → ctor ≡ Case → (index : ℕ) → 3 ≤ index
         → (t : Typ) × (ts : List Typ) × (types_from types node.done 0 (take index (positions ctor)) ≡ type_or_unknown types (slice_index_or node.done 0 None) ∷ t ∷ ts)
     by Case is zero late = absurd (omega (arith, late))
@@ -74,10 +75,10 @@ module _ (types : List Typ) (node : NodeView) (index : ℕ) where
     by Case is (suc (suc (suc n))) late = (_, _, refl)
     by _ is index late = absurd cc
 
-  pub left_scope : (scope : Scope) (t : TypeId) → node.ctor ≡ Case → 1 ≤ index → index < 3 → slice_index_or node.done 0 None ≡ Some t
-      → bind node.binder.name (parts_or_unknown Sum (type_at types t)).0 scope ≡ scope_in_case (bound_at types node) scope (types_before types node index)
+  pub left_scope : (scope : Scope) (t : TypeId) → node.ctor.now ≡ Case → 1 ≤ index → index < 3 → slice_index_or node.done 0 None ≡ Some t
+      → bind (option_map (λ n. n.now) node.binder.name) (parts_or_unknown Sum (type_at types t)).0 scope ≡ scope_in_case (bound_at types node) scope (types_before types node index)
   left_scope scope t is late early done = let known = at_left is late early in cc
 
-  pub right_scope : (scope : Scope) (t : TypeId) → node.ctor ≡ Case → 3 ≤ index → slice_index_or node.done 0 None ≡ Some t
-      → bind node.second.name (parts_or_unknown Sum (type_at types t)).1 scope ≡ scope_in_case (bound_at types node) scope (types_before types node index)
+  pub right_scope : (scope : Scope) (t : TypeId) → node.ctor.now ≡ Case → 3 ≤ index → slice_index_or node.done 0 None ≡ Some t
+      → bind (option_map (λ n. n.now) node.second.name) (parts_or_unknown Sum (type_at types t)).1 scope ≡ scope_in_case (bound_at types node) scope (types_before types node index)
   right_scope scope t is late done = let known = at_right is late in let same = known.2 in cc

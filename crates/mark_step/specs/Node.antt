@@ -27,12 +27,12 @@ wanted_at types Syn = Synthesise
 wanted_at types (Ana t) = Analyse (type_at types t)
 
 abbrev pub bound_at : List Typ → NodeView → Bound
-bound_at types node = record { name = node.binder.name; typ = type_at types node.binder.typ; second = node.second.name }
+bound_at types node = record { name = option_map (λ n. n.now) node.binder.name; typ = type_at types node.binder.typ; second = option_map (λ n. n.now) node.second.name }
 
 -- the expression that a node stands for
 abbrev pub expression_at : List Typ → List Context → NodeView → Expression
 expression_at types ctxs node = record {
-  ctor = node.ctor;
+  ctor = node.ctor.now;
   scope = scope_at types ctxs node.ctx;
   wanted = wanted_at types node.mode;
   bound = bound_at types node;
@@ -76,11 +76,11 @@ sort_at_index ctor i = option_map (λ p. p.1) (slice_get (positions ctor) i)
 
 -- the expressions at the positions before an index have types
 abbrev pub AreDoneBefore : NodeView → ℕ → Type 0
-AreDoneBefore node index = (i : ℕ) → i < index → sort_at_index node.ctor i ≡ Some Exp → IsSome (slice_index_or node.done i None)
+AreDoneBefore node index = (i : ℕ) → i < index → sort_at_index node.ctor.now i ≡ Some Exp → IsSome (slice_index_or node.done i None)
 
 -- all expressions among the children have types
 abbrev pub AreDone : NodeView → Type 0
-AreDone node = (i : ℕ) → sort_at_index node.ctor i ≡ Some Exp → IsSome (slice_index_or node.done i None)
+AreDone node = (i : ℕ) → sort_at_index node.ctor.now i ≡ Some Exp → IsSome (slice_index_or node.done i None)
 
 -- the type of a child, unknown where it has none yet
 abbrev pub type_or_unknown : List Typ → Option TypeId → Typ
@@ -96,8 +96,8 @@ types_from types done i (p ∷ ps) =
 
 -- the types of the expressions at the positions before an index, in table order
 abbrev pub types_before : List Typ → NodeView → ℕ → List Typ
-types_before types node index = types_from types node.done 0 (take index (positions node.ctor))
+types_before types node index = types_from types node.done 0 (take index (positions node.ctor.now))
 
 -- the types of the expressions among the children, in table order
 abbrev pub types_done : List Typ → NodeView → List Typ
-types_done types node = types_from types node.done 0 (positions node.ctor)
+types_done types node = types_from types node.done 0 (positions node.ctor.now)

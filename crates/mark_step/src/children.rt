@@ -1,4 +1,5 @@
 ghost use Rattle.std.specs.Prelude.{◌≡◌, List, IfOk};
+ghost use Rattle.std.specs.Option.{option_map};
 ghost use Rattle.grove_sorts.specs.declared.sort.Sort.TheVariants.{Exp};
 ghost use Rattle.grove_sorts.specs.Ctor.{sort_of_ctor};
 ghost use Rattle.type_core.specs.declared.former.Former.TheVariants.{Arrow, Product, Sum};
@@ -25,8 +26,8 @@ pub fn child_demand(
     node: &NodeView,
     index: usize,
 ) -> Result<Demand, NoMemory>
-    requires expression { sort_of_ctor node.now.ctor ≡ Exp }
-    requires child { sort_at_index node.now.ctor index ≡ Some Exp }
+    requires expression { sort_of_ctor node.now.ctor.now ≡ Exp }
+    requires child { sort_at_index node.now.ctor.now index ≡ Some Exp }
     requires earlier { AreDoneBefore node.now index }
     requires numbers { IsNodeOf types.old ctxs.old node.now }
     ensures demand { IfOk result (λ d. demanded_at types.new ctxs.new d
@@ -51,7 +52,7 @@ fn child_context(
     requires numbers { IsNodeOf types.now ctxs.old node.now }
     ensures number { IfOk result (IsScopeOf types.now ctxs.new) }
     ensures scope { IfOk result (λ id. scope_at types.now ctxs.new id
-        ≡ scope_next node.now.ctor (bound_at types.now node.now) (scope_at types.now ctxs.old node.now.ctx) (types_before types.now node.now index)) }
+        ≡ scope_next node.now.ctor.now (bound_at types.now node.now) (scope_at types.now ctxs.old node.now.ctx) (types_before types.now node.now index)) }
     ensures kept { KeepsContexts ctxs.old ctxs.new }
 {
     match node.ctor {
@@ -71,17 +72,17 @@ fn bind(
     types: &TypeTable,
     ctxs: &mut CtxTable,
     ctx: CtxId,
-    name: Option<Ident>,
+    name: Option<&Ident>,
     typ: TypeId,
 ) -> Result<CtxId, NoMemory>
     requires ctx { IsScopeOf types.now ctxs.old ctx }
     requires typ { IsTypeOf types.now typ }
     ensures number { IfOk result (IsScopeOf types.now ctxs.new) }
-    ensures scope { IfOk result (λ id. scope_at types.now ctxs.new id ≡ bind name (type_at types.now typ) (scope_at types.now ctxs.old ctx)) }
+    ensures scope { IfOk result (λ id. scope_at types.now ctxs.new id ≡ bind (option_map (λ n. n.now) name.entry) (type_at types.now typ) (scope_at types.now ctxs.old ctx)) }
     ensures kept { KeepsContexts ctxs.old ctxs.new }
 {
     match name {
-        Some(name) => Ok(ctxs.extend(ctx, name, typ)?),
+        Some(name) => Ok(ctxs.extend(ctx, *name, typ)?),
         None => Ok(ctx),
     }
 }
@@ -93,7 +94,7 @@ fn context_in_let(
     node: &NodeView,
     index: usize,
 ) -> Result<CtxId, NoMemory>
-    requires ctor { node.now.ctor ≡ Ctor.Let }
+    requires ctor { node.now.ctor.now ≡ Ctor.Let }
     requires earlier { AreDoneBefore node.now index }
     requires numbers { IsNodeOf types.now ctxs.old node.now }
     ensures number { IfOk result (IsScopeOf types.now ctxs.new) }
@@ -114,7 +115,7 @@ fn context_in_case(
     node: &NodeView,
     index: usize,
 ) -> Result<CtxId, NoMemory>
-    requires ctor { node.now.ctor ≡ Ctor.Case }
+    requires ctor { node.now.ctor.now ≡ Ctor.Case }
     requires earlier { AreDoneBefore node.now index }
     requires numbers { IsNodeOf types.now ctxs.old node.now }
     ensures number { IfOk result (IsScopeOf types.now ctxs.new) }
@@ -137,7 +138,7 @@ fn child_mode(types: &TypeTable, node: &NodeView, index: usize) -> Mode
     requires mode { IsModeOf types.now node.now.mode }
     requires done { AreNumbers types.now node.now.done }
     ensures wanted { wanted_at types.now result
-        ≡ wanted_next node.now.ctor (wanted_at types.now node.now.mode) (types_before types.now node.now index) }
+        ≡ wanted_next node.now.ctor.now (wanted_at types.now node.now.mode) (types_before types.now node.now index) }
     ensures number { IsModeOf types.now result }
 {
     match node.ctor {
@@ -170,7 +171,7 @@ fn body_mode(types: &TypeTable, mode: Mode) -> Mode
 
 // The function is synthesised, and the argument analysed against what the function takes.
 fn mode_in_application(types: &TypeTable, node: &NodeView, index: usize) -> Mode
-    requires ctor { node.now.ctor ≡ Ctor.Ap }
+    requires ctor { node.now.ctor.now ≡ Ctor.Ap }
     requires earlier { AreDoneBefore node.now index }
     requires done { AreNumbers types.now node.now.done }
     ensures wanted { wanted_at types.now result ≡ wanted_in_application (types_before types.now node.now index) }
@@ -184,7 +185,7 @@ fn mode_in_application(types: &TypeTable, node: &NodeView, index: usize) -> Mode
 
 // The condition is a truth value, and of the branches is wanted what is wanted of the conditional.
 fn mode_in_conditional(types: &TypeTable, node: &NodeView, index: usize) -> Mode
-    requires ctor { node.now.ctor ≡ Ctor.Choose }
+    requires ctor { node.now.ctor.now ≡ Ctor.Choose }
     requires mode { IsModeOf types.now node.now.mode }
     ensures wanted { wanted_at types.now result
         ≡ wanted_in_conditional (wanted_at types.now node.now.mode) (types_before types.now node.now index) }
@@ -197,7 +198,7 @@ fn mode_in_conditional(types: &TypeTable, node: &NodeView, index: usize) -> Mode
 }
 
 fn mode_in_pair(types: &TypeTable, node: &NodeView, index: usize) -> Mode
-    requires ctor { node.now.ctor ≡ Ctor.Pair }
+    requires ctor { node.now.ctor.now ≡ Ctor.Pair }
     requires mode { IsModeOf types.now node.now.mode }
     ensures wanted { wanted_at types.now result
         ≡ wanted_in_pair (wanted_at types.now node.now.mode) (types_before types.now node.now index) }
@@ -215,7 +216,7 @@ fn mode_in_pair(types: &TypeTable, node: &NodeView, index: usize) -> Mode
 
 // The definition is synthesised, and of the body is wanted what is wanted of the whole.
 fn mode_in_let(node: &NodeView, index: usize) -> Mode
-    requires { node.now.ctor ≡ Ctor.Let }
+    requires { node.now.ctor.now ≡ Ctor.Let }
     ensures wanted { (types : List Typ) → wanted_at types result ≡ wanted_of_rest (wanted_at types node.now.mode) (types_before types node.now index) }
     ensures number { (types : List Typ) → IsModeOf types node.now.mode → IsModeOf types result }
 {
@@ -227,7 +228,7 @@ fn mode_in_let(node: &NodeView, index: usize) -> Mode
 
 // What the case takes apart is synthesised, and of its bodies is wanted what is wanted of the whole.
 fn mode_in_case(node: &NodeView, index: usize) -> Mode
-    requires { node.now.ctor ≡ Ctor.Case }
+    requires { node.now.ctor.now ≡ Ctor.Case }
     ensures wanted { (types : List Typ) → wanted_at types result ≡ wanted_of_rest (wanted_at types node.now.mode) (types_before types node.now index) }
     ensures number { (types : List Typ) → IsModeOf types node.now.mode → IsModeOf types result }
 {

@@ -66,9 +66,9 @@ pub fn numbers_keep_their_meaning()
 /// Law: the two calls follow one row. What `settle` answers is what the row gives, and what `child_demand` answers for each child is
 /// what the row says of it.
 pub fn each_node_follows_its_row()
-    ensures settled { (types : List Typ) (ctxs : List Context) (node : NodeView) → sort_of_ctor node.ctor ≡ Exp
+    ensures settled { (types : List Typ) (ctxs : List Context) (node : NodeView) → sort_of_ctor node.ctor.now ≡ Exp
         → let e = expression_at types ctxs node in let done = types_done types node in Follows e (judgements e done) (settled e done) }
-    ensures demanded { (types : List Typ) (ctxs : List Context) (node : NodeView) (index : ℕ) → sort_at_index node.ctor index ≡ Some Exp
+    ensures demanded { (types : List Typ) (ctxs : List Context) (node : NodeView) (index : ℕ) → sort_at_index node.ctor.now index ≡ Some Exp
         → let e = expression_at types ctxs node in let before = types_before types node index in
         slice_get (judgements e (types_done types node)) (length before)
         ≡ Some (judged (demand e before) (type_or_unknown types (slice_index_or node.done index None))) }
@@ -77,12 +77,12 @@ pub fn each_node_follows_its_row()
 /// Law: children get their types one after the other. One that gets its type comes after the children before it, a position of no
 /// expression adds none, and after the last position all types are there.
 pub fn children_are_done_in_table_order()
-    ensures done { (types : List Typ) (node : NodeView) (index : ℕ) (t : TypeId) → sort_at_index node.ctor index ≡ Some Exp → index < length node.done
+    ensures done { (types : List Typ) (node : NodeView) (index : ℕ) (t : TypeId) → sort_at_index node.ctor.now index ≡ Some Exp → index < length node.done
         → types_before types (record node { done = slice_set node.done index (Some t) }) (index + 1)
         ≡ types_before types node index ++ type_at types t ∷ [] }
-    ensures skipped { (types : List Typ) (node : NodeView) (index : ℕ) → sort_at_index node.ctor index ≢ Some Exp
+    ensures skipped { (types : List Typ) (node : NodeView) (index : ℕ) → sort_at_index node.ctor.now index ≢ Some Exp
         → types_before types node (index + 1) ≡ types_before types node index }
-    ensures all { (types : List Typ) (node : NodeView) → types_before types node (length (positions node.ctor)) ≡ types_done types node }
+    ensures all { (types : List Typ) (node : NodeView) → types_before types node (length (positions node.ctor.now)) ≡ types_done types node }
     ensures numbers { (types : List Typ) (done : List (Option TypeId)) (index : ℕ) (t : TypeId) → IsTypeOf types t → AreNumbers types done
         → AreNumbers types (slice_set done index (Some t)) }
 {}

@@ -52,24 +52,24 @@ impl Mark {
 }
 
 /// What a function binds, a `let`, or a case at one of its bodies. Other constructors bind nothing, and do not use it.
-#[derive(Clone, Copy, Debug, PartialEq, Eq)]
-pub struct Binder {
+#[derive(Clone, Copy, Debug)]
+pub struct Binder<'t> {
     /// The name at its param position, where one sole pattern stands there.
-    pub name: Option<Ident>,
+    pub name: Option<&'t Ident>,
     /// The type of the type position of a function. What others bind has the type of a child, and this is not used.
     pub typ: TypeId,
 }
 
-/// A node as its rule sees it.
-#[derive(Clone, Copy, Debug, PartialEq, Eq)]
-pub struct NodeView {
-    pub ctor: Ctor,
+/// A node as its rule sees it. What is wide is borrowed, so that a view is made and passed on at little cost.
+#[derive(Clone, Copy, Debug)]
+pub struct NodeView<'t> {
+    pub ctor: &'t Ctor,
     pub ctx: CtxId,
     pub mode: Mode,
     /// What it binds, a case in its left body.
-    pub binder: Binder,
+    pub binder: Binder<'t>,
     /// What a case binds in its right body.
-    pub second: Binder,
+    pub second: Binder<'t>,
     /// The types of its children that are marked already, by the index of their position. Only those of expressions are read.
     pub done: [Option<TypeId>; WIDEST],
 }
@@ -88,7 +88,7 @@ pub struct Settled {
     pub mark: Mark,
 }
 
-impl NodeView {
+impl NodeView<'_> {
     // The type of the expression at the position with this index.
     pub(crate) fn child_type(&self, index: usize) -> TypeId
         requires { IsSome (slice_index_or self.now.done index None) }

@@ -24,7 +24,7 @@ pub fn settle(
     ctxs: &CtxTable,
     node: &NodeView,
 ) -> Result<Settled, NoMemory>
-    requires expression { sort_of_ctor node.now.ctor ≡ Exp }
+    requires expression { sort_of_ctor node.now.ctor.now ≡ Exp }
     requires done { AreDone node.now }
     requires numbers { IsNodeOf types.old ctxs.now node.now }
     ensures settled { IfOk result (λ s. marked_at types.new s
@@ -46,12 +46,12 @@ fn analyse(
     node: &NodeView,
     typ: TypeId,
 ) -> Result<Settled, NoMemory>
-    requires expression { sort_of_ctor node.now.ctor ≡ Exp }
+    requires expression { sort_of_ctor node.now.ctor.now ≡ Exp }
     requires done { AreDone node.now }
     requires numbers { IsNodeOf types.old ctxs.now node.now }
     requires typ { IsTypeOf types.old typ }
     ensures analysed { IfOk result (λ s. marked_at types.new s
-        ≡ analysed node.now.ctor (scope_at types.old ctxs.now node.now.ctx) (bound_at types.old node.now)
+        ≡ analysed node.now.ctor.now (scope_at types.old ctxs.now node.now.ctx) (bound_at types.old node.now)
         (type_at types.old typ) (types_done types.old node.now)) }
     ensures number { IfOk result (λ s. IsTypeOf types.new s.typ) }
     ensures kept { KeepsTypes types.old types.new }
@@ -86,16 +86,16 @@ fn synthesise(
     ctxs: &CtxTable,
     node: &NodeView,
 ) -> Result<Settled, NoMemory>
-    requires expression { sort_of_ctor node.now.ctor ≡ Exp }
+    requires expression { sort_of_ctor node.now.ctor.now ≡ Exp }
     requires done { AreDone node.now }
     requires numbers { IsNodeOf types.old ctxs.now node.now }
     ensures synthesised { IfOk result (λ s. marked_at types.new s
-        ≡ synthesised node.now.ctor (scope_at types.old ctxs.now node.now.ctx) (bound_at types.old node.now)
+        ≡ synthesised node.now.ctor.now (scope_at types.old ctxs.now node.now.ctx) (bound_at types.old node.now)
         (types_done types.old node.now)) }
     ensures number { IfOk result (λ s. IsTypeOf types.new s.typ) }
     ensures kept { KeepsTypes types.old types.new }
 {
-    match node.ctor {
+    match *node.ctor {
         Ctor::Var(name) => Ok(variable(types, ctxs, node.ctx, &name)),
         Ctor::Lam => Ok(unmarked(types.arrow(node.binder.typ, node.child_type(2))?)),
         Ctor::Ap => Ok(application(types, node.child_type(0))),

@@ -13,7 +13,7 @@ fn an_argument_is_analysed_against_the_domain(rt: HostRuntime) -> Result<(), Fai
     let numbers = types.arrow(types.num(), types.num())?;
     let function = types.arrow(numbers, types.unknown())?;
     let node = NodeView {
-        ctor: Ctor::Ap,
+        ctor: &Ctor::Ap,
         ctx: ctxs.empty(),
         mode: Mode::Syn,
         binder: Binder {
@@ -52,11 +52,11 @@ fn a_function_ascribes_another_type(rt: HostRuntime) -> Result<(), Fail> {
     let numbers = types.arrow(types.num(), types.num())?;
     let x = read_ident(Version::Two, b"x")?;
     let node = NodeView {
-        ctor: Ctor::Lam,
+        ctor: &Ctor::Lam,
         ctx: ctxs.empty(),
         mode: Mode::Ana(numbers),
         binder: Binder {
-            name: Some(x),
+            name: Some(&x),
             typ: types.boolean(),
         },
         second: Binder {
@@ -85,7 +85,7 @@ fn a_variable_has_another_type(rt: HostRuntime) -> Result<(), Fail> {
     let mut ctxs = CtxTable::new(rt.alloc())?;
     let x = read_ident(Version::Two, b"x")?;
     let node = NodeView {
-        ctor: Ctor::Var(x),
+        ctor: &Ctor::Var(x),
         ctx: ctxs.extend(ctxs.empty(), x, types.boolean())?,
         mode: Mode::Ana(types.num()),
         binder: Binder {
@@ -114,7 +114,7 @@ fn branches_differ(rt: HostRuntime) -> Result<(), Fail> {
     let mut types = TypeTable::new(rt.alloc())?;
     let ctxs = CtxTable::new(rt.alloc())?;
     let node = NodeView {
-        ctor: Ctor::Choose,
+        ctor: &Ctor::Choose,
         ctx: ctxs.empty(),
         mode: Mode::Syn,
         binder: Binder {
@@ -149,7 +149,7 @@ fn analysed_branches_are_analysed(rt: HostRuntime) -> Result<(), Fail> {
     let mut types = TypeTable::new(rt.alloc())?;
     let mut ctxs = CtxTable::new(rt.alloc())?;
     let node = NodeView {
-        ctor: Ctor::Choose,
+        ctor: &Ctor::Choose,
         ctx: ctxs.empty(),
         mode: Mode::Ana(types.num()),
         binder: Binder {
@@ -172,7 +172,7 @@ fn an_analysed_conditional_has_the_type_that_is_wanted(rt: HostRuntime) -> Resul
     let mut types = TypeTable::new(rt.alloc())?;
     let ctxs = CtxTable::new(rt.alloc())?;
     let node = NodeView {
-        ctor: Ctor::Choose,
+        ctor: &Ctor::Choose,
         ctx: ctxs.empty(),
         mode: Mode::Ana(types.num()),
         binder: Binder {
@@ -210,15 +210,15 @@ fn the_right_body_of_a_case_has_the_right_part(rt: HostRuntime) -> Result<(), Fa
     let x = read_ident(Version::Two, b"x")?;
     let y = read_ident(Version::Two, b"y")?;
     let node = NodeView {
-        ctor: Ctor::Case,
+        ctor: &Ctor::Case,
         ctx: ctxs.empty(),
         mode: Mode::Syn,
         binder: Binder {
-            name: Some(x),
+            name: Some(&x),
             typ: types.unknown(),
         },
         second: Binder {
-            name: Some(y),
+            name: Some(&y),
             typ: types.unknown(),
         },
         done: [Some(sum), None, Some(types.num()), None, None],
@@ -235,7 +235,7 @@ fn an_injection_stands_against_a_number(rt: HostRuntime) -> Result<(), Fail> {
     let mut types = TypeTable::new(rt.alloc())?;
     let ctxs = CtxTable::new(rt.alloc())?;
     let node = NodeView {
-        ctor: Ctor::Inl,
+        ctor: &Ctor::Inl,
         ctx: ctxs.empty(),
         mode: Mode::Ana(types.num()),
         binder: Binder {

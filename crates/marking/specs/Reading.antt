@@ -13,7 +13,7 @@ use Rattle.marking.specs.declared.marked_grove.MarkedGrove.{MarkedGrove}
 -- the node that a node by number stands for
 abbrev pub meant : List Typ → MarkedNode → MeantNode
 meant types m = record {
-  node = m.node;
+  node = m.node.now;
   wanted = option_map (wanted_at types) m.mode;
   typ = option_map (type_at types) m.typ;
   mark = m.mark;
@@ -31,4 +31,4 @@ meant_grove types grove = record {
 
 -- the nodes without what marking added
 abbrev pub bare_nodes : List MarkedNode → List Node
-bare_nodes ms = map (λ m. m.node) ms
+bare_nodes ms = map (λ m. m.node.now) ms

@@ -2,11 +2,11 @@ use crate::marked_tree_list::MarkedTreeList;
 
 /// The marked trees of a grove, each list in the order of the grove's.
 #[derive(Debug, Drop)]
-pub struct MarkedGrove {
+pub struct MarkedGrove<'t> {
     /// Headed by the vertices without a live parent edge.
-    pub none: MarkedTreeList,
+    pub none: MarkedTreeList<'t>,
     /// Headed by the vertices with two or more.
-    pub multi: MarkedTreeList,
+    pub multi: MarkedTreeList<'t>,
     /// Headed by the least vertices of the cycles.
-    pub cycle: MarkedTreeList,
+    pub cycle: MarkedTreeList<'t>,
 }

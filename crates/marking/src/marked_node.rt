@@ -2,10 +2,10 @@ use grove_terms::Node;
 use mark_step::{Mark, Mode};
 use type_core::TypeId;
 
-/// A node of a tree with what marking adds to it.
+/// A node of a tree with what marking adds to it. The node stays in its tree, since nodes are wide.
 #[derive(Clone, Copy, Debug, PartialEq, Eq)]
-pub struct MarkedNode {
-    pub node: Node,
+pub struct MarkedNode<'t> {
+    pub node: &'t Node,
     /// What is wanted of it, where it is an expression.
     pub mode: Option<Mode>,
     /// Its type, where it is an expression or a type.

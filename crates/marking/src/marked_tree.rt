@@ -8,13 +8,13 @@ use std::alloc::Global;
 use std::marker::Model;
 use type_core::TypeId;
 
-/// The nodes of a marked tree in preorder.
+/// The nodes of a marked tree in preorder, borrowed from the tree.
 #[derive(Debug, Drop)]
-pub struct MarkedTree {
-    nodes: Vec<MarkedNode>,
+pub struct MarkedTree<'t> {
+    nodes: Vec<MarkedNode<'t>>,
 }
 
-impl Model for MarkedTree {
+impl<'t> Model for MarkedTree<'t> {
     ghost use Rattle.std.specs.Prelude.{List};
     ghost use Rattle.marking.specs.declared.marked_node.MarkedNode.{MarkedNode};
 
@@ -23,9 +23,9 @@ impl Model for MarkedTree {
     ghost view = { λ tree. tree.nodes.items };
 }
 
-impl MarkedTree {
+impl<'t> MarkedTree<'t> {
     /// A tree without nodes, to which they are pushed in preorder.
-    pub fn new(alloc: Global) -> MarkedTree
+    pub fn new(alloc: Global) -> MarkedTree<'t>
         ensures empty { result ≡ [] }
     {
         MarkedTree {
@@ -34,7 +34,7 @@ impl MarkedTree {
     }
 
     /// The same, with room for so many nodes.
-    pub fn with_capacity(alloc: Global, count: usize) -> Result<MarkedTree, NoMemory>
+    pub fn with_capacity(alloc: Global, count: usize) -> Result<MarkedTree<'t>, NoMemory>
         ensures empty { IfOk result (λ tree. tree ≡ []) }
     {
         Ok(MarkedTree {
@@ -43,8 +43,8 @@ impl MarkedTree {
     }
 
     /// Appends a node.
-    pub fn push(&mut self, node: MarkedNode) -> Result<(), NoMemory>
-        ensures appended { OnOk result (self.new ≡ self.old ++ node ∷ []) }
+    pub fn push(&mut self, node: MarkedNode<'t>) -> Result<(), NoMemory>
+        ensures appended { OnOk result (self.new ≡ self.old ++ node.entry ∷ []) }
         ensures unchanged { OnErr result (self.new ≡ self.old) }
     {
         self.nodes.push(node)?;
@@ -72,13 +72,13 @@ impl MarkedTree {
     }
 
     /// The node at an index, or None past the end.
-    pub fn get(&self, index: usize) -> Option<MarkedNode>
+    pub fn get(&self, index: usize) -> Option<MarkedNode<'t>>
         ensures { result ≡ slice_get self.now index }
     {
         self.nodes.get(index).copied()
     }
 
-    pub fn as_slice(&self) -> &[MarkedNode]
+    pub fn as_slice(&self) -> &[MarkedNode<'t>]
         ensures { result.now ≡ self.now }
     {
         &self.nodes

@@ -8,11 +8,11 @@ use std::marker::Model;
 
 /// Marked trees in order.
 #[derive(Debug, Drop)]
-pub struct MarkedTreeList {
-    trees: Vec<MarkedTree>,
+pub struct MarkedTreeList<'t> {
+    trees: Vec<MarkedTree<'t>>,
 }
 
-impl Model for MarkedTreeList {
+impl<'t> Model for MarkedTreeList<'t> {
     ghost use Rattle.std.specs.Prelude.{List};
     ghost use Rattle.marking.specs.declared.marked_node.MarkedNode.{MarkedNode};
 
@@ -21,8 +21,8 @@ impl Model for MarkedTreeList {
     ghost view = { λ list. list.trees.items };
 }
 
-impl MarkedTreeList {
-    pub fn new(alloc: Global) -> MarkedTreeList
+impl<'t> MarkedTreeList<'t> {
+    pub fn new(alloc: Global) -> MarkedTreeList<'t>
         ensures empty { result ≡ [] }
     {
         MarkedTreeList {
@@ -31,8 +31,8 @@ impl MarkedTreeList {
     }
 
     /// Appends a tree.
-    pub fn push(&mut self, tree: MarkedTree) -> Result<(), NoMemory>
-        ensures appended { OnOk result (self.new ≡ self.old ++ tree ∷ []) }
+    pub fn push(&mut self, tree: MarkedTree<'t>) -> Result<(), NoMemory>
+        ensures appended { OnOk result (self.new ≡ self.old ++ tree.entry ∷ []) }
         ensures unchanged { OnErr result (self.new ≡ self.old) }
     {
         self.trees.push(tree)?;
@@ -46,13 +46,13 @@ impl MarkedTreeList {
     }
 
     /// The tree at an index, or None past the end.
-    pub fn get(&self, index: usize) -> Option<&MarkedTree>
+    pub fn get(&self, index: usize) -> Option<&MarkedTree<'t>>
         ensures { option_map (λ tree. tree.now) result ≡ slice_get self.now index }
     {
         self.trees.get(index)
     }
 
-    pub fn as_slice(&self) -> &[MarkedTree]
+    pub fn as_slice(&self) -> &[MarkedTree<'t>]
         ensures { result.now ≡ self.now }
     {
         &self.trees

@@ -36,7 +36,7 @@ put_on fs old new place f open_here pushed = frames_in-push fs (place, f) ∙ ap
 
 -- ---- a vertex is opened or closed
 
-pub stands_open : (types : List Typ) (ctxs : List Context) (o : OpenVertex) (walk after : Walk) (place : ℕ) (fs : List (ℕ × Frame)) (nodes : List MarkedNode) → o.next < length (positions o.ctor)
+pub stands_open : (types : List Typ) (ctxs : List Context) (o : OpenVertex) (walk after : Walk) (place : ℕ) (fs : List (ℕ × Frame)) (nodes : List MarkedNode) → o.next < length (positions o.ctor.now)
     → after.frames.items ≡ walk.frames.items ++ Open o ∷ [] → after.has_mark ≡ walk.has_mark
     → frames_in fs ≡ walk.frames.items → IsUnmarkedAt nodes place → AreUnsettled place (frames_at types ctxs fs) nodes → IsNoted walk nodes
     → StandsFor types ctxs None after (machine.opened place (opened_at types ctxs o) (left_of o) (frames_at types ctxs fs) nodes)
@@ -55,7 +55,7 @@ noted-or true mark Clean noted = (λ h. absurd cc, λ h. noted.1 h.0)
 noted-or false mark Clean noted = (λ h. (noted.0 refl, h), λ h. h.1)
 
 pub stands_closed : (old new : List Typ) (ctxs : List Context) (o : OpenVertex) (c : Closed) (walk after : Walk) (place : ℕ) (fs : List (ℕ × Frame)) (nodes : List MarkedNode) → KeepsTypes old new
-    → AreFramesOf old ctxs walk.frames.items → length (positions o.ctor) ≤ o.next → added_at new c ≡ machine.added_of (opened_at old ctxs o)
+    → AreFramesOf old ctxs walk.frames.items → length (positions o.ctor.now) ≤ o.next → added_at new c ≡ machine.added_of (opened_at old ctxs o)
     → given_at new c.given ≡ machine.given_of (opened_at old ctxs o) → after.frames.items ≡ walk.frames.items → after.has_mark ≡ (walk.has_mark || has_mark c.mark)
     → frames_in fs ≡ walk.frames.items → IsUnmarkedAt nodes place → AreUnsettled place (frames_at old ctxs fs) nodes → IsNoted walk nodes
     → StandsFor new ctxs (Some c.given) after (machine.opened place (opened_at old ctxs o) (left_of o) (frames_at old ctxs fs) nodes)
@@ -88,7 +88,7 @@ first_open : (types : List Typ) (ctxs : List Context) (place : ℕ) (f : Frame) 
     → f ≡ Open o → IsFrameOf types ctxs f → AreUnsettled below (frame_at types ctxs place f ∷ fs) nodes → IsUnmarkedAt nodes place × AreUnsettled place fs nodes
 first_open types ctxs place f o below fs nodes is frame are =
     let some : IsFrameOf types ctxs (Open o) = subst (IsFrameOf types ctxs) is frame in
-    unsettled-first place (opened_at types ctxs o) (left_of o) below fs nodes (left_some (positions o.ctor) o.next some.1)
+    unsettled-first place (opened_at types ctxs o) (left_of o) below fs nodes (left_some (positions o.ctor.now) o.next some.1)
     (subst (λ (x : Frame). AreUnsettled below (frame_at types ctxs place x ∷ fs) nodes) is are)
 
 stands_for : (types : List Typ) (ctxs : List Context) (g : Option Given) (walk : Walk) (s t : machine.State) → s ≡ t → StandsFor types ctxs g walk s → StandsFor types ctxs g walk t

@@ -19,19 +19,19 @@ use type_core::TypeTable;
 
 /// A tree of which some nodes are judged: what is open, innermost last, and whether a vertex that is closed has a mark.
 #[derive(Debug, Drop)]
-pub(crate) struct Walk {
-    pub(crate) frames: Vec<Frame>,
+pub(crate) struct Walk<'t> {
+    pub(crate) frames: Vec<Frame<'t>>,
     pub(crate) has_mark: bool,
 }
 
 // Opens the vertex where some of its positions are left, and else closes it and tells what it gives.
-fn go_on(
+fn go_on<'t>(
     alloc: Global,
     types: &mut TypeTable,
     ctxs: &CtxTable,
-    walk: &mut Walk,
-    vertex: &OpenVertex,
-) -> Result<Option<Given>, NoMemory>
+    walk: &mut Walk<'t>,
+    vertex: &OpenVertex<'t>,
+) -> Result<Option<Given<'t>>, NoMemory>
     requires frames { AreFramesOf types.old ctxs.now walk.old.frames.items }
     requires vertex { IsOpenOf types.old ctxs.now vertex.now }
     ensures state { IfOk result (λ given. (place : ℕ) (frames : List (ℕ × Frame)) (nodes : List MarkedNode)
@@ -44,7 +44,7 @@ fn go_on(
     ensures frames { OnOk result (AreFramesOf types.new ctxs.now walk.new.frames.items) }
     ensures kept { KeepsTypes types.old types.new }
 {
-    if vertex.next < position_count(&vertex.ctor) {
+    if vertex.next < position_count(vertex.ctor) {
         walk.frames.push(Frame::Open(*vertex))?;
         return Ok(None);
     }
@@ -54,21 +54,21 @@ fn go_on(
 }
 
 // Gives something to a frame that was the innermost, and tells what that gives to the next one.
-fn pass(
+fn pass<'t>(
     alloc: Global,
     types: &mut TypeTable,
     ctxs: &CtxTable,
-    walk: &mut Walk,
-    frame: &mut Frame,
-    given: Given,
-) -> Result<Option<Given>, NoMemory>
+    walk: &mut Walk<'t>,
+    frame: &mut Frame<'t>,
+    given: Given<'t>,
+) -> Result<Option<Given<'t>>, NoMemory>
     requires frames { AreFramesOf types.old ctxs.now walk.old.frames.items }
     requires frame { IsFrameOf types.old ctxs.now frame.old }
     requires given { IsGivenOf types.old given }
     ensures state { IfOk result (λ g. (place : ℕ) (frames : List (ℕ × Frame)) (nodes : List MarkedNode)
         → frames_in frames ≡ walk.old.frames.items
         → AreUnsettled (length nodes) (frame_at types.old ctxs.now place frame.old ∷ frames_at types.old ctxs.now frames) nodes → IsNoted walk.old nodes
-        → StandsFor types.new ctxs.now g walk.new (deliver (given_at types.old given)
+        → StandsFor types.new ctxs.now g walk.new (deliver (given_at types.old given.entry)
         (frame_at types.old ctxs.now place frame.old ∷ frames_at types.old ctxs.now frames) nodes)) }
     ensures given { IfOk result (λ given. IfSome given (IsGivenOf types.new)) }
     ensures shorter { IfOk result (λ given. IfSome given (λ g. length walk.new.frames.items ≡ length walk.old.frames.items)) }
@@ -91,16 +91,16 @@ fn pass(
 }
 
 // Gives something to the innermost frame, and where that is whole, what it gives to the next one, and so on.
-fn hand_on(
+fn hand_on<'t>(
     alloc: Global,
     types: &mut TypeTable,
     ctxs: &CtxTable,
-    walk: &mut Walk,
-    given: Option<Given>,
+    walk: &mut Walk<'t>,
+    given: Option<Given<'t>>,
 ) -> Result<(), NoMemory>
     requires frames { AreFramesOf types.old ctxs.now walk.old.frames.items }
     requires given { IfSome given (IsGivenOf types.old) }
-    ensures state { OnOk result ((s : State) → StandsFor types.old ctxs.now given walk.old s → StandsFor types.new ctxs.now None walk.new s) }
+    ensures state { OnOk result ((s : State) → StandsFor types.old ctxs.now given.entry walk.old s → StandsFor types.new ctxs.now None walk.new s) }
     ensures frames { OnOk result (AreFramesOf types.new ctxs.now walk.new.frames.items) }
     ensures kept { KeepsTypes types.old types.new }
 {
@@ -115,14 +115,14 @@ fn hand_on(
 }
 
 // Judges a node, of which this is demanded, as far as it can be, and tells what it gives.
-fn begin(
+fn begin<'t>(
     alloc: Global,
     types: &mut TypeTable,
     ctxs: &CtxTable,
-    walk: &mut Walk,
-    node: &Node,
+    walk: &mut Walk<'t>,
+    node: &'t Node,
     demand: Demand,
-) -> Result<Option<Given>, NoMemory>
+) -> Result<Option<Given<'t>>, NoMemory>
     requires frames { AreFramesOf types.old ctxs.now walk.old.frames.items }
     requires demand { IsDemandOf types.old ctxs.now demand }
     ensures state { IfOk result (λ given. (s : State) → StandsFor types.old ctxs.now None walk.old s
@@ -131,9 +131,9 @@ fn begin(
     ensures frames { OnOk result (AreFramesOf types.new ctxs.now walk.new.frames.items) }
     ensures kept { KeepsTypes types.old types.new }
 {
-    match node.what {
+    match &node.what {
         What::Vertex(vertex) => {
-            let begun = fresh(types, vertex.ctor, demand);
+            let begun = fresh(types, &vertex.ctor, demand);
             go_on(alloc, types, ctxs, walk, &begun)
         }
         What::Conflict(_, count) => {
@@ -141,26 +141,26 @@ fn begin(
                 ctx: demand.ctx,
                 mode: Mode::Syn,
             };
-            walk.frames.push(Frame::Several(each, count))?;
+            walk.frames.push(Frame::Several(each, *count))?;
             Ok(None)
         }
         What::Hole(_) | What::MultiRef(_) | What::CycleRef(_) => Ok(Some(nothing(types))),
     }
 }
 
-fn innermost(frames: &[Frame]) -> Option<&Frame>
+fn innermost<'f, 't>(frames: &'f [Frame<'t>]) -> Option<&'f Frame<'t>>
     ensures { option_map (λ frame. frame.now) result ≡ slice_get frames.now (length frames.now - 1) }
 {
     frames.last()
 }
 
 // Takes the next node.
-pub(crate) fn take(
+pub(crate) fn take<'t>(
     alloc: Global,
     types: &mut TypeTable,
     ctxs: &mut CtxTable,
-    walk: &mut Walk,
-    node: &Node,
+    walk: &mut Walk<'t>,
+    node: &'t Node,
 ) -> Result<(), NoMemory>
     requires frames { AreFramesOf types.old ctxs.old walk.old.frames.items }
     ensures state { OnOk result ((s : State) → StandsFor types.old ctxs.old None walk.old s

@@ -1,9 +1,9 @@
-use Rattle.std.proofs.Common.{◌≡◌, ◌∷◌, ◌+◌, ◌++◌, drop, take, List, [], ap, ◌∙◌, subst, arith}
+use Rattle.std.proofs.Common.{◌≡◌, ◌∷◌, ◌+◌, ◌++◌, drop, take, List, [], ap, sym, ◌∙◌, subst, arith}
 use Rattle.std.specs.List.{AllByRecursion}
 use Rattle.std.proofs.lemmas.Grind.{common_steps}
 use Rattle.graph_table.specs.declared.numbered.Numbered.{Numbered}
 use Rattle.graph_table.specs.Table.{live}
-use Rattle.grove_decompose.specs.Trees.{vertices_of}
+use Rattle.grove_decompose.specs.Trees.{OnlyInner, vertices_of}
 use Rattle.marking.specs.Reading.{meant_nodes}
 use Rattle.grove_answers.specs.Program.{IsHead}
 use Rattle.grove_answers.proofs.Heads.{vertices-append}
@@ -26,17 +26,18 @@ loop-head-preserved g c =
     let left : drop c.loop-head.head-index heads ≡ head ∷ drop (c.loop-head.head-index + 1) heads = grind (arith, common_steps, c.head-item.is) in
     let of_left : AllByRecursion (IsHead c.args.table.now) (head ∷ drop (c.loop-head.head-index + 1) heads) = subst (AllByRecursion (IsHead c.args.table.now)) left c.loop-head.invariant.heads in
     let all : vertices_of (take (c.loop-head.head-index + 1) heads) ≡ vertices_of before ++ head.vertex ∷ [] = ap vertices_of first ∙ vertices-append before (head ∷ []) in
-    let part = c.in_ok-part.part in
+    let tree = c.in_ok-tree.tree in
+    let marked = c.in_ok-marked.marked in
     record {
       reported = reported_one_more g.R.Report.takes (live c.args.table.now) g.met.R.Report.takes_more (vertices_of (take (c.loop-head.head-index + 1) heads)) (vertices_of before) head.vertex
-          part.tree (meant_nodes c.part.new.self.types part.marked) c.args.report.now c.loop-head.report c.take.new.self all c.loop-head.invariant.reported
-          c.in_ok-part.ensures.tree c.in_ok-part.ensures.marked c.in_ok-take.ensures;
+          tree (meant_nodes c.marking.new.self.types marked) c.args.report.now c.loop-head.report c.take.new.self all c.loop-head.invariant.reported
+          c.in_ok-tree.ensures.tree c.in_ok-marked.ensures.marked c.in_ok-take.ensures;
       heads = of_left.1;
-      seen = c.in_ok-part.ensures.seen;
+      seen = subst (OnlyInner c.args.table.now) (sym c.in_ok-marked.ensures.seen) c.in_ok-tree.ensures.seen;
     }
 
-pub part-requires-clause-head : goal.part-requires-clause-head
-part-requires-clause-head g c =
+pub tree-requires-clause-head : goal.tree-requires-clause-head
+tree-requires-clause-head g c =
     let heads : List Numbered = c.args.heads.now in
     let left : drop c.loop-head.head-index heads ≡ c.head-item.result ∷ drop (c.loop-head.head-index + 1) heads = grind (arith, common_steps, c.head-item.is) in
     let of_left : AllByRecursion (IsHead c.args.table.now) (c.head-item.result ∷ drop (c.loop-head.head-index + 1) heads) = subst (AllByRecursion (IsHead c.args.table.now)) left c.loop-head.invariant.heads in

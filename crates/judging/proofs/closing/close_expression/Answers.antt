@@ -4,8 +4,11 @@ use Rattle.mark_step.specs.Node.{wanted_at, marked_at, types_done}
 use Rattle.judging.specs.Machine.{expression_added, expression_of}
 use Rattle.judging.specs.Frames.{opened_at}
 use Rattle.judging.proofs.Kept.{wanted_kept}
-use Rattle.judging.proofs.Views.{expression_is, done_is}
+use Rattle.judging.proofs.Views.{expression_is, done_is, node_is}
 use Rattle.judging.proofs.closing.close_expression.Goals as goal
+
+pub settle-requires-clause-numbers : goal.settle-requires-clause-numbers
+settle-requires-clause-numbers c = node_is c.args.types.now c.args.ctxs.now c.args.vertex.now c.view-view.result c.requires.vertex c.view-view.ensures
 
 pub returns-clause-added : goal.returns-clause-added
 returns-clause-added c =

@@ -8,7 +8,7 @@ use Rattle.mark_step.specs.Step.{demand}
 use Rattle.mark_step.specs.Node.{types_before}
 use Rattle.judging.specs.Machine.{expression_of, demanded_by}
 use Rattle.judging.specs.Frames.{opened_at}
-use Rattle.judging.proofs.Views.{expression_is, before_is}
+use Rattle.judging.proofs.Views.{expression_is, before_is, node_is}
 use Rattle.judging.proofs.opening.demand_at.Goals as goal
 
 -- the test finds the sort of expressions
@@ -18,6 +18,9 @@ exp_found (Some Exp) e = refl
 exp_found (Some Top) e = absurd cc
 exp_found (Some Pat) e = absurd cc
 exp_found (Some TypeSort) e = absurd cc
+
+pub child_demand-requires-clause-numbers : goal.child_demand-requires-clause-numbers
+child_demand-requires-clause-numbers c = node_is c.args.types.now c.args.ctxs.now c.args.vertex.now c.view-view.result c.requires.vertex c.view-view.ensures
 
 pub returns-then-eq-2-clause-demand : goal.returns-then-eq-2-clause-demand
 returns-then-eq-2-clause-demand c =

@@ -9,6 +9,6 @@ pub returns-in-Case : goal.returns-in-Case
 returns-in-Case c =
     let vertex = c.args.vertex.now in
     let types = c.args.types.now in
-    let gave = gave_is types vertex 3 c.index-vertex-3.result c.requires (omega arith) in
+    let gave = gave_is types vertex 3 vertex.given.first c.requires (omega arith) in
     c.named.ensures.name
     ∙ sym (ap (λ ctor. (bound_by ctor (map (given_at types) (given_before vertex))).second) c.in-Case.is ∙ ap (λ (g : machine.Given). g.name) gave)
