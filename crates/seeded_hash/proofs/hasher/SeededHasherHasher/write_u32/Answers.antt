@@ -1,0 +1,9 @@
+use Rattle.std.proofs.Common.{sym, ap, ◌∙◌}
+use Rattle.std.specs.Hash.{le_bytes}
+use Rattle.std.proofs.lemmas.Nat.{from_le_bytes-to_le_bytes_4}
+use Rattle.seeded_hash.specs.Hashing.{with_word, with_bytes}
+use Rattle.seeded_hash.proofs.hasher.SeededHasherHasher.write_u32.Goals as goal
+
+pub returns : goal.returns
+unfolding with_bytes le_bytes
+returns c = c.add.ensures ∙ ap (with_word c.args.self.now) c.from.ensures ∙ ap (with_word c.args.self.now) (sym (from_le_bytes-to_le_bytes_4 c.args.i c.ranges.i.fits))
