@@ -11,6 +11,7 @@ use crate::origin::Origin;
 use edge_index::EdgeIndex;
 use grove_edits::{Edge, Vertex};
 use grove_sorts::Position;
+use seeded_hash::HashSeed;
 use std::alloc::Global;
 use std::marker::Model;
 use std::sync::ledger::Ledger;
@@ -32,11 +33,19 @@ impl Model for ChildIndex {
 }
 
 impl ChildIndex {
+    /// An index of no edges, for vertices that are trusted.
     pub fn new(alloc: Global) -> ChildIndex
         ensures empty { live result ≡ [] }
     {
+        ChildIndex::with_seed(alloc, HashSeed::FIXED)
+    }
+
+    /// An index of no edges, which finds vertices by their hash under a seed.
+    pub fn with_seed(alloc: Global, seed: HashSeed) -> ChildIndex
+        ensures empty { live result ≡ [] }
+    {
         ChildIndex {
-            edges: EdgeIndex::new(alloc),
+            edges: EdgeIndex::with_seed(alloc, seed),
         }
     }
 

@@ -13,6 +13,7 @@ use crate::no_memory::NoMemory;
 use crate::scopes::{EMPTY, Scope, bind};
 use grove_sorts::Ident;
 use indexmap::IndexMap;
+use seeded_hash::HashSeed;
 use std::collections::BTreeMap;
 
 // How many contexts a search goes outward over at most.
@@ -37,7 +38,7 @@ pub(crate) enum Near {
 }
 
 // The way to the bindings of a context.
-fn way_of(links: &IndexMap<Link, Way>, ctx: CtxId) -> Way
+fn way_of(links: &IndexMap<Link, Way, HashSeed>, ctx: CtxId) -> Way
     requires { ctx.0 < length links.now.entries + 1 }
     ensures { result ≡ way_at links.now.entries ctx.0 }
 {
@@ -48,7 +49,7 @@ fn way_of(links: &IndexMap<Link, Way>, ctx: CtxId) -> Way
 }
 
 // What is found first of a context.
-pub(crate) fn nearest(links: &IndexMap<Link, Way>, ctx: CtxId) -> Near
+pub(crate) fn nearest(links: &IndexMap<Link, Way, HashSeed>, ctx: CtxId) -> Near
     requires { ctx.0 < length links.now.entries + 1 }
     ensures { IsNear links.now.entries ctx.0 result }
 {
@@ -65,7 +66,7 @@ pub(crate) fn nearest(links: &IndexMap<Link, Way>, ctx: CtxId) -> Near
 // The root of the map of a context, which gets one where it has none, as do the contexts around it on the way to one that has. It
 // calls itself once for each of them: `steps_inside` lets them be no more than LONGEST.
 fn map_of(
-    links: &mut IndexMap<Link, Way>,
+    links: &mut IndexMap<Link, Way, HashSeed>,
     names: &mut BTreeMap<Ident, u64>,
     scopes: &mut Vec<Scope>,
     ctx: CtxId,
@@ -89,7 +90,7 @@ fn map_of(
 
 // Over how many contexts a search goes that begins inside this one. Where they would be too many, this one gets a map.
 pub(crate) fn steps_inside(
-    links: &mut IndexMap<Link, Way>,
+    links: &mut IndexMap<Link, Way, HashSeed>,
     names: &mut BTreeMap<Ident, u64>,
     scopes: &mut Vec<Scope>,
     ctx: CtxId,

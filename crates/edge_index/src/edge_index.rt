@@ -8,6 +8,7 @@ use crate::in_order::{EdgesInOrder, make_room, put, take_out};
 use crate::no_memory::NoMemory;
 use grove_edits::Edge;
 use indexmap::IndexMap;
+use seeded_hash::HashSeed;
 use smallvec::SmallVec;
 use std::alloc::Global;
 use std::hash::Hash;
@@ -27,7 +28,7 @@ pub trait Keyed: Ord + Hash + Copy + Sized {
 #[derive(Drop)]
 pub struct EdgeIndex<K: Keyed> {
     alloc: Global,
-    lists: IndexMap<K, EdgesInOrder>,
+    lists: IndexMap<K, EdgesInOrder, HashSeed>,
     // How many keys have an edge.
     used: usize,
 }
@@ -44,7 +45,10 @@ impl<K: Keyed> Model for EdgeIndex<K> {
 }
 
 /// Counts a key once more, and tells how often it was counted.
-fn count_once_more<K: Keyed>(counts: &mut IndexMap<K, usize>, key: K) -> Result<usize, NoMemory>
+fn count_once_more<K: Keyed>(
+    counts: &mut IndexMap<K, usize, HashSeed>,
+    key: K,
+) -> Result<usize, NoMemory>
     ensures counts { OnOk result ((k : K) → number_at K.cmp counts.new.entries k ≡ number_at K.cmp counts.old.entries k + (if is_eq (K.cmp key k) then 1 else 0)) }
     ensures count { IfOk result (λ count. count ≡ number_at K.cmp counts.new.entries key) }
 {
@@ -56,14 +60,27 @@ fn count_once_more<K: Keyed>(counts: &mut IndexMap<K, usize>, key: K) -> Result<
 }
 
 impl<K: Keyed> EdgeIndex<K> {
+    /// An index of no edges, for keys that are trusted.
     pub fn new(alloc: Global) -> EdgeIndex<K>
+        ensures empty { live result ≡ [] }
+    {
+        EdgeIndex::with_seed(alloc, HashSeed::FIXED)
+    }
+
+    /// An index of no edges, which finds keys by their hash under a seed.
+    pub fn with_seed(alloc: Global, seed: HashSeed) -> EdgeIndex<K>
         ensures empty { live result ≡ [] }
     {
         EdgeIndex {
             alloc,
-            lists: IndexMap::new(alloc),
+            lists: IndexMap::with_hasher(alloc, seed),
             used: 0,
         }
+    }
+
+    /// The seed of its hashes, for what else is found by such keys.
+    pub fn seed(&self) -> HashSeed {
+        *self.lists.hasher()
     }
 
     /// The edges with a key, in edge order.
@@ -110,7 +127,7 @@ impl<K: Keyed> EdgeIndex<K> {
             // The common case, which needs no counts.
             return self.reserve(&K::of(only), 1);
         }
-        let mut counts = IndexMap::new(self.alloc);
+        let mut counts = IndexMap::with_hasher(self.alloc, self.seed());
         for edge in edges {
             let key = K::of(edge);
             let count = count_once_more(&mut counts, key)?;

@@ -20,6 +20,7 @@ use crate::parents::Parents;
 use grove_edits::{Edge, EditList, Vertex};
 use grove_sorts::Position;
 use indexmap::IndexSet;
+use seeded_hash::HashSeed;
 use std::alloc::Global;
 use std::marker::Model;
 use std::sync::ledger::Ledger;
@@ -29,7 +30,7 @@ use walks::{Few, ParentOf, Steps};
 #[derive(Drop)]
 pub struct GraphTable {
     edits: EditList,
-    numbers: IndexSet<Vertex>,
+    numbers: IndexSet<Vertex, HashSeed>,
     targets: Vec<usize>,
     around: Vec<Around>,
 }
@@ -47,13 +48,22 @@ impl Model for GraphTable {
 }
 
 impl GraphTable {
-    /// The table of a canonical list.
+    /// The table of a canonical list whose vertices are trusted.
     pub fn of(alloc: Global, edits: EditList) -> Result<GraphTable, NoMemory>
         requires { Ascends edits }
         ensures edits { IfOk result (λ table. table.edits ≡ edits) }
         ensures live { IfOk result (λ table. AreLive (graph edits) (live table)) }
     {
-        let numbering = Numbering::of(alloc, edits.as_slice())?;
+        GraphTable::with_seed(alloc, edits, HashSeed::FIXED)
+    }
+
+    /// The table of a canonical list, which finds its vertices by their hash under a seed.
+    pub fn with_seed(alloc: Global, edits: EditList, seed: HashSeed) -> Result<GraphTable, NoMemory>
+        requires { Ascends edits }
+        ensures edits { IfOk result (λ table. table.edits ≡ edits) }
+        ensures live { IfOk result (λ table. AreLive (graph edits) (live table)) }
+    {
+        let numbering = Numbering::of(alloc, edits.as_slice(), seed)?;
         let around = around_each(alloc, edits.as_slice(), &numbering)?;
         let Numbering {
             numbers,
@@ -66,6 +76,11 @@ impl GraphTable {
             targets,
             around,
         })
+    }
+
+    /// The seed of its hashes, for what else is found by vertices.
+    pub fn seed(&self) -> HashSeed {
+        *self.numbers.hasher()
     }
 
     /// How many vertices the graph has; their numbers are those below, and no vertex has two.

@@ -7,18 +7,19 @@ ghost use Rattle.graph_table.specs.Numbering.{with_vertex, AreNumbered};
 use crate::no_memory::NoMemory;
 use grove_edits::{Edit, Vertex};
 use indexmap::IndexSet;
+use seeded_hash::HashSeed;
 use std::alloc::Global;
 
 /// The vertices of some edits by number, and the numbers of the ends of each edit, in order.
 #[derive(Drop)]
 pub(crate) struct Numbering {
-    pub(crate) numbers: IndexSet<Vertex>,
+    pub(crate) numbers: IndexSet<Vertex, HashSeed>,
     pub(crate) sources: Vec<usize>,
     pub(crate) targets: Vec<usize>,
 }
 
 /// The number of a vertex, which gets the next one where it has none.
-fn number_of(numbers: &mut IndexSet<Vertex>, vertex: Vertex) -> Result<usize, NoMemory>
+fn number_of(numbers: &mut IndexSet<Vertex, HashSeed>, vertex: Vertex) -> Result<usize, NoMemory>
     ensures number { IfOk result (λ number. slice_get numbers.new.keys number ≡ Some vertex) }
     ensures vertices { OnOk result (numbers.new.keys ≡ with_vertex vertex numbers.old.keys) }
     ensures once { IsDistinct is_same_vertex numbers.new.keys }
@@ -29,10 +30,10 @@ fn number_of(numbers: &mut IndexSet<Vertex>, vertex: Vertex) -> Result<usize, No
 
 impl Numbering {
     /// The numbering of no edits, with room for so many.
-    fn of_none(alloc: Global, count: usize) -> Result<Numbering, NoMemory>
+    fn of_none(alloc: Global, count: usize, seed: HashSeed) -> Result<Numbering, NoMemory>
         ensures { IfOk result (λ n. AreNumbered [] n.numbers.keys n.sources.items n.targets.items) }
     {
-        let mut numbers = IndexSet::with_capacity(alloc, count.saturating_add(1))?;
+        let mut numbers = IndexSet::with_capacity_and_hasher(alloc, count.saturating_add(1), seed)?;
         number_of(&mut numbers, Vertex::ROOT)?;
         Ok(Numbering {
             numbers,
@@ -54,10 +55,10 @@ impl Numbering {
         Ok(())
     }
 
-    pub(crate) fn of(alloc: Global, edits: &[Edit]) -> Result<Numbering, NoMemory>
+    pub(crate) fn of(alloc: Global, edits: &[Edit], seed: HashSeed) -> Result<Numbering, NoMemory>
         ensures { IfOk result (λ n. AreNumbered edits.now n.numbers.keys n.sources.items n.targets.items) }
     {
-        let mut numbering = Numbering::of_none(alloc, edits.len())?;
+        let mut numbering = Numbering::of_none(alloc, edits.len(), seed)?;
         for edit in edits {
             numbering.add(edit)?;
         }

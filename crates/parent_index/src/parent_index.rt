@@ -10,6 +10,7 @@ use crate::no_memory::NoMemory;
 use crate::target::Target;
 use edge_index::EdgeIndex;
 use grove_edits::{Edge, Vertex};
+use seeded_hash::HashSeed;
 use std::alloc::Global;
 use std::marker::Model;
 use std::sync::ledger::Ledger;
@@ -31,12 +32,25 @@ impl Model for ParentIndex {
 }
 
 impl ParentIndex {
+    /// An index of no edges, for vertices that are trusted.
     pub fn new(alloc: Global) -> ParentIndex
         ensures empty { live result ≡ [] }
     {
+        ParentIndex::with_seed(alloc, HashSeed::FIXED)
+    }
+
+    /// An index of no edges, which finds vertices by their hash under a seed.
+    pub fn with_seed(alloc: Global, seed: HashSeed) -> ParentIndex
+        ensures empty { live result ≡ [] }
+    {
         ParentIndex {
-            edges: EdgeIndex::new(alloc),
+            edges: EdgeIndex::with_seed(alloc, seed),
         }
+    }
+
+    /// The seed of its hashes, for what else is found by vertices.
+    pub fn seed(&self) -> HashSeed {
+        self.edges.seed()
     }
 
     /// Makes room for adding each of these edges once.

@@ -10,10 +10,11 @@ use crate::relations::consistency;
 use crate::table::TypeTable;
 use crate::type_id::TypeId;
 use indexmap::IndexSet;
+use seeded_hash::HashSeed;
 use std::alloc::Global;
 
 // Puts a pairing last, where it is new.
-fn note(seen: &mut IndexSet<Pairing>, pairing: Pairing) -> Result<(), NoMemory>
+fn note(seen: &mut IndexSet<Pairing, HashSeed>, pairing: Pairing) -> Result<(), NoMemory>
     ensures added { OnOk result (HasAddedPairing pairing seen.old.keys seen.new.keys) }
     ensures contained { OnOk result (Contains seen.new.keys pairing) }
 {
@@ -76,7 +77,7 @@ impl TypeTable {
         requires { IsPairingOf self.now pairing }
         ensures { IfOk result (λ answer. answer ≡ is_consistent (type_at self.now pairing.left) (type_at self.now pairing.right)) }
     {
-        let mut seen = IndexSet::new(alloc);
+        let mut seen = IndexSet::with_hasher(alloc, self.seed());
         note(&mut seen, pairing)?;
         let mut next = 0;
         while next < seen.len() {
@@ -90,7 +91,11 @@ impl TypeTable {
     }
 
     // Whether the forms of two types agree. The pairings of their parts are noted.
-    fn visit(&self, seen: &mut IndexSet<Pairing>, pairing: Pairing) -> Result<bool, NoMemory>
+    fn visit(
+        &self,
+        seen: &mut IndexSet<Pairing, HashSeed>,
+        pairing: Pairing,
+    ) -> Result<bool, NoMemory>
         requires { IsPairingOf self.now pairing }
         ensures { IfOk result (Visits self.now pairing seen.old.keys seen.new.keys) }
     {

@@ -12,6 +12,7 @@ use crate::relations::Relation;
 use crate::table::TypeTable;
 use crate::type_id::TypeId;
 use indexmap::IndexMap;
+use seeded_hash::HashSeed;
 use std::alloc::Global;
 
 // How far the meet of two types has come.
@@ -72,7 +73,7 @@ impl TypeTable {
         ensures number { IfOk result (IsTypeOf self.new) }
         ensures kept { KeepsTypes self.old self.new }
     {
-        let mut met = IndexMap::new(alloc);
+        let mut met = IndexMap::with_hasher(alloc, self.seed());
         let mut waiting = Vec::new(alloc);
         let mut current = pairing;
         loop {
@@ -95,7 +96,7 @@ impl TypeTable {
     // Meets two types whose parts have been met, or says which parts have not.
     fn meet_step(
         &mut self,
-        met: &IndexMap<Pairing, TypeId>,
+        met: &IndexMap<Pairing, TypeId, HashSeed>,
         pairing: Pairing,
     ) -> Result<Step, NoMemory>
         requires within { IsPairingOf self.old pairing }
@@ -121,7 +122,7 @@ impl TypeTable {
 }
 
 // The meet that was noted for a pairing.
-fn find(met: &IndexMap<Pairing, TypeId>, pairing: Pairing) -> Option<TypeId>
+fn find(met: &IndexMap<Pairing, TypeId, HashSeed>, pairing: Pairing) -> Option<TypeId>
     ensures { result ≡ meet_in met.now.entries pairing }
 {
     met.get(&pairing).copied()
@@ -129,7 +130,7 @@ fn find(met: &IndexMap<Pairing, TypeId>, pairing: Pairing) -> Option<TypeId>
 
 // Notes the meet of a pairing that has none.
 fn remember(
-    met: &mut IndexMap<Pairing, TypeId>,
+    met: &mut IndexMap<Pairing, TypeId, HashSeed>,
     pairing: Pairing,
     meet: TypeId,
 ) -> Result<(), NoMemory>

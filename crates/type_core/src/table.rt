@@ -11,6 +11,7 @@ use crate::node::Node;
 use crate::relations::Relation;
 use crate::type_id::TypeId;
 use indexmap::IndexSet;
+use seeded_hash::HashSeed;
 use std::alloc::Global;
 use std::collections::BTreeMap;
 use std::marker::Model;
@@ -25,7 +26,7 @@ const BOOLEAN: u64 = 2;
 /// A table of types, each of which stands once. Its numbers keep their types for as long as the table lives.
 #[derive(Drop)]
 pub struct TypeTable {
-    nodes: IndexSet<Node>,
+    nodes: IndexSet<Node, HashSeed>,
     // What was found of pairs of types. Ordered, so that nobody makes it slow by the types that they choose.
     pub(crate) relations: BTreeMap<Pairing, Relation>,
 }
@@ -49,10 +50,10 @@ impl Model for TypeTable {
 }
 
 // The nodes of a table of the unknown type and the base types.
-fn base_nodes(alloc: Global) -> Result<IndexSet<Node>, NoMemory>
+fn base_nodes(alloc: Global, seed: HashSeed) -> Result<IndexSet<Node, HashSeed>, NoMemory>
     ensures { IfOk result (λ nodes. nodes.keys ≡ Node.Unknown ∷ Node.Num ∷ Node.Boolean ∷ []) }
 {
-    let mut nodes = IndexSet::new(alloc);
+    let mut nodes = IndexSet::with_hasher(alloc, seed);
     nodes.insert(Node::Unknown)?;
     nodes.insert(Node::Num)?;
     nodes.insert(Node::Boolean)?;
@@ -60,7 +61,7 @@ fn base_nodes(alloc: Global) -> Result<IndexSet<Node>, NoMemory>
 }
 
 // The place of a node, which goes last where it is new.
-fn place_of(nodes: &mut IndexSet<Node>, node: Node) -> Result<usize, NoMemory>
+fn place_of(nodes: &mut IndexSet<Node, HashSeed>, node: Node) -> Result<usize, NoMemory>
     ensures within { IfOk result (λ place. place < length nodes.new.keys) }
     ensures node { IfOk result (λ place. node_at nodes.new.keys place ≡ node) }
     ensures added { OnOk result (HasAddedNode node nodes.old.keys nodes.new.keys) }
@@ -72,15 +73,27 @@ fn place_of(nodes: &mut IndexSet<Node>, node: Node) -> Result<usize, NoMemory>
 }
 
 impl TypeTable {
-    /// A table of the unknown type and the base types.
+    /// A table of the unknown type and the base types, for types that are trusted.
     pub fn new(alloc: Global) -> Result<TypeTable, NoMemory>
         ensures types { IfOk result (λ table. table ≡ base_types) }
     {
-        let nodes = base_nodes(alloc)?;
+        TypeTable::with_seed(alloc, HashSeed::FIXED)
+    }
+
+    /// A table of the unknown type and the base types, which finds types by their hash under a seed.
+    pub fn with_seed(alloc: Global, seed: HashSeed) -> Result<TypeTable, NoMemory>
+        ensures types { IfOk result (λ table. table ≡ base_types) }
+    {
+        let nodes = base_nodes(alloc, seed)?;
         Ok(TypeTable {
             nodes,
             relations: BTreeMap::new(alloc),
         })
+    }
+
+    // The seed of its hashes, for what else is found by types.
+    pub(crate) fn seed(&self) -> HashSeed {
+        *self.nodes.hasher()
     }
 
     /// Two numbers of one table are equal exactly where their types are: a law, which runs no code.
