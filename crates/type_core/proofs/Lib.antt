@@ -4,6 +4,8 @@ pub mod TypLemmas
 pub mod HeadLemmas
 pub mod PairingEq
 pub mod PairingLemmas
+pub mod PathLemmas
+pub mod AnswerLemmas
 pub mod MeetLemmas
 pub mod TextLemmas
 pub mod RelationLemmas

@@ -1,5 +1,5 @@
 -- The walk that meets two types, part by part.
-use Rattle.std.proofs.Common.{◌≡◌, ◌≢◌, ℕ, ◌<◌, ◌≤◌, ◌⊎◌, true, false, None, Some, List, [], ◌∷◌, ◌++◌, refl, sym, ap, subst, ◌∙◌, inl, inr, arith, true≢false}
+use Rattle.std.proofs.Common.{◌≡◌, ◌≢◌, ◌<◌, ◌⊎◌, true, false, None, Some, List, [], ◌∷◌, ◌++◌, sym, ap, subst, ◌∙◌, inl, inr, arith, true≢false}
 use Rattle.std.proofs.lemmas.Bool.{cases_Bool}
 use Rattle.type_core.specs.declared.heads.Pairing.{Pairing}
 use Rattle.type_core.specs.declared.meeting.Step.TheVariants.{Done, Waits}
@@ -9,10 +9,12 @@ use Rattle.type_core.specs.Typ.{Typ, is_consistent, meet}
 use Rattle.type_core.specs.TypeTable.{type_at, KeepsTypes}
 use Rattle.type_core.specs.Heads.{IsPairingOf, meet_of}
 use Rattle.type_core.specs.Pairings.{is_consistent_pairing}
-use Rattle.type_core.specs.Meets.{meet_in, IsMeetOf, AreMeets, HasMeet, StepOf}
+use Rattle.type_core.specs.Meets.{IsMeetOf, AreMeets, StepOf}
+use Rattle.type_core.specs.Noted.{noted_in, HasNoted}
 use Rattle.type_core.proofs.NodeLemmas.{IsTypeOf-kept, KeepsTypes-trans}
 use Rattle.type_core.proofs.PairingEq.{reflexive, sound}
 use Rattle.type_core.proofs.PairingLemmas.{inconsistent_from_clash}
+use Rattle.type_core.proofs.PathLemmas.{bottom, IsPath, bottom-push, IsPath-push, IsPath-pop, IsPath-current, IsPath-weaker}
 
 pub consistent_not_clash : (table : List Typ) (p : Pairing) → is_consistent_pairing table p ≡ true → meet_of table p ≡ None → ⊥
 consistent_not_clash table p c e = true≢false (sym c ∙ inconsistent_from_clash table p e)
@@ -36,51 +38,11 @@ IsMeetOf-kept old new kept p m h = record {
   meet = meet_of-kept old new kept p h.within ∙ h.meet ∙ ap Some (sym (kept.types m h.number));
 }
 
--- the first of the pairings that wait, or the current one
-abbrev pub bottom : List Pairing → Pairing → Pairing
-bottom [] current = current
-bottom (p ∷ ps) current = p
-
--- the pairings that wait, from the first on, and then the current one: G holds of each, and their left numbers fall
-abbrev pub IsPath : (Pairing → Type 0) → List Pairing → Pairing → Type 0
-IsPath G [] current = G current
-IsPath G (p ∷ ps) current = G p × ((bottom ps current).left.0 < p.left.0) × IsPath G ps current
-
-bottom-push : (ps : List Pairing) (p q : Pairing) → bottom (ps ++ p ∷ []) q ≡ bottom ps p
-bottom-push [] p q = refl
-bottom-push (r ∷ ps) p q = refl
-
-IsPath-push : (G : Pairing → Type 0) (ps : List Pairing) (p q : Pairing) → IsPath G ps p → G q → q.left.0 < p.left.0 → IsPath G (ps ++ p ∷ []) q
-IsPath-push G [] p q path good lt = (path, lt, good)
-IsPath-push G (r ∷ ps) p q path good lt =
-    (path.0, subst (λ b. b.left.0 < r.left.0) (sym (bottom-push ps p q)) path.1, IsPath-push G ps p q path.2 good lt)
-
-IsPath-pop : (G : Pairing → Type 0) (ps : List Pairing) (p q : Pairing) → IsPath G (ps ++ p ∷ []) q → IsPath G ps p × (q.left.0 < p.left.0)
-IsPath-pop G [] p q path = (path.0, path.1)
-IsPath-pop G (r ∷ ps) p q path =
-    let rest = IsPath-pop G ps p q path.2 in ((path.0, subst (λ b. b.left.0 < r.left.0) (bottom-push ps p q) path.1, rest.0), rest.1)
-
-pub IsPath-current : (G : Pairing → Type 0) (ps : List Pairing) (p : Pairing) → IsPath G ps p → G p
-IsPath-current G [] p path = path
-IsPath-current G (r ∷ ps) p path = IsPath-current G ps p path.2
-
-IsPath-above : (G : Pairing → Type 0) (ps : List Pairing) (p : Pairing) → IsPath G ps p → p.left.0 ≤ (bottom ps p).left.0
-IsPath-above G [] p path = omega arith
-IsPath-above G (r ∷ ps) p path = let le = IsPath-above G ps p path.2 in let lt = path.1 in omega (arith, le, lt)
-
--- what follows from G above a left number holds along a path above it
-IsPath-weaker : (G H : Pairing → Type 0) (k : ℕ) → ((q : Pairing) → k < q.left.0 → G q → H q) → (ps : List Pairing) (p : Pairing) → k < p.left.0 → IsPath G ps p → IsPath H ps p
-IsPath-weaker G H k f [] p lt path = f p lt path
-IsPath-weaker G H k f (r ∷ ps) p lt path =
-    let le = IsPath-above G ps p path.2 in
-    let below = path.1 in
-    (f r (omega (arith, lt, le, below)) path.0, path.1, IsPath-weaker G H k f ps p lt path.2)
-
 -- a pairing whose meet is to be found
 pub record IsPending (table : List Typ) (met : List (Pairing × TypeId)) (p : Pairing) : Type 0 where
   pub within : IsPairingOf table p
   pub consistent : is_consistent_pairing table p ≡ true
-  pub unmet : meet_in met p ≡ None
+  pub unmet : noted_in met p ≡ None
 
 -- the walk from root, which began over the table `start`
 pub record IsMeeting (start : List Typ) (root : Pairing) (table : List Typ) (met : List (Pairing × TypeId)) (waiting : List Pairing) (current : Pairing) : Type 0 where
@@ -90,16 +52,16 @@ pub record IsMeeting (start : List Typ) (root : Pairing) (table : List Typ) (met
   pub kept : KeepsTypes start table
 
 AreMeets-more : (old new : List Typ) (met more : List (Pairing × TypeId)) (p : Pairing) (m : TypeId) → KeepsTypes old new → AreMeets old met → IsMeetOf new p m
-    → HasMeet met p m more → AreMeets new more
+    → HasNoted met p m more → AreMeets new more
 AreMeets-more old new met more p m kept meets here has = record { each = λ q n e. by q n e (cases_Bool (pairing_eq.eq-value.it q p)) }
   where
     some : (x y : TypeId) → Some x ≡ Some y → x ≡ y
     some x y e = cc
 
-    by : (q : Pairing) (n : TypeId) → meet_in more q ≡ Some n → (pairing_eq.eq-value.it q p ≡ true) ⊎ (pairing_eq.eq-value.it q p ≡ false) → IsMeetOf new q n
+    by : (q : Pairing) (n : TypeId) → noted_in more q ≡ Some n → (pairing_eq.eq-value.it q p ≡ true) ⊎ (pairing_eq.eq-value.it q p ≡ false) → IsMeetOf new q n
     by q n e (inl same) =
         let q_is : q ≡ p = sound q p same in
-        let n_is : m ≡ n = some m n (sym has.here ∙ sym (ap (meet_in more) q_is) ∙ e) in
+        let n_is : m ≡ n = some m n (sym has.here ∙ sym (ap (noted_in more) q_is) ∙ e) in
         subst (λ x. IsMeetOf new x n) (sym q_is) (subst (IsMeetOf new p) n_is here)
     by q n e (inr differ) =
         let q_is_not : q ≢ p = λ same. true≢false (sym (reflexive q) ∙ ap (pairing_eq.eq-value.it q) same ∙ differ) in
@@ -124,7 +86,7 @@ module _ (start : List Typ) (root : Pairing) where
     })
 
     pub IsMeeting-done : (m : TypeId) (more : List (Pairing × TypeId)) (rest : List Pairing) (next : Pairing) → StepOf table new met current (Done m)
-        → HasMeet met current m more → waiting ≡ rest ++ next ∷ [] → IsMeeting start root new more rest next
+        → HasNoted met current m more → waiting ≡ rest ++ next ∷ [] → IsMeeting start root new more rest next
     IsMeeting-done m more rest next step has split =
         (let popped = IsPath-pop (IsPending table met) rest next current (subst (λ w. IsPath (IsPending table met) w current) split walk.path) in record {
           first = sym (bottom-push rest next current) ∙ sym (ap (λ w. bottom w current) split) ∙ walk.first;

@@ -7,3 +7,4 @@ pub mod Relations
 pub mod Typ
 pub mod TypeTable
 pub mod TypCode
+pub mod Noted

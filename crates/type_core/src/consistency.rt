@@ -1,25 +1,26 @@
-ghost use Rattle.std.specs.Prelude.{◌≡◌, ◌<◌, ◌++◌, ◌∷◌, [], true, false, length, Contains, IsOk, IfOk, OnOk, IsTrue};
+ghost use Rattle.std.specs.Prelude.{◌≡◌, [], None, IsOk, IfOk, IfSome, IfNone, OnOk};
 ghost use Rattle.type_core.specs.Typ.{is_consistent, IsAtom};
 ghost use Rattle.type_core.specs.TypeTable.{IsTypeOf, type_at};
 ghost use Rattle.type_core.specs.Heads.{IsPairingOf};
-ghost use Rattle.type_core.specs.Pairings.{HasAddedPairing, is_consistent_pairing, Visits};
+ghost use Rattle.type_core.specs.Noted.{noted_in};
+ghost use Rattle.type_core.specs.Pairings.{is_consistent_pairing, AreAnswers, VerdictOf};
 
 use crate::heads::{Heads, Pairing};
 use crate::no_memory::NoMemory;
+use crate::noted::{Noted, find, note, noted_at};
 use crate::relations::consistency;
 use crate::table::TypeTable;
 use crate::type_id::TypeId;
-use indexmap::IndexSet;
-use seeded_hash::HashSeed;
+use indexmap::IndexMap;
 use std::alloc::Global;
 
-// Puts a pairing last, where it is new.
-fn note(seen: &mut IndexSet<Pairing, HashSeed>, pairing: Pairing) -> Result<(), NoMemory>
-    ensures added { OnOk result (HasAddedPairing pairing seen.old.keys seen.new.keys) }
-    ensures contained { OnOk result (Contains seen.new.keys pairing) }
-{
-    seen.insert(pairing)?;
-    Ok(())
+// Whether two types are consistent, as far as it has come.
+#[derive(Clone, Copy)]
+pub(crate) enum Verdict {
+    // It is known whether they are.
+    Known(bool),
+    // It waits for that of these parts.
+    Waits(Pairing),
 }
 
 impl TypeTable {
@@ -37,13 +38,16 @@ impl TypeTable {
             Heads::Clash => Ok(false),
             Heads::Parts(..) => match self.known_consistency(pairing) {
                 Some(answer) => Ok(answer),
-                None => self.all_parts_consistent(alloc, pairing),
+                None => {
+                    let mut answers = IndexMap::with_hasher(alloc, self.seed());
+                    self.settle(alloc, pairing, &mut answers)
+                }
             },
         }
     }
 
-    /// Whether two types are consistent, as `consistent` says. The table keeps what it found, so that it need not go over the parts
-    /// of these two again.
+    /// Whether two types are consistent, as `consistent` says. The table keeps what it found of these two and of their parts, so that
+    /// it need not go over them again.
     pub fn relate(&mut self, alloc: Global, a: TypeId, b: TypeId) -> Result<bool, NoMemory>
         requires left { IsTypeOf self.old a }
         requires right { IsTypeOf self.old b }
@@ -67,46 +71,89 @@ impl TypeTable {
         if let Some(answer) = self.known_consistency(pairing) {
             return Ok(answer);
         }
-        let consistent = self.all_parts_consistent(alloc, pairing)?;
-        self.keep(pairing, consistency(consistent))?;
+        let mut answers = IndexMap::with_hasher(alloc, self.seed());
+        let consistent = self.settle(alloc, pairing, &mut answers)?;
+        self.keep_answers(&answers)?;
         Ok(consistent)
     }
 
-    // Goes over the pairings of parts, parts of parts and so on, each of them once.
-    fn all_parts_consistent(&self, alloc: Global, pairing: Pairing) -> Result<bool, NoMemory>
-        requires { IsPairingOf self.now pairing }
-        ensures { IfOk result (λ answer. answer ≡ is_consistent (type_at self.now pairing.left) (type_at self.now pairing.right)) }
+    // Keeps what was found of each of these pairings.
+    fn keep_answers(&mut self, answers: &Noted<bool>) -> Result<(), NoMemory>
+        requires { AreAnswers self.old answers.now.entries }
+        ensures unchanged { self.new ≡ self.old }
     {
-        let mut seen = IndexSet::with_hasher(alloc, self.seed());
-        note(&mut seen, pairing)?;
-        let mut next = 0;
-        while next < seen.len() {
-            let current = seen.as_slice()[next];
-            if !self.visit(&mut seen, current)? {
-                return Ok(false);
-            }
-            next += 1;
+        for place in 0..answers.len() {
+            let (pairing, answer) = noted_at(answers, place);
+            self.keep(pairing, consistency(answer))?;
         }
-        Ok(true)
+        Ok(())
     }
 
-    // Whether the forms of two types agree. The pairings of their parts are noted.
-    fn visit(
+    // Whether two types are consistent: each pairing of parts is answered once, and waits until those of its own parts are.
+    fn settle(
         &self,
-        seen: &mut IndexSet<Pairing, HashSeed>,
+        alloc: Global,
         pairing: Pairing,
+        answers: &mut Noted<bool>,
     ) -> Result<bool, NoMemory>
-        requires { IsPairingOf self.now pairing }
-        ensures { IfOk result (Visits self.now pairing seen.old.keys seen.new.keys) }
+        requires within { IsPairingOf self.now pairing }
+        requires none { answers.old.entries ≡ [] }
+        ensures consistent { IfOk result (λ answer. answer ≡ is_consistent_pairing self.now pairing) }
+        ensures answers { OnOk result (AreAnswers self.now answers.new.entries) }
+    {
+        let mut waiting = Vec::new(alloc);
+        let mut current = pairing;
+        loop {
+            match self.verdict(answers, current) {
+                Verdict::Waits(part) => {
+                    waiting.push(current)?;
+                    current = part;
+                }
+                Verdict::Known(answer) => {
+                    note(answers, current, answer)?;
+                    let Some(next) = waiting.pop() else {
+                        return Ok(answer);
+                    };
+                    current = next;
+                }
+            }
+        }
+    }
+
+    // Whether two types are consistent, or of which parts that has to be known first.
+    fn verdict(&self, answers: &Noted<bool>, pairing: Pairing) -> Verdict
+        requires within { IsPairingOf self.now pairing }
+        requires answers { AreAnswers self.now answers.now.entries }
+        ensures { VerdictOf self.now answers.now.entries pairing result }
     {
         match self.heads(pairing) {
-            Heads::Met(_) => Ok(true),
-            Heads::Clash => Ok(false),
-            Heads::Parts(_, first, second) => {
-                note(seen, first)?;
-                note(seen, second)?;
-                Ok(true)
-            }
+            Heads::Met(_) => Verdict::Known(true),
+            Heads::Clash => Verdict::Known(false),
+            Heads::Parts(_, first, second) => match self.answer(answers, first) {
+                None => Verdict::Waits(first),
+                Some(false) => Verdict::Known(false),
+                Some(true) => match self.answer(answers, second) {
+                    None => Verdict::Waits(second),
+                    Some(answer) => Verdict::Known(answer),
+                },
+            },
+        }
+    }
+
+    // What is known of a pairing: at once, from this walk, or from an earlier one.
+    fn answer(&self, answers: &Noted<bool>, pairing: Pairing) -> Option<bool>
+        requires within { IsPairingOf self.now pairing }
+        requires answers { AreAnswers self.now answers.now.entries }
+        ensures right { IfSome result (λ answer. answer ≡ is_consistent_pairing self.now pairing) }
+        ensures none { IfNone result (noted_in answers.now.entries pairing ≡ None) }
+    {
+        match self.heads(pairing) {
+            Heads::Met(_) => Some(true),
+            Heads::Clash => Some(false),
+            Heads::Parts(..) => match find(answers, pairing) {
+                Some(answer) => Some(answer),
+                None => self.known_consistency(pairing),
+            },
         }
     }
 }

@@ -10,6 +10,7 @@ mod laws;
 mod meeting;
 mod no_memory;
 mod node;
+mod noted;
 mod relations;
 mod table;
 mod text;

@@ -1,18 +1,19 @@
-ghost use Rattle.std.specs.Prelude.{◌≡◌, ◌<◌, ◌^◌, true, length, is_some, None, Some, Ok, IfOk, IfSome, OnOk};
+ghost use Rattle.std.specs.Prelude.{◌≡◌, ◌<◌, ◌^◌, true, length, is_some, None, Some, Ok, IfOk, IfSome, IfNone, OnOk};
 ghost use Rattle.std.specs.Option.{option_map};
 ghost use Rattle.type_core.specs.Typ as typ;
 ghost use Rattle.type_core.specs.TypeTable.{IsTypeOf, type_at, KeepsTypes};
 ghost use Rattle.type_core.specs.Heads.{IsPairingOf, meet_of};
 ghost use Rattle.type_core.specs.Pairings.{is_consistent_pairing};
-ghost use Rattle.type_core.specs.Meets.{AreMeets, IsMeetOf, meet_in, StepOf, HasMeet};
+ghost use Rattle.type_core.specs.Meets.{AreMeets, IsMeetOf, StepOf};
+ghost use Rattle.type_core.specs.Noted.{noted_in};
 
 use crate::heads::{Heads, Pairing};
 use crate::no_memory::NoMemory;
+use crate::noted::{Noted, find, note};
 use crate::relations::Relation;
 use crate::table::TypeTable;
 use crate::type_id::TypeId;
 use indexmap::IndexMap;
-use seeded_hash::HashSeed;
 use std::alloc::Global;
 
 // How far the meet of two types has come.
@@ -57,12 +58,10 @@ impl TypeTable {
         ensures number { IfOk result (IsTypeOf self.new) }
         ensures kept { KeepsTypes self.old self.new }
     {
-        if let Some(Relation::Meets(m)) = self.known(pairing) {
-            return Ok(m);
+        match self.known_meet(pairing) {
+            Some(m) => Ok(m),
+            None => self.meet_of_consistent(alloc, pairing),
         }
-        let m = self.meet_of_consistent(alloc, pairing)?;
-        self.keep(pairing, Relation::Meets(m))?;
-        Ok(m)
     }
 
     // The meet of two consistent types: each pairing of parts is met once, and waits until those of its own parts are.
@@ -86,19 +85,15 @@ impl TypeTable {
                     let Some(next) = waiting.pop() else {
                         return Ok(m);
                     };
-                    remember(&mut met, current, m)?;
+                    note(&mut met, current, m)?;
                     current = next;
                 }
             }
         }
     }
 
-    // Meets two types whose parts have been met, or says which parts have not.
-    fn meet_step(
-        &mut self,
-        met: &IndexMap<Pairing, TypeId, HashSeed>,
-        pairing: Pairing,
-    ) -> Result<Step, NoMemory>
+    // Meets two types whose parts have been met, which is kept, or says which parts have not.
+    fn meet_step(&mut self, met: &Noted<TypeId>, pairing: Pairing) -> Result<Step, NoMemory>
         requires within { IsPairingOf self.old pairing }
         requires consistent { is_consistent_pairing self.old pairing ≡ true }
         requires meets { AreMeets self.old met.now.entries }
@@ -109,37 +104,28 @@ impl TypeTable {
             Heads::Met(m) => Ok(Step::Done(m)),
             Heads::Clash => unreachable!(),
             Heads::Parts(former, first, second) => {
-                let Some(first_meet) = find(met, first) else {
+                let Some(first_meet) = self.meet_before(met, first) else {
                     return Ok(Step::Waits(first));
                 };
-                let Some(second_meet) = find(met, second) else {
+                let Some(second_meet) = self.meet_before(met, second) else {
                     return Ok(Step::Waits(second));
                 };
-                Ok(Step::Done(self.pair(former, first_meet, second_meet)?))
+                let meet = self.pair(former, first_meet, second_meet)?;
+                self.keep(pairing, Relation::Meets(meet))?;
+                Ok(Step::Done(meet))
             }
         }
     }
-}
 
-// The meet that was noted for a pairing.
-fn find(met: &IndexMap<Pairing, TypeId, HashSeed>, pairing: Pairing) -> Option<TypeId>
-    ensures { result ≡ meet_in met.now.entries pairing }
-{
-    met.get(&pairing).copied()
-}
-
-// Notes the meet of a pairing that has none.
-fn remember(
-    met: &mut IndexMap<Pairing, TypeId, HashSeed>,
-    pairing: Pairing,
-    meet: TypeId,
-) -> Result<(), NoMemory>
-    requires { meet_in met.old.entries pairing ≡ None }
-    ensures noted { IfOk result (λ _. HasMeet met.old.entries pairing meet met.new.entries) }
-    ensures small { OnOk result (length met.new.entries < 2 ^ 63) }
-{
-    met.insert(pairing, meet)?;
-    // A map's length fits its type, so the walk that notes meets here ends.
-    prove!(met.len() > 0);
-    Ok(())
+    // The meet of two types, where this walk or an earlier one found it.
+    fn meet_before(&self, met: &Noted<TypeId>, pairing: Pairing) -> Option<TypeId>
+        requires { AreMeets self.now met.now.entries }
+        ensures meet { IfSome result (IsMeetOf self.now pairing) }
+        ensures none { IfNone result (noted_in met.now.entries pairing ≡ None) }
+    {
+        match find(met, pairing) {
+            Some(meet) => Some(meet),
+            None => self.known_meet(pairing),
+        }
+    }
 }

@@ -1,6 +1,7 @@
 ghost use Rattle.std.specs.Prelude.{◌≡◌, true, false, IfSome};
 ghost use Rattle.type_core.specs.Heads.{IsPairingOf};
 ghost use Rattle.type_core.specs.Pairings.{is_consistent_pairing};
+ghost use Rattle.type_core.specs.Meets.{IsMeetOf};
 ghost use Rattle.type_core.specs.Relations.{IsRelationOf};
 
 use crate::heads::Pairing;
@@ -34,7 +35,8 @@ pub(crate) fn consistency(is_consistent: bool) -> Relation
 impl TypeTable {
     // What was found of two types before.
     pub(crate) fn known(&self, pairing: Pairing) -> Option<Relation>
-        ensures { IfSome result (IsRelationOf self.now pairing) }
+        ensures right { IfSome result (IsRelationOf self.now pairing) }
+        ensures within { IfSome result (λ _. IsPairingOf self.now pairing) }
     {
         self.relations.get(&pairing).copied()
     }
@@ -47,6 +49,16 @@ impl TypeTable {
             Relation::Apart => Some(false),
             Relation::Consistent => Some(true),
             Relation::Meets(_) => Some(true),
+        }
+    }
+
+    // The meet of two types, where that was found before.
+    pub(crate) fn known_meet(&self, pairing: Pairing) -> Option<TypeId>
+        ensures { IfSome result (IsMeetOf self.now pairing) }
+    {
+        match self.known(pairing)? {
+            Relation::Apart | Relation::Consistent => None,
+            Relation::Meets(m) => Some(m),
         }
     }
 

@@ -1,7 +1,8 @@
 use Rattle.std.proofs.Common.{subst, sym}
 use Rattle.type_core.specs.Meets.{StepOf}
 use Rattle.type_core.proofs.NodeLemmas.{KeepsTypes-trans}
-use Rattle.type_core.proofs.MeetLemmas.{IsPending, IsPath-current, IsMeeting, IsMeeting-waits, IsMeeting-done}
+use Rattle.type_core.proofs.PathLemmas.{IsPath-current}
+use Rattle.type_core.proofs.MeetLemmas.{IsPending, IsMeeting, IsMeeting-waits, IsMeeting-done}
 use Rattle.type_core.proofs.table.TypeTable.meet_of_consistent.Goals as goal
 
 pub meet_step-requires-clause-within : goal.meet_step-requires-clause-within
@@ -30,12 +31,12 @@ pub returns-in_default-clause-kept : goal.returns-in_default-clause-kept
 returns-in_default-clause-kept c =
     KeepsTypes-trans c.args.self.now c.loop-waiting.self c.meet_step.new.self c.loop-waiting.invariant.meeting.kept c.meet_step.ensures.kept
 
-pub remember-requires : goal.remember-requires
-remember-requires c =
+pub note-requires : goal.note-requires
+note-requires c =
     (IsPath-current (IsPending c.loop-waiting.self c.loop-waiting.met.entries) c.loop-waiting.waiting.items c.loop-waiting.current c.loop-waiting.invariant.meeting.path).unmet
 
-pub returns-in_err-remember-in-Done-clause-kept : goal.returns-in_err-remember-in-Done-clause-kept
-returns-in_err-remember-in-Done-clause-kept c =
+pub returns-in_err-note-in-Done-clause-kept : goal.returns-in_err-note-in-Done-clause-kept
+returns-in_err-note-in-Done-clause-kept c =
     KeepsTypes-trans c.args.self.now c.loop-waiting.self c.meet_step.new.self c.loop-waiting.invariant.meeting.kept c.meet_step.ensures.kept
 
 pub loop-waiting-preserved : goal.loop-waiting-preserved
@@ -44,6 +45,6 @@ loop-waiting-preserved c =
     let step = subst (StepOf loop.self c.meet_step.new.self loop.met.entries loop.current) c.in-Done.is c.in_ok-part.ensures.step in
     record {
       meeting = IsMeeting-done c.args.self.now c.args.pairing loop.self c.meet_step.new.self loop.met.entries loop.waiting.items loop.current loop.invariant.meeting c.meet_step.ensures.kept
-          c.in-Done.m c.remember.new.met.entries c.pop.new.self.items c.in-Some.next step c.in_ok-remember-in-Done.ensures.noted c.in-Some.ensures.items;
-      small = c.in_ok-remember-in-Done.ensures.small;
+          c.in-Done.m c.note.new.noted.entries c.pop.new.self.items c.in-Some.next step c.in_ok-note-in-Done.ensures.noted c.in-Some.ensures.items;
+      small = c.in_ok-note-in-Done.ensures.small;
     }
