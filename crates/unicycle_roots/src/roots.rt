@@ -8,6 +8,7 @@ use crate::met::walk_up;
 use crate::no_memory::NoMemory;
 use grove_edits::Vertex;
 use indexmap::IndexMap;
+use seeded_hash::HashSeed;
 use std::alloc::Global;
 use std::collections::BTreeSet;
 use std::sync::ledger::Ledger;
@@ -31,6 +32,7 @@ fn add(roots: &mut BTreeSet<Vertex>, root: Vertex) -> Result<(), NoMemory>
 /// The roots of the cycles to which the walks up from some vertices lead.
 fn roots_above<P: ParentOf, L: Ledger>(
     alloc: Global,
+    seed: HashSeed,
     vertices: &[Vertex],
     parents: &P,
     steps: &mut Steps<L>,
@@ -38,7 +40,7 @@ fn roots_above<P: ParentOf, L: Ledger>(
     ensures roots { IfOk result (λ roots. (v : Vertex) → stands_in v vertices.now ≡ true → stands_in v roots.keys ≡ is_cycle_root (P.live parents.now) v) }
     ensures ticks { steps.new ≤ steps.old + 4 * length (P.live parents.now) + 3 * length vertices.now }
 {
-    let mut met = IndexMap::new(alloc);
+    let mut met = IndexMap::with_hasher(alloc, seed);
     let mut roots = BTreeSet::new(alloc);
     for (number, start) in vertices.iter().enumerate() {
         if let Some(entry) = walk_up(start, number, &mut met, parents, steps)? {
@@ -66,9 +68,10 @@ fn held(
 }
 
 /// Those of some vertices that are the roots of cycles. However long the chains above them are, it takes no more ticks than a few for
-/// each live edge and each of these vertices.
+/// each live edge and each of these vertices. Vertices are found by their hash under a seed.
 pub fn cycle_roots<P: ParentOf, L: Ledger>(
     alloc: Global,
+    seed: HashSeed,
     vertices: &[Vertex],
     parents: &P,
     steps: &mut Steps<L>,
@@ -76,6 +79,6 @@ pub fn cycle_roots<P: ParentOf, L: Ledger>(
     ensures roots { IfOk result (λ roots. roots.items ≡ of_class Class.Cycle (P.live parents.now) vertices.now) }
     ensures ticks { steps.new ≤ steps.old + 4 * length (P.live parents.now) + 3 * length vertices.now }
 {
-    let roots = roots_above(alloc, vertices, parents, steps)?;
+    let roots = roots_above(alloc, seed, vertices, parents, steps)?;
     held(alloc, vertices, &roots)
 }
