@@ -56,7 +56,7 @@ fn decompose_counting<L: Ledger>(
     let mut steps = Steps::<L>::new(blank);
     let vertices = store.vertices(alloc)?;
     let heads = find_heads(alloc, &vertices, parents, &mut steps)?;
-    let cycles = cycle_roots(alloc, &vertices, parents, &mut steps)?;
+    let cycles = cycle_roots(alloc, parents.seed(), &vertices, parents, &mut steps)?;
     let indexes = LiveIndexes::<L> {
         children,
         parents,

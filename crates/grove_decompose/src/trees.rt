@@ -110,6 +110,6 @@ fn cycles_counting<L: Ledger>(
 {
     let mut steps = Steps::<L>::new(blank);
     let candidates = candidates_of(alloc, table, vertices, seen)?;
-    let roots = cycle_roots(alloc, &candidates, table, &mut steps)?;
+    let roots = cycle_roots(alloc, table.seed(), &candidates, table, &mut steps)?;
     with_numbers(alloc, table, &roots)
 }
