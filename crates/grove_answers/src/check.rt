@@ -16,16 +16,18 @@ use grove_printer::{Section, print_marked_lines_of};
 use grove_terms::Tree;
 use marking::MarkedTree;
 use plain_typing::is_typed;
+use seeded_hash::HashSeed;
 use std::alloc::Global;
 use text_parts::write_number;
 use type_core::TypeTable;
 
 /// The text of `check`, of a canonical list: the lines of `show` with a mark, and how many trees there are and how many are typed.
-pub fn check_text(alloc: Global, edits: EditList) -> Result<Vec<u8>, NoMemory>
+/// What it looks up it finds by hashes under a seed.
+pub fn check_text(alloc: Global, edits: EditList, seed: HashSeed) -> Result<Vec<u8>, NoMemory>
     requires { Ascends edits }
     ensures { IfOk result (λ text. IsCheckText (graph edits) text.items) }
 {
-    let program = Program::of(alloc, edits)?;
+    let program = Program::of(alloc, edits, seed)?;
     let mut checked = Checked {
         text: Vec::new(alloc),
         roots: 0,

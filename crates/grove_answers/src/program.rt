@@ -6,6 +6,7 @@ use crate::no_memory::NoMemory;
 use graph_table::{GraphTable, Numbered};
 use grove_decompose::{NumberedHeads, heads_of};
 use grove_edits::EditList;
+use seeded_hash::HashSeed;
 use std::alloc::Global;
 
 /// A graph by numbers, and the vertices that head its trees but for those of cycles.
@@ -19,12 +20,12 @@ pub(crate) struct Program {
 
 impl Program {
     /// The program of a canonical list.
-    pub(crate) fn of(alloc: Global, edits: EditList) -> Result<Program, NoMemory>
+    pub(crate) fn of(alloc: Global, edits: EditList, seed: HashSeed) -> Result<Program, NoMemory>
         requires { Ascends edits }
         ensures program { IfOk result IsProgram }
         ensures edits { IfOk result (λ program. program.table.edits ≡ edits) }
     {
-        let table = GraphTable::of(alloc, edits)?;
+        let table = GraphTable::with_seed(alloc, edits, seed)?;
         let vertices = table.in_order(alloc)?;
         let heads = heads_of(alloc, &table, &vertices)?;
         Ok(Program {

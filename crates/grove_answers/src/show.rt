@@ -13,15 +13,17 @@ use grove_edits::EditList;
 use grove_printer::{Section, print_heading, print_tree};
 use grove_terms::Tree;
 use marking::MarkedTree;
+use seeded_hash::HashSeed;
 use std::alloc::Global;
 use type_core::TypeTable;
 
-/// The text of `show`, of a canonical list: under a heading for each of the three lists of trees a line for each node.
-pub fn print_text(alloc: Global, edits: EditList) -> Result<Vec<u8>, NoMemory>
+/// The text of `show`, of a canonical list: under a heading for each of the three lists of trees a line for each node. What it
+/// looks up it finds by hashes under a seed.
+pub fn print_text(alloc: Global, edits: EditList, seed: HashSeed) -> Result<Vec<u8>, NoMemory>
     requires { Ascends edits }
     ensures { IfOk result (λ text. IsPrintText (graph edits) text.items) }
 {
-    let program = Program::of(alloc, edits)?;
+    let program = Program::of(alloc, edits, seed)?;
     let mut shown = Shown {
         text: Vec::new(alloc),
     };

@@ -33,8 +33,8 @@ impl Walk {
     {
         Ok(Walk {
             seen: Seen::none_of(alloc, table)?,
-            types: TypeTable::new(alloc)?,
-            contexts: CtxTable::new(alloc)?,
+            types: TypeTable::with_seed(alloc, table.seed())?,
+            contexts: CtxTable::with_seed(alloc, table.seed())?,
         })
     }
 

@@ -3,6 +3,7 @@
 
 use grove_io::{ReaderSource, WriterSink};
 use grove_top::{exit_status, run};
+use seeded_hash::HashSeed;
 use std::alloc::Global;
 use std::env;
 use std::process::ExitCode;
@@ -10,9 +11,11 @@ use std::rt::Env;
 
 fn main(rt: HostRuntime) -> ExitCode {
     let words = words(&rt, rt.alloc());
+    // Where the machine draws no seed the text is answered all the same, only that its author could know the seed.
+    let seed = HashSeed::random(&rt).unwrap_or(HashSeed::FIXED);
     let mut source = ReaderSource::new(rt.stdin());
     let mut sink = WriterSink::new(rt.stdout());
-    let outcome = run(rt.alloc(), &words, &mut source, &mut sink);
+    let outcome = run(rt.alloc(), seed, &words, &mut source, &mut sink);
     ExitCode::from(exit_status(outcome.status))
 }
 

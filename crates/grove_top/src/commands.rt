@@ -10,6 +10,7 @@ use edit_text::{TextFault, write_version};
 use grove_answers::{append_canonical_text, check_text, print_text};
 use grove_edits::EditList;
 use grove_sorts::Version;
+use seeded_hash::HashSeed;
 use std::alloc::Global;
 use text_parts::write_number;
 
@@ -21,13 +22,18 @@ pub(crate) struct Due {
 }
 
 /// What is due for a command on an input of at most `MOST_BYTES` bytes.
-pub(crate) fn form_due(alloc: Global, command: Command, text: &[u8]) -> Result<Due, NoMemory>
+pub(crate) fn form_due(
+    alloc: Global,
+    seed: HashSeed,
+    command: Command,
+    text: &[u8],
+) -> Result<Due, NoMemory>
     requires { length text.now ≤ most_bytes }
     ensures { IfOk result (λ due. IsCommandDue command text.now due.status due.text.items) }
 {
     match read_edits(alloc, text) {
         Ok((version, edits)) => {
-            let text = answer(alloc, command, version, edits)?;
+            let text = answer(alloc, seed, command, version, edits)?;
             Ok(Due {
                 status: Status::Done,
                 text,
@@ -41,6 +47,7 @@ pub(crate) fn form_due(alloc: Global, command: Command, text: &[u8]) -> Result<D
 
 fn answer(
     alloc: Global,
+    seed: HashSeed,
     command: Command,
     version: Version,
     edits: EditList,
@@ -50,8 +57,8 @@ fn answer(
 {
     Ok(match command {
         Command::Merge => merge_text(alloc, version, &edits)?,
-        Command::Show => print_text(alloc, edits)?,
-        Command::Check => check_text(alloc, edits)?,
+        Command::Show => print_text(alloc, edits, seed)?,
+        Command::Check => check_text(alloc, edits, seed)?,
     })
 }
 

@@ -1,5 +1,6 @@
 use super::*;
 use grove_io::{MemorySink, MemorySource};
+use seeded_hash::HashSeed;
 use std::alloc::Global;
 use std::test::Fail;
 use text_parts::write_number;
@@ -21,7 +22,7 @@ fn merged(
     words.push(String::from_str(alloc, "merge")?)?;
     let mut source = MemorySource::new(text.to_vec(alloc)?, 1, [failing_read].to_vec(alloc)?);
     let mut sink = MemorySink::new(alloc, 4096, 4, [failing_write].to_vec(alloc)?)?;
-    let outcome = run(alloc, &words, &mut source, &mut sink);
+    let outcome = run(alloc, HashSeed::FIXED, &words, &mut source, &mut sink);
     Ok((outcome.status, sink.taken().to_vec(alloc)?))
 }
 
@@ -95,7 +96,7 @@ fn the_length_is_judged_before_the_text(rt: HostRuntime) -> Result<(), Fail> {
         let text = vec![in alloc; b'\n'; MOST_BYTES + more]?;
         let mut source = MemorySource::new(text, 65536, Vec::new(alloc));
         let mut sink = MemorySink::new(alloc, 64, 64, Vec::new(alloc))?;
-        let outcome = run(alloc, &words, &mut source, &mut sink);
+        let outcome = run(alloc, HashSeed::FIXED, &words, &mut source, &mut sink);
         if more == 0 {
             assert_eq!(rt;
                 outcome.status,
@@ -119,7 +120,7 @@ fn other_words_are_told_the_usage(rt: HostRuntime) -> Result<(), Fail> {
     let alloc = rt.alloc();
     let mut source = MemorySource::new(Vec::new(alloc), 1, Vec::new(alloc));
     let mut sink = MemorySink::new(alloc, 64, 64, Vec::new(alloc))?;
-    let outcome = run(alloc, &[], &mut source, &mut sink);
+    let outcome = run(alloc, HashSeed::FIXED, &[], &mut source, &mut sink);
     assert_eq!(rt; outcome.status, Status::Usage);
     assert_eq!(rt; exit_status(outcome.status), 2);
     assert_eq!(rt;
@@ -135,7 +136,7 @@ fn written(alloc: Global, word: &str, text: &[u8]) -> Result<Vec<u8>, Fail> {
     words.push(String::from_str(alloc, word)?)?;
     let mut source = MemorySource::new(text.to_vec(alloc)?, 65536, Vec::new(alloc));
     let mut sink = MemorySink::new(alloc, 4_194_304, 65536, Vec::new(alloc))?;
-    let outcome = run(alloc, &words, &mut source, &mut sink);
+    let outcome = run(alloc, HashSeed::FIXED, &words, &mut source, &mut sink);
     match outcome.status {
         Status::Done => Ok(sink.taken().to_vec(alloc)?),
         _ => Err("the command is not done")?,

@@ -13,6 +13,7 @@ use crate::commands::form_due;
 use crate::limit::MOST_BYTES;
 use crate::outcome::{Outcome, Status};
 use grove_io::{InputFault, Sink, Source, read_all, write_out};
+use seeded_hash::HashSeed;
 use std::alloc::Global;
 
 const USAGE: &[u8] = b"usage: grove merge | show | check | run | gen N\n";
@@ -22,9 +23,11 @@ const TOO_LONG: &[u8] = b"too long\n";
 /// Runs a command: `words` are those after the program's name.
 ///
 /// The words are judged first, then the length of the input, then its text. The whole output is formed before anything
-/// is written. A read fault comes before `TooLong` and `Malformed`, and a write fault on their lines replaces them.
+/// is written. What is written is the same whatever the seed is: where nobody can choose the seed, nobody can write a text whose vertices,
+/// types and contexts are slow to look up. A read fault comes before `TooLong` and `Malformed`, and a write fault on their lines replaces them.
 pub fn run<S: Source, K: Sink>(
     alloc: Global,
+    seed: HashSeed,
     words: &[String],
     source: &mut S,
     sink: &mut K,
@@ -47,12 +50,13 @@ pub fn run<S: Source, K: Sink>(
         → ((text due : List ℕ) (status : Status) → Gave (S.left source.old) text (S.left source.new) → IsDue words.now text status due → length due ≤ room)
         → K.faults sink.new ≡ K.faults sink.old }
 {
-    let status = answer(alloc, words, source, sink);
+    let status = answer(alloc, seed, words, source, sink);
     Outcome { status }
 }
 
 fn answer<S: Source, K: Sink>(
     alloc: Global,
+    seed: HashSeed,
     words: &[String],
     source: &mut S,
     sink: &mut K,
@@ -71,7 +75,7 @@ fn answer<S: Source, K: Sink>(
         return write(sink, Status::Usage, USAGE);
     };
     match read_all(alloc, source, MOST_BYTES) {
-        Ok(text) => match form_due(alloc, command, &text) {
+        Ok(text) => match form_due(alloc, seed, command, &text) {
             Ok(due) => write(sink, due.status, &due.text),
             Err(_) => Status::NoMemory,
         },
