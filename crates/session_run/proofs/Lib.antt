@@ -1,0 +1,2 @@
+pub mod OneJournal
+pub mod SameCommands

@@ -1,0 +1,13 @@
+pub mod Words
+pub mod Statements
+pub mod Scripts
+pub mod Views
+pub mod Told
+pub mod Good
+pub mod OneSession
+pub mod Kept
+pub mod Whole
+pub mod SoFar
+pub mod NotRead
+pub mod InTwo
+pub mod Examples

@@ -1,0 +1,42 @@
+//! Sessions as text, in two versions: replicas, the authors who act on them, and what happens in which order. A session has one text,
+//! and a text that is no session's has a first bad line, with one kind of fault.
+#![tactic(auto)]
+
+mod action_reading;
+mod author;
+mod author_list;
+mod ident_list;
+mod item;
+mod item_list;
+mod laws;
+mod line;
+mod line_list;
+mod no_memory;
+mod parts;
+mod phase;
+mod reading;
+mod script;
+mod script_kind;
+mod session;
+mod statement;
+mod statement_reading;
+mod taking;
+mod writing;
+
+pub use author::Declared;
+pub use author_list::AuthorList;
+pub use ident_list::IdentList;
+pub use item::{Block, Item};
+pub use item_list::ItemList;
+pub use laws::{lines_say_one_thing, texts_are_exact};
+pub use line::{Line, SendLine};
+pub use line_list::LineList;
+pub use no_memory::NoMemory;
+pub use script::read_session;
+pub use script_kind::{ScriptFault, ScriptKind};
+pub use session::Session;
+pub use statement::{SendText, Statement};
+pub use writing::write_action;
+
+#[cfg(test)]
+mod tests;
