@@ -49,7 +49,8 @@ fn an_argument_is_analysed_against_the_domain(rt: HostRuntime) -> Result<(), Fai
 fn a_function_ascribes_another_type(rt: HostRuntime) -> Result<(), Fail> {
     let mut types = TypeTable::new(rt.alloc())?;
     let mut ctxs = CtxTable::new(rt.alloc())?;
-    let numbers = types.arrow(types.num(), types.num())?;
+    let num = types.num();
+    let numbers = types.arrow(num, num)?;
     let x = read_ident(Version::Two, b"x")?;
     let node = NodeView {
         ctor: &Ctor::Lam,
@@ -206,7 +207,9 @@ fn an_analysed_conditional_has_the_type_that_is_wanted(rt: HostRuntime) -> Resul
 fn the_right_body_of_a_case_has_the_right_part(rt: HostRuntime) -> Result<(), Fail> {
     let mut types = TypeTable::new(rt.alloc())?;
     let mut ctxs = CtxTable::new(rt.alloc())?;
-    let sum = types.sum(types.num(), types.boolean())?;
+    let num = types.num();
+    let boolean = types.boolean();
+    let sum = types.sum(num, boolean)?;
     let x = read_ident(Version::Two, b"x")?;
     let y = read_ident(Version::Two, b"y")?;
     let node = NodeView {
