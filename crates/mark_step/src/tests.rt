@@ -1,10 +1,15 @@
+ghost use Rattle.std.specs.Prelude.{◌≡◌, IfOk};
+ghost use Rattle.type_core.specs.TypeTable.{IsTypeOf};
+ghost use Rattle.mark_step.specs.Node.{IsDemandOf};
+
 use crate::children::child_demand;
 use crate::node::{Binder, Demand, Mark, Mode, NodeView, Settled};
 use crate::settling::settle;
 use ctx_table::CtxTable;
-use grove_sorts::{Ctor, Version, WIDEST, read_ident};
+use grove_sorts::{Ctor, Ident, Version, WIDEST, read_ident};
+use std::alloc::Global;
 use std::test::Fail;
-use type_core::TypeTable;
+use type_core::{TypeId, TypeTable};
 
 #[test]
 fn an_argument_is_analysed_against_the_domain(rt: HostRuntime) -> Result<(), Fail> {
@@ -45,6 +50,36 @@ fn an_argument_is_analysed_against_the_domain(rt: HostRuntime) -> Result<(), Fai
     Ok(())
 }
 
+// What a function that ascribes truth values to this name shows where another type is wanted, and what is demanded of its body.
+fn function_of_truth_values<'t>(
+    alloc: Global,
+    types: &mut TypeTable,
+    ctxs: &mut CtxTable,
+    ctor: &'t Ctor,
+    name: &'t Ident,
+    wanted: TypeId,
+) -> Result<(Settled, Demand), Fail>
+    requires ctor { ctor.now ≡ Ctor.Lam }
+    requires wanted { IsTypeOf types.old wanted }
+    ensures number { IfOk result (λ both. IsDemandOf types.new ctxs.new both.1) }
+{
+    let binder = Binder {
+        name: Some(name),
+        typ: types.boolean(),
+    };
+    let node = NodeView {
+        ctor,
+        ctx: ctxs.empty(),
+        mode: Mode::Ana(wanted),
+        binder,
+        second: binder,
+        done: [None, None, Some(types.boolean()), None, None],
+    };
+    let given = settle(alloc, types, ctxs, &node)?;
+    let body = child_demand(alloc, types, ctxs, &node, 2)?;
+    Ok((given, body))
+}
+
 #[test]
 fn a_function_ascribes_another_type(rt: HostRuntime) -> Result<(), Fail> {
     let mut types = TypeTable::new(rt.alloc())?;
@@ -52,21 +87,15 @@ fn a_function_ascribes_another_type(rt: HostRuntime) -> Result<(), Fail> {
     let num = types.num();
     let numbers = types.arrow(num, num)?;
     let x = read_ident(Version::Two, b"x")?;
-    let node = NodeView {
-        ctor: &Ctor::Lam,
-        ctx: ctxs.empty(),
-        mode: Mode::Ana(numbers),
-        binder: Binder {
-            name: Some(&x),
-            typ: types.boolean(),
-        },
-        second: Binder {
-            name: None,
-            typ: types.unknown(),
-        },
-        done: [None, None, Some(types.boolean()), None, None],
-    };
-    let given = settle(rt.alloc(), &mut types, &ctxs, &node)?;
+    let function = Ctor::Lam;
+    let (given, body) = function_of_truth_values(
+        rt.alloc(),
+        &mut types,
+        &mut ctxs,
+        &function,
+        &x,
+        numbers,
+    )?;
     assert_eq!(rt;
         given,
         Settled {
@@ -74,7 +103,6 @@ fn a_function_ascribes_another_type(rt: HostRuntime) -> Result<(), Fail> {
             mark: Mark::Ascription
         }
     );
-    let body = child_demand(rt.alloc(), &mut types, &mut ctxs, &node, 2)?;
     assert_eq!(rt; body.mode, Mode::Ana(types.num()));
     assert_eq!(rt; ctxs.look_up(body.ctx, &x), Some(types.boolean()));
     Ok(())
@@ -203,30 +231,48 @@ fn an_analysed_conditional_has_the_type_that_is_wanted(rt: HostRuntime) -> Resul
     Ok(())
 }
 
+// What is demanded of the right body of a case on a number or a truth value, which binds these names.
+fn right_body<'t>(
+    alloc: Global,
+    types: &mut TypeTable,
+    ctxs: &mut CtxTable,
+    ctor: &'t Ctor,
+    left: &'t Ident,
+    right: &'t Ident,
+) -> Result<Demand, Fail>
+    requires { ctor.now ≡ Ctor.Case }
+    ensures number { IfOk result (IsDemandOf types.new ctxs.new) }
+{
+    let num = types.num();
+    let boolean = types.boolean();
+    let sum = types.sum(num, boolean)?;
+    let binder = Binder {
+        name: Some(left),
+        typ: types.unknown(),
+    };
+    let second = Binder {
+        name: Some(right),
+        typ: types.unknown(),
+    };
+    let node = NodeView {
+        ctor,
+        ctx: ctxs.empty(),
+        mode: Mode::Syn,
+        binder,
+        second,
+        done: [Some(sum), None, Some(types.num()), None, None],
+    };
+    Ok(child_demand(alloc, types, ctxs, &node, 4)?)
+}
+
 #[test]
 fn the_right_body_of_a_case_has_the_right_part(rt: HostRuntime) -> Result<(), Fail> {
     let mut types = TypeTable::new(rt.alloc())?;
     let mut ctxs = CtxTable::new(rt.alloc())?;
-    let num = types.num();
-    let boolean = types.boolean();
-    let sum = types.sum(num, boolean)?;
     let x = read_ident(Version::Two, b"x")?;
     let y = read_ident(Version::Two, b"y")?;
-    let node = NodeView {
-        ctor: &Ctor::Case,
-        ctx: ctxs.empty(),
-        mode: Mode::Syn,
-        binder: Binder {
-            name: Some(&x),
-            typ: types.unknown(),
-        },
-        second: Binder {
-            name: Some(&y),
-            typ: types.unknown(),
-        },
-        done: [Some(sum), None, Some(types.num()), None, None],
-    };
-    let body = child_demand(rt.alloc(), &mut types, &mut ctxs, &node, 4)?;
+    let case = Ctor::Case;
+    let body = right_body(rt.alloc(), &mut types, &mut ctxs, &case, &x, &y)?;
     assert_eq!(rt; body.mode, Mode::Syn);
     assert_eq!(rt; ctxs.look_up(body.ctx, &y), Some(types.boolean()));
     assert_eq!(rt; ctxs.look_up(body.ctx, &x), None);
