@@ -1,0 +1,56 @@
+-- What holds of each replica of a block, one replica more.
+use Rattle.std.proofs.Common.{◌≡◌, ℕ, zero, suc, ◌+◌, ◌<◌, List, [], ◌∷◌, ◌++◌, length, slice_get, Some, ◌⊎◌, inl, inr, refl, sym, ap, subst, ◌∙◌, arith}
+use Rattle.std.proofs.lemmas.Option.{same_Some, none-some, slice_get_within}
+use Rattle.grove_edits.specs.declared.edit.Edit.{Edit}
+use Rattle.grove_edits.specs.declared.actor.Actor.{Actor}
+use Rattle.grove_edits.specs.declared.command.Command.{Command}
+use Rattle.shared_replica.specs.declared.journal.Entry.{Entry}
+use Rattle.session_script.specs.declared.author.Declared.{Declared}
+use Rattle.session_script.specs.declared.line.Line.{Line}
+use Rattle.session_run.specs.Calls.{Stage}
+use Rattle.session_run.specs.Run.{HasRun}
+
+-- what stands in a list with one item more: one of those before, or the last
+get_pushed : {X : Type 0} (xs : List X) (x y : X) (k : ℕ) → slice_get (xs ++ x ∷ []) k ≡ Some y → (slice_get xs k ≡ Some y) ⊎ ((k ≡ length xs) × (x ≡ y))
+get_pushed [] x y zero is = inr (refl, same_Some x y is)
+get_pushed [] x y (suc k) is = absurd (none-some y is)
+get_pushed (z ∷ xs) x y zero is = inl is
+get_pushed (z ∷ xs) x y (suc k) is = elim (get_pushed xs x y k is) [ inl there ↦ inl there | inr last ↦ inr (ap suc last.0, last.1) ]
+
+module _ {M E R : Type 0} (after : M → Actor → Command → M) (effect : M → Actor → Command → E) (reply : M → Actor → Command → R)
+    (authors : List Declared) (lines : List Line) (first_send : ℕ) (sources : List (List Edit)) where
+  abbrev pub stage_at : ℕ → Stage
+  stage_at replica = record { authors = authors; lines = lines; first_send = first_send; sources = sources; replica = replica }
+
+  abbrev pub EachHasRun : List M → List M → List (List (Entry M Command E R)) → Type 0
+  EachHasRun firsts lasts journals =
+      (replica : ℕ) (first last : M) (journal : List (Entry M Command E R)) → slice_get firsts replica ≡ Some first → slice_get lasts replica ≡ Some last
+      → slice_get journals replica ≡ Some journal → HasRun after effect reply (stage_at replica) first journal last
+
+  pub one_more_has_run : (firsts lasts : List M) (journals : List (List (Entry M Command E R))) (first last : M) (journal : List (Entry M Command E R))
+      → length lasts ≡ length firsts → length journals ≡ length firsts → EachHasRun firsts lasts journals → HasRun after effect reply (stage_at (length journals)) first journal last
+      → EachHasRun (firsts ++ first ∷ []) (lasts ++ last ∷ []) (journals ++ journal ∷ [])
+  one_more_has_run firsts lasts journals first last journal many all each ran replica f l j is_f is_l is_j =
+      elim (get_pushed firsts first f replica is_f) [
+        | inl there ↦
+            let within = slice_get_within firsts replica f there in
+            elim (get_pushed lasts last l replica is_l) [
+              | inl there_l ↦ elim (get_pushed journals journal j replica is_j) [
+                | inl there_j ↦ each replica f l j there there_l there_j
+                | inr end ↦ absurd (omega (arith, within, end.0))
+              ]
+              | inr end ↦ absurd (omega (arith, within, end.0))
+            ]
+        | inr here ↦
+            elim (get_pushed lasts last l replica is_l) [
+              | inl there_l ↦ (let within = slice_get_within lasts replica l there_l in absurd (omega (arith, within, here.0)))
+              | inr here_l ↦ elim (get_pushed journals journal j replica is_j) [
+                | inl there_j ↦ (let within = slice_get_within journals replica j there_j in absurd (omega (arith, within, here.0)))
+                | inr here_j ↦
+                    subst (λ (n : ℕ). HasRun after effect reply (stage_at n) f j l) (sym here_j.0)
+                    (subst (λ (m : M). HasRun after effect reply (stage_at (length journals)) m j l) here.1
+                    (subst (λ (m : M). HasRun after effect reply (stage_at (length journals)) first j m) here_l.1
+                    (subst (λ (es : List (Entry M Command E R)). HasRun after effect reply (stage_at (length journals)) first es last) here_j.1 ran)))
+              ]
+            ]
+      ]
