@@ -27,10 +27,10 @@ module _ {M E R : Type 0} (after : M → Actor → Command → M) (effect : M �
       (replica : ℕ) (first last : M) (journal : List (Entry M Command E R)) → slice_get firsts replica ≡ Some first → slice_get lasts replica ≡ Some last
       → slice_get journals replica ≡ Some journal → HasRun after effect reply (stage_at replica) first journal last
 
-  pub one_more_has_run : (firsts lasts : List M) (journals : List (List (Entry M Command E R))) (first last : M) (journal : List (Entry M Command E R))
+  one_more : (firsts lasts : List M) (journals : List (List (Entry M Command E R))) (first last : M) (journal : List (Entry M Command E R))
       → length lasts ≡ length firsts → length journals ≡ length firsts → EachHasRun firsts lasts journals → HasRun after effect reply (stage_at (length journals)) first journal last
       → EachHasRun (firsts ++ first ∷ []) (lasts ++ last ∷ []) (journals ++ journal ∷ [])
-  one_more_has_run firsts lasts journals first last journal many all each ran replica f l j is_f is_l is_j =
+  one_more firsts lasts journals first last journal many all each ran replica f l j is_f is_l is_j =
       elim (get_pushed firsts first f replica is_f) [
         | inl there ↦
             let within = slice_get_within firsts replica f there in
@@ -54,3 +54,16 @@ module _ {M E R : Type 0} (after : M → Actor → Command → M) (effect : M �
               ]
             ]
       ]
+
+  -- a replica more, where the machines, the journals and what was run are told by equations
+  pub one_more_has_run : (firsts lasts new_lasts : List M) (journals new_journals : List (List (Entry M Command E R))) (first last : M) (journal : List (Entry M Command E R)) (replica : ℕ) (its_lines : List Line)
+      → length lasts ≡ length firsts → length journals ≡ length firsts → EachHasRun firsts lasts journals
+      → replica ≡ length journals → its_lines ≡ lines → HasRun after effect reply (record { authors = authors; lines = its_lines; first_send = first_send; sources = sources; replica = replica }) first journal last
+      → new_lasts ≡ lasts ++ last ∷ [] → new_journals ≡ journals ++ journal ∷ [] → EachHasRun (firsts ++ first ∷ []) new_lasts new_journals
+  one_more_has_run firsts lasts new_lasts journals new_journals first last journal replica its_lines many all each is_here its ran more_lasts more_journals =
+      let run_here : HasRun after effect reply (stage_at (length journals)) first journal last =
+      subst (λ (n : ℕ). HasRun after effect reply (stage_at n) first journal last) is_here
+      (subst (λ (ls : List Line). HasRun after effect reply (record { authors = authors; lines = ls; first_send = first_send; sources = sources; replica = replica }) first journal last) its ran) in
+      subst (λ (ls : List M). EachHasRun (firsts ++ first ∷ []) ls new_journals) (sym more_lasts)
+      (subst (λ (js : List (List (Entry M Command E R))). EachHasRun (firsts ++ first ∷ []) (lasts ++ last ∷ []) js) (sym more_journals)
+      (one_more firsts lasts journals first last journal many all each run_here))

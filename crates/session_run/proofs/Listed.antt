@@ -16,6 +16,7 @@ use Rattle.grove_edits.specs.declared.command.Command.{Command}
 use Rattle.grove_edits.specs.declared.command.Command.TheVariants.{Act, Take}
 use Rattle.shared_replica.specs.declared.journal.Entry.{Entry}
 use Rattle.shared_replica.specs.Passes.{Call, call_of, calls_by, same_actor}
+use Rattle.shared_replica.specs.Solos.{Replays}
 use Rattle.session_script.proofs.Told.{all_append}
 use Rattle.session_script.specs.declared.author.Declared.{Declared}
 use Rattle.session_script.specs.declared.line.Line.{Line}
@@ -24,6 +25,7 @@ use Rattle.session_script.specs.declared.line.SendLine.{SendLine}
 use Rattle.session_run.specs.declared.request.Request.{Request}
 use Rattle.session_run.specs.Calls.{Stage, actions_of, sends_of, SendsHere, AreTakes, MayCall, commands_by, AreCalls}
 use Rattle.session_run.specs.Requests.{request_by, request_of, requests_by, acts_on, action_requests, AreCommandsAt, AreSendRequests}
+use Rattle.session_run.specs.Run.{HasRun}
 
 -- one actor's commands among requests
 abbrev commands_of : Actor → List Request → List Command
@@ -240,3 +242,14 @@ module _ {M E R : Type 0} where
   answered_more journal e request left rest all answered first same =
       ap (λ (rs : List Request). rs ++ rest) (map-append request_of journal (e ∷ [])) ∙ append_assoc (map request_of journal) (request_of e ∷ []) rest
       ∙ ap (λ (r : Request). map request_of journal ++ r ∷ rest) same ∙ ap (λ (rs : List Request). map request_of journal ++ rs) (sym first) ∙ answered
+
+  -- a machine that answered the actions and then the sends
+  pub has_run : (after : M → Actor → Command → M) (effect : M → Actor → Command → E) (reply : M → Actor → Command → R) (stage : Stage) (first last : M) (journal : List (Entry M Command E R))
+      (none actions requests sends : List Request) → none ≡ [] → actions ≡ none ++ action_requests stage.authors stage.replica stage.lines → requests ≡ actions ++ sends
+      → AreSendRequests stage.sources stage.replica stage.first_send (sends_of stage.lines) sends
+      → (map request_of journal ≡ requests) × Replays after effect reply first journal last → HasRun after effect reply stage first journal last
+  has_run after effect reply stage first last journal none actions requests sends is_none are_actions are_both are h =
+      let listed : actions ≡ action_requests stage.authors stage.replica stage.lines = are_actions ∙ ap (λ (rs : List Request). rs ++ action_requests stage.authors stage.replica stage.lines) is_none in record {
+        calls = are_calls stage journal sends (h.0 ∙ are_both ∙ ap (λ (rs : List Request). rs ++ sends) listed) are;
+        replays = h.1;
+      }

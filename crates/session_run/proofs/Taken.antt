@@ -1,6 +1,6 @@
 -- Pieces that are taken one after the other, and the requests that they make.
 use Rattle.std.proofs.Common.{◌≡◌, ℕ, suc, ◌+◌, ◌<◌, ◌≤◌, Some, None, List, [], ◌∷◌, ◌++◌, length, map, take, get_or, slice_get, refl, sym, ap, subst, ◌∙◌, append_assoc, append-nil, arith}
-use Rattle.std.proofs.lemmas.List.{take_more, take_all, map-append}
+use Rattle.std.proofs.lemmas.List.{take_more, take_all, map-append, length-take-le}
 use Rattle.std.proofs.lemmas.Option.{slice_get_within, get_or_from_slice_get}
 use Rattle.grove_sorts.specs.declared.version.Version.TheVariants.{Two}
 use Rattle.grove_edits.specs.declared.actor.Actor.{Actor}
@@ -39,9 +39,6 @@ take_one_more : (pieces : List (List ℕ)) (index : ℕ) (piece : List ℕ) → 
 take_one_more pieces index piece is =
     take_more pieces index [] (slice_get_within pieces index piece is) ∙ ap (λ (p : List ℕ). take index pieces ++ p ∷ []) (get_or_from_slice_get pieces index piece [] is)
 
-length_take : (pieces : List (List ℕ)) (index : ℕ) → index ≤ length pieces → length (take index pieces) ≡ index
-length_take pieces index within = grind (arith)
-
 -- the first pieces were taken, and their requests stand behind those before
 pub record TakenSoFar (pieces : List (List ℕ)) (actor : Actor) (before : List Request) (index : ℕ) (stream : StreamState) (requests : List Request) : Type 0 where
   pub taken : List (List Edit)
@@ -68,7 +65,7 @@ module _ (pieces : List (List ℕ)) (actor : Actor) (before : List Request) wher
       let front = take index pieces in
       let one_more = take_one_more pieces index piece is in
       let within = slice_get_within pieces index piece is in
-      let number : 1 + length front ≡ index + 1 = (let l = length_take pieces index (omega arith) in omega arith) in
+      let number : 1 + length front ≡ index + 1 = (let le : index ≤ length pieces = omega arith in let l = length-take-le index pieces le in omega arith) in
       let commands : takes 1 (take (index + 1) pieces) (h.taken ++ some ∷ []) ≡ takes 1 front h.taken ++ Take (index + 1) piece some ∷ [] =
       ap (λ (ps : List (List ℕ)). takes 1 ps (h.taken ++ some ∷ [])) one_more
       ∙ takes-one_more 1 (fresh Two) stream front h.taken piece some h.takes_front ∙ ap (λ n. takes 1 front h.taken ++ Take n piece some ∷ []) number in
@@ -81,14 +78,16 @@ module _ (pieces : List (List ℕ)) (actor : Actor) (before : List Request) wher
         ∙ ap (λ (rs : List Request). before ++ rs) (sym requests_of);
       }
 
-  pub all_taken : (sources : List (List Edit)) (send : SendLine) (list : List Edit) (index : ℕ) (stream : StreamState) (requests : List Request)
-      → slice_get sources send.from ≡ Some list → ArePieces send.cut (sent_bytes send list) pieces → length pieces ≤ index → TakenSoFar pieces actor before index stream requests
-      → (commands : List Command) × AreTakes sources send commands × (requests ≡ before ++ requests_by actor commands)
-  all_taken sources send list index stream requests is_source are_pieces end h =
-      let whole = take_all index pieces end in
-      let taken : h.taken ≡ edits_by_piece (sent_edits send list) pieces =
-      (one_taken (sent_edits send list) pieces h.taken stream are_pieces.whole (subst (λ (ps : List (List ℕ)). TakesAll (fresh Two) ps h.taken stream) whole h.takes_front)).0 in (
-        takes 1 pieces h.taken,
-        record { list = list; pieces = pieces; is_source = is_source; are_pieces = are_pieces; are_takes = ap (λ (es : List (List Edit)). takes 1 pieces es) taken },
-        h.appended ∙ ap (λ (ps : List (List ℕ)). before ++ requests_by actor (takes 1 ps h.taken)) whole,
-      )
+  pub all_taken : (edits : List Edit) (index : ℕ) (stream : StreamState) (requests : List Request) → joined pieces ≡ text_of edits → length pieces ≤ index
+      → TakenSoFar pieces actor before index stream requests → requests ≡ before ++ requests_by actor (takes 1 pieces (edits_by_piece edits pieces))
+  all_taken edits index stream requests whole end h =
+      let all = take_all index pieces end in
+      let taken : h.taken ≡ edits_by_piece edits pieces =
+      (one_taken edits pieces h.taken stream whole (subst (λ (ps : List (List ℕ)). TakesAll (fresh Two) ps h.taken stream) all h.takes_front)).0 in
+      h.appended ∙ ap (λ (ps : List (List ℕ)). before ++ requests_by actor (takes 1 ps h.taken)) all
+      ∙ ap (λ (es : List (List Edit)). before ++ requests_by actor (takes 1 pieces es)) taken
+
+-- the commands of a `send` line are these
+pub are_takes : (sources : List (List Edit)) (send : SendLine) (list : List Edit) (pieces : List (List ℕ)) → slice_get sources send.from ≡ Some list
+    → ArePieces send.cut (sent_bytes send list) pieces → AreTakes sources send (takes 1 pieces (edits_by_piece (sent_edits send list) pieces))
+are_takes sources send list pieces is_source are_pieces = record { list = list; pieces = pieces; is_source = is_source; are_pieces = are_pieces; are_takes = refl }

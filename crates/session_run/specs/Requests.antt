@@ -49,3 +49,14 @@ AreSendRequests sources replica number [] requests = requests ≡ []
 AreSendRequests sources replica number (send ∷ sends) requests =
     (commands : List Command) × (rest : List Request) × AreCommandsAt sources replica send commands
     × AreSendRequests sources replica (number + 1) sends rest × (requests ≡ requests_by (actor.Send number) commands ++ rest)
+
+-- P of a `send` line
+abbrev pub IfSend : Line → (SendLine → Type 0) → Type 0
+IfSend (line.Author author action) P = Unit {0}
+IfSend (line.Send send) P = P send
+
+-- what a line adds to requests, and the number of the next `send` line, where this one or the next has the number
+abbrev pub AddsLine : List (List Edit) → ℕ → ℕ → Line → List Request → List Request → ℕ → Type 0
+AddsLine sources replica number (line.Author author action) before after next = (after ≡ before) × (next ≡ number)
+AddsLine sources replica number (line.Send send) before after next =
+    ((commands : List Command) × AreCommandsAt sources replica send commands × (after ≡ before ++ requests_by (actor.Send number) commands)) × (next ≡ number + 1)

@@ -4,16 +4,18 @@ ghost use Rattle.std.specs.List.{AllByRecursion};
 ghost use Rattle.grove_edits.specs.declared.edit.Edit.{Edit};
 ghost use Rattle.grove_edits.specs.declared.command.Command.{Command};
 ghost use Rattle.grove_edits.specs.declared.actor.Actor.TheVariants.{Send as by_send};
+ghost use Rattle.edit_text.specs.Text.{text_of};
 ghost use Rattle.edit_stream.specs.Stream.{StreamState, Feeds};
+ghost use Rattle.replica_exchange.specs.Send.{joined, edits_by_piece};
 ghost use Rattle.session_run.specs.declared.request.Request.{Request};
-ghost use Rattle.session_run.specs.Calls.{sends_of, AreTakes};
-ghost use Rattle.session_run.specs.Requests.{requests_by, acts_on, action_requests, AreCommandsAt, AreSendRequests};
+ghost use Rattle.session_run.specs.Calls.{sends_of, takes, AreTakes};
+ghost use Rattle.session_run.specs.Requests.{requests_by, acts_on, action_requests, AreCommandsAt, AreSendRequests, IfSend, AddsLine};
 ghost use Rattle.session_run.specs.Run.{CanSend};
 
 use crate::no_memory::NoMemory;
 use crate::request::Request;
 use grove_edits::{Actor, Bytes, Command, EditList};
-use replica_exchange::{TakeFault, Taker, packets};
+use replica_exchange::{PieceList, TakeFault, Taker, packets};
 use session_script::{AuthorList, Line, SendLine};
 use std::alloc::Global;
 
@@ -61,12 +63,30 @@ pub fn append_sends(
 {
     let mut number = first_send;
     for line in lines {
-        if let Line::Send(send) = line {
-            append_send(alloc, sources, send, number, replica, requests)?;
-            number += 1;
-        }
+        number = append_line(alloc, sources, line, number, replica, requests)?;
     }
     Ok(())
+}
+
+// Appends what a line sends to the replica, if it is a `send` line, which then has the number, and gives the number of the next one.
+fn append_line(
+    alloc: Global,
+    sources: &[EditList],
+    line: &Line,
+    number: u32,
+    replica: u64,
+    requests: &mut Vec<Request>,
+) -> Result<u32, NoMemory>
+    requires { IfSend line.now (λ send. CanSend (length sources.now) send × (number + 1 < 2 ^ 32)) }
+    ensures { IfOk result (AddsLine sources.now replica number line.now requests.old.items requests.new.items) }
+{
+    match line {
+        Line::Author { .. } => Ok(number),
+        Line::Send(send) => {
+            append_send(alloc, sources, send, number, replica, requests)?;
+            Ok(number + 1)
+        }
+    }
 }
 
 // Appends the pieces of the `send` line with this number, if it goes to the replica.
@@ -99,6 +119,20 @@ fn append_pieces(
     ensures { OnOk result ((commands : List Command) × AreTakes sources.now send.now commands × (requests.new.items ≡ requests.old.items ++ requests_by (by_send number) commands)) }
 {
     let pieces = packets(alloc, &sources[send.from as usize], send)?;
+    append_taken(alloc, &pieces, number, requests)?;
+    Ok(())
+}
+
+// Takes the pieces of the lines of some edits, and appends each with its edits, as the pieces of the `send` line with this number.
+fn append_taken(
+    alloc: Global,
+    pieces: &PieceList,
+    number: u32,
+    requests: &mut Vec<Request>,
+) -> Result<(), NoMemory>
+    requires { (edits : List Edit) × (joined pieces.now ≡ text_of edits) }
+    ensures { OnOk result ((edits : List Edit) → joined pieces.now ≡ text_of edits → requests.new.items ≡ requests.old.items ++ requests_by (by_send number) (takes 1 pieces.now (edits_by_piece edits pieces.now))) }
+{
     let mut taker = Taker::new(alloc);
     let actor = Actor::Send(number);
     for index in 0..pieces.len() {

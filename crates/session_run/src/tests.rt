@@ -67,15 +67,13 @@ fn journals_of(
     sources: &[EditList],
 ) -> Result<Vec<Journal<Counter>>, Fail>
     requires session { IsSession session.now }
-    requires sources { length sources.now ≡ length session.now.replicas }
+    requires replicas { length session.now.replicas ≡ 2 }
+    requires sources { length sources.now ≡ 2 }
 {
     let Some(Item::Block(block)) = session.items.get(0) else {
         return Err(Fail::from("a block"));
     };
-    let mut machines = Vec::new(alloc);
-    for _ in 0..session.replicas.len() {
-        machines.push(Counter { steps: 0 })?;
-    }
+    let machines = vec![in alloc; Counter { steps: 0 }, Counter { steps: 0 }]?;
     let (_, journals) = run_block(alloc, machines, sources, &session.authors, block, 1)?;
     Ok(journals)
 }
@@ -99,12 +97,11 @@ fn shown(
 #[test]
 fn authors_act_and_pieces_come_where_they_belong(rt: HostRuntime) -> Result<(), Fail> {
     let session = read_session(rt.alloc(), SESSION).ok().ok_or("a session")?;
-    let mut sources = Vec::new(rt.alloc());
-    sources.push(loaded(rt.alloc(), &session)?)?;
-    sources.push(EditList::new(rt.alloc()))?;
-    if sources.len() != session.replicas.len() {
+    if session.replicas.len() != 2 {
         return Err(Fail::from("two replicas"));
     }
+    let edits = loaded(rt.alloc(), &session)?;
+    let sources = vec![in rt.alloc(); edits, EditList::new(rt.alloc())]?;
     let journals = journals_of(rt.alloc(), &session, &sources)?;
     assert_eq!(rt; journals.len(), 2);
     for (replica, index, want) in [

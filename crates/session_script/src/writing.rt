@@ -1,4 +1,4 @@
-ghost use Rattle.std.specs.Prelude.{◌≡◌, ◌≤◌, ◌∷◌, ◌++◌, OnOk, OnErr};
+ghost use Rattle.std.specs.Prelude.{◌≡◌, ◌∷◌, ◌++◌, OnOk, OnErr};
 ghost use Rattle.grove_names.specs.Name.{name_text};
 ghost use Rattle.grove_sorts.specs.Ctor.{ctor_text};
 ghost use Rattle.grove_sorts.specs.Position.{position_text};
@@ -13,7 +13,6 @@ use text_parts::write_number;
 
 /// Appends an author's line, without an LF.
 pub fn write_action(author: u32, action: &Action, out: &mut Vec<u8>) -> Result<(), NoMemory>
-    requires { 1 ≤ author }
     ensures appended { OnOk result (out.new.items ≡ out.old.items ++ action_line author action.now) }
     ensures unchanged { OnErr result (out.new.items ≡ out.old.items) }
 {
