@@ -96,7 +96,9 @@ fn shown(
 
 #[test]
 fn authors_act_and_pieces_come_where_they_belong(rt: HostRuntime) -> Result<(), Fail> {
-    let session = read_session(rt.alloc(), SESSION).ok().ok_or("a session")?;
+    let Ok(session) = read_session(rt.alloc(), SESSION) else {
+        return Err(Fail::from("a session"));
+    };
     if session.replicas.len() != 2 {
         return Err(Fail::from("two replicas"));
     }
