@@ -1,0 +1,11 @@
+pub mod WithEdits
+pub mod AsEdits
+pub mod StoredLists
+pub mod ListsOf
+pub mod PlansTold
+pub mod LiveChanges
+pub mod Rooms
+pub mod Contents
+pub mod Standing
+pub mod Keeping
+pub mod Raising

@@ -1,0 +1,10 @@
+pub mod Canonical
+pub mod Plain
+pub mod Stored
+pub mod Content
+pub mod Lists
+pub mod Step
+pub mod Cost
+pub mod Calls
+pub mod Indexes
+pub mod Kept

@@ -1,0 +1,189 @@
+ghost use Rattle.std.specs.Prelude.{◌≡◌, ◌+◌, ◌<◌, ◌≤◌, ℕ, [], ◌∷◌, ◌++◌, List, map, IfOk, OnOk, OnErr};
+ghost use Rattle.grove_edits.specs.declared.act_fault.ActFault.{ActFault};
+ghost use Rattle.grove_edits.specs.Edit.{edit_edge};
+ghost use Rattle.grove_edits.specs.Graph.{graph, IsCanonical};
+ghost use Rattle.user_actions.specs.Plan.{IsPlan};
+ghost use Rattle.grove_answers.specs.Texts.{IsPrintText, IsCanonicalText};
+ghost use Rattle.replica_core.specs.Content.{IsContent, no_edits, with_taken, with_block};
+ghost use Rattle.replica_core.specs.Plain.{as_edits};
+ghost use Rattle.replica_core.specs.Step.{plan_of};
+ghost use Rattle.replica_core.specs.Cost.{edit_cost, edits_cost};
+
+use crate::live_graph::LiveGraph;
+use crate::no_memory::NoMemory;
+use grove_answers::{append_canonical_text, print_text};
+use grove_edits::{Action, Answer, Edge, Edit, EditList};
+use std::alloc::Global;
+use std::marker::Model;
+use std::sync::ledger::Ledger;
+use user_actions::{OpeningSet, Plan, PlanFault, View, plan};
+use walks::Steps;
+
+/// A live replica. Contracts see it as its `Content`: the canonical list of its graph, and the edges that the block opened with.
+/// How much room it has is not seen.
+#[derive(Drop)]
+pub struct Replica {
+    graph: LiveGraph,
+    opening: OpeningSet,
+}
+
+impl Model for Replica {
+    ghost use Rattle.replica_core.specs.Content.{Content};
+    ghost use Rattle.replica_core.specs.Kept.{content_of, IsKept};
+
+    ghost Value = { Content };
+
+    ghost view = { λ replica. content_of replica.graph replica.opening };
+
+    ghost invariant = { λ replica. IsKept replica.graph replica.opening };
+}
+
+impl Replica {
+    /// The empty graph, in a block that opened so.
+    pub fn new(alloc: Global) -> Result<Replica, NoMemory>
+        ensures empty { IfOk result (λ replica. replica ≡ no_edits) }
+    {
+        let graph = LiveGraph::new(alloc);
+        let opening = OpeningSet::of(alloc, &graph.store)?;
+        Ok(Replica { graph, opening })
+    }
+
+    /// Opens a block: the opening edges are now those that are not Absent. The graph stays.
+    pub fn begin_block(&mut self, alloc: Global) -> Result<(), NoMemory>
+        ensures opened { OnOk result (self.new ≡ with_block self.old) }
+        ensures unchanged { OnErr result (self.new ≡ self.old) }
+    {
+        self.opening = OpeningSet::of(alloc, &self.graph.store)?;
+        Ok(())
+    }
+
+    /// Takes an edit. What it asks is joined to the graph, so an edge that was deleted is not inserted again.
+    pub fn apply<L: Ledger>(
+        &mut self,
+        _alloc: Global,
+        edit: &Edit,
+        steps: &mut Steps<L>,
+    ) -> Result<(), NoMemory>
+        ensures taken { OnOk result (self.new ≡ with_taken (edit.now ∷ []) self.old) }
+        ensures unchanged { OnErr result (self.new ≡ self.old) }
+        ensures bounded { steps.new ≤ steps.old + edit_cost self.old edit.now }
+    {
+        // Nothing is counted while no marks are kept.
+        let _steps = steps;
+        self.take(&[edit.edge()], &[*edit])
+    }
+
+    /// Takes edits, one after the other, all of them or none.
+    pub fn apply_all<L: Ledger>(
+        &mut self,
+        alloc: Global,
+        edits: &EditList,
+        steps: &mut Steps<L>,
+    ) -> Result<(), NoMemory>
+        ensures taken { OnOk result (self.new ≡ with_taken edits.now self.old) }
+        ensures unchanged { OnErr result (self.new ≡ self.old) }
+        ensures bounded { steps.new ≤ steps.old + edits_cost self.old edits.now }
+    {
+        // Nothing is counted while no marks are kept.
+        let _steps = steps;
+        let edges = edges_of(alloc, edits)?;
+        self.take(&edges, edits.as_slice())
+    }
+
+    /// Plans an author's action on the graph, and takes the edits of the plan. It answers them, and what the plan answers. An action that
+    /// is refused has no edits.
+    pub fn act<L: Ledger>(
+        &mut self,
+        alloc: Global,
+        author: u32,
+        action: &Action,
+        steps: &mut Steps<L>,
+    ) -> Result<(EditList, Answer), NoMemory>
+        requires author { 0 < author }
+        ensures plan { IfOk result (λ acted. IsPlan (graph self.old.edits) self.old.opening author action.now acted.0 acted.1) }
+        ensures edits { IfOk result (λ acted. acted.0 ≡ as_edits (plan_of self.old author action.now).edits) }
+        ensures answer { IfOk result (λ acted. acted.1 ≡ (plan_of self.old author action.now).answer) }
+        ensures taken { IfOk result (λ acted. self.new ≡ with_taken acted.0 self.old) }
+        ensures refused { (fault : ActFault) → IfOk result (λ acted. acted.1 ≡ Answer.Refused fault → (acted.0 ≡ []) × (self.new ≡ self.old)) }
+        ensures unchanged { OnErr result (self.new ≡ self.old) }
+        ensures bounded { steps.new ≤ steps.old + edits_cost self.old (as_edits (plan_of self.old author action.now).edits) }
+    {
+        let (edits, answer) = self.planned(alloc, author, action)?;
+        self.apply_all(alloc, &edits, steps)?;
+        Ok((edits, answer))
+    }
+
+    /// The canonical list of the graph.
+    pub fn in_order(&self, alloc: Global) -> Result<EditList, NoMemory>
+        ensures list { IfOk result (λ list. list ≡ self.now.edits) }
+        ensures canonical { IsCanonical (graph self.now.edits) self.now.edits }
+        ensures content { IsContent self.now }
+    {
+        Ok(self.graph.store.in_order(alloc)?)
+    }
+
+    /// Appends the print text of the graph.
+    pub fn print(&self, alloc: Global, out: &mut Vec<u8>) -> Result<(), NoMemory>
+        ensures appended { OnOk result ((text : List ℕ) × IsPrintText (graph self.now.edits) text × (out.new.items ≡ out.old.items ++ text)) }
+        ensures unchanged { OnErr result (out.new.items ≡ out.old.items) }
+    {
+        let text = print_text(alloc, self.in_order(alloc)?)?;
+        out.extend_from_slice(&text)?;
+        Ok(())
+    }
+
+    /// Appends the canonical text of the graph.
+    pub fn canonical(&self, alloc: Global, out: &mut Vec<u8>) -> Result<(), NoMemory>
+        ensures appended { OnOk result ((text : List ℕ) × IsCanonicalText (graph self.now.edits) text × (out.new.items ≡ out.old.items ++ text)) }
+        ensures unchanged { OnErr result (out.new.items ≡ out.old.items) }
+    {
+        append_canonical_text(&self.in_order(alloc)?, out)?;
+        Ok(())
+    }
+
+    // The edits of an action and what is answered, before any of them is taken.
+    fn planned(
+        &self,
+        alloc: Global,
+        author: u32,
+        action: &Action,
+    ) -> Result<(EditList, Answer), NoMemory>
+        requires author { 0 < author }
+        ensures plan { IfOk result (λ made. IsPlan (graph self.now.edits) self.now.opening author action.now made.0 made.1) }
+        ensures edits { IfOk result (λ made. made.0 ≡ as_edits (plan_of self.now author action.now).edits) }
+        ensures answer { IfOk result (λ made. made.1 ≡ (plan_of self.now author action.now).answer) }
+    {
+        let view = View {
+            store: &self.graph.store,
+            opening: &self.opening,
+            children: &self.graph.children,
+            parents: &self.graph.parents,
+        };
+        match plan(alloc, &view, author, action) {
+            Ok(Plan { edits, answer }) => Ok((edits, answer)),
+            Err(PlanFault::Refused(fault)) => Ok((EditList::new(alloc), Answer::Refused(fault))),
+            Err(PlanFault::NoMemory) => Err(NoMemory),
+        }
+    }
+
+    // Takes edits, whose edges these are. Room for all is made before the first is raised, so that want of memory leaves none.
+    fn take(&mut self, edges: &[Edge], edits: &[Edit]) -> Result<(), NoMemory>
+        requires { edges.now ≡ map edit_edge edits.now }
+        ensures taken { OnOk result (self.new ≡ with_taken edits.now self.old) }
+        ensures unchanged { OnErr result (self.new ≡ self.old) }
+    {
+        self.graph.reserve_for(edges)?;
+        self.graph.raise_all(edits);
+        Ok(())
+    }
+}
+
+fn edges_of(alloc: Global, edits: &EditList) -> Result<Vec<Edge>, NoMemory>
+    ensures { IfOk result (λ edges. edges.items ≡ map edit_edge edits.now) }
+{
+    let mut edges = Vec::with_capacity(alloc, edits.len())?;
+    for edit in edits.as_slice() {
+        edges.push(edit.edge())?;
+    }
+    Ok(edges)
+}
