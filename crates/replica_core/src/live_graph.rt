@@ -18,6 +18,7 @@ use child_index::ChildIndex;
 use graph_store::GraphStore;
 use grove_edits::{Edge, Edit};
 use parent_index::ParentIndex;
+use seeded_hash::HashSeed;
 use std::alloc::Global;
 
 /// A graph with the indexes of its live edges.
@@ -29,15 +30,15 @@ pub(crate) struct LiveGraph {
 }
 
 impl LiveGraph {
-    /// The empty graph.
-    pub(crate) fn new(alloc: Global) -> LiveGraph
+    /// The empty graph, whose indexes hash under a seed.
+    pub(crate) fn with_seed(alloc: Global, seed: HashSeed) -> LiveGraph
         ensures store { result.store ≡ [] }
         ensures stands { StandsFor (graph []) result }
     {
         LiveGraph {
             store: GraphStore::new(alloc),
-            children: ChildIndex::new(alloc),
-            parents: ParentIndex::new(alloc),
+            children: ChildIndex::with_seed(alloc, seed),
+            parents: ParentIndex::with_seed(alloc, seed),
         }
     }
 

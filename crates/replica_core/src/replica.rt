@@ -13,6 +13,7 @@ use crate::live_graph::LiveGraph;
 use crate::no_memory::NoMemory;
 use grove_answers::{append_canonical_text, print_text};
 use grove_edits::{Action, Answer, Edge, Edit, EditList};
+use seeded_hash::HashSeed;
 use std::alloc::Global;
 use std::marker::Model;
 use std::sync::ledger::Ledger;
@@ -39,11 +40,18 @@ impl Model for Replica {
 }
 
 impl Replica {
-    /// The empty graph, in a block that opened so.
+    /// The empty graph, in a block that opened so, for edits that are trusted.
     pub fn new(alloc: Global) -> Result<Replica, NoMemory>
         ensures empty { IfOk result (λ replica. replica ≡ no_edits) }
     {
-        let graph = LiveGraph::new(alloc);
+        Replica::with_seed(alloc, HashSeed::FIXED)
+    }
+
+    /// The empty graph, in a block that opened so. What it looks up it finds by hashes under a seed.
+    pub fn with_seed(alloc: Global, seed: HashSeed) -> Result<Replica, NoMemory>
+        ensures empty { IfOk result (λ replica. replica ≡ no_edits) }
+    {
+        let graph = LiveGraph::with_seed(alloc, seed);
         let opening = OpeningSet::of(alloc, &graph.store)?;
         Ok(Replica { graph, opening })
     }
@@ -127,7 +135,7 @@ impl Replica {
         ensures appended { OnOk result ((text : List ℕ) × IsPrintText (graph self.now.edits) text × (out.new.items ≡ out.old.items ++ text)) }
         ensures unchanged { OnErr result (out.new.items ≡ out.old.items) }
     {
-        let text = print_text(alloc, self.in_order(alloc)?)?;
+        let text = print_text(alloc, self.in_order(alloc)?, self.graph.parents.seed())?;
         out.extend_from_slice(&text)?;
         Ok(())
     }

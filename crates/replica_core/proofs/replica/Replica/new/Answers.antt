@@ -1,8 +1,0 @@
-use Rattle.replica_core.proofs.Keeping.{seen_empty}
-use Rattle.replica_core.proofs.replica.Replica.new.Goals as goal
-
-pub invariant_of-result : goal.invariant_of-result
-invariant_of-result c = (seen_empty c.new-graph.result c.in_ok-opening.opening c.new-graph.ensures.stands c.in_ok-opening.ensures.opening).invariant
-
-pub returns : goal.returns
-returns c = record { empty = (seen_empty c.new-graph.result c.in_ok-opening.opening c.new-graph.ensures.stands c.in_ok-opening.ensures.opening).view }
