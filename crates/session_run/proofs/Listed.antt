@@ -13,7 +13,7 @@ use Rattle.grove_edits.specs.declared.action.Action.{Action}
 use Rattle.grove_edits.specs.declared.actor.Actor.{Actor}
 use Rattle.grove_edits.specs.declared.actor.Actor.TheVariants as actors
 use Rattle.grove_edits.specs.declared.command.Command.{Command}
-use Rattle.grove_edits.specs.declared.command.Command.TheVariants.{Act, Take}
+use Rattle.grove_edits.specs.declared.command.Command.TheVariants.{Act}
 use Rattle.shared_replica.specs.declared.journal.Entry.{Entry}
 use Rattle.shared_replica.specs.Passes.{Call, call_of, calls_by, same_actor}
 use Rattle.shared_replica.specs.Solos.{Replays}
@@ -23,8 +23,8 @@ use Rattle.session_script.specs.declared.line.Line.{Line}
 use Rattle.session_script.specs.declared.line.Line.TheVariants as line
 use Rattle.session_script.specs.declared.line.SendLine.{SendLine}
 use Rattle.session_run.specs.declared.request.Request.{Request}
-use Rattle.session_run.specs.Calls.{Stage, actions_of, sends_of, SendsHere, AreTakes, MayCall, commands_by, AreCalls}
-use Rattle.session_run.specs.Requests.{request_by, request_of, requests_by, acts_on, action_requests, AreCommandsAt, AreSendRequests}
+use Rattle.session_run.specs.Calls.{Stage, actions_of, sends_of, AreTakes, MayCall, commands_by, AreCalls}
+use Rattle.session_run.specs.Requests.{request_by, request_of, requests_by, acts_on, action_requests, AreSendRequests}
 use Rattle.session_run.specs.Run.{HasRun}
 
 -- one actor's commands among requests

@@ -1,9 +1,9 @@
 -- A journal follows from who asked what in it, and from the edits that were taken before.
-use Rattle.std.proofs.Common.{◌≡◌, ℕ, List, [], ◌∷◌, ◌++◌, map, refl, sym, ap, subst, ◌∙◌}
+use Rattle.std.proofs.Common.{◌≡◌, List, [], ◌∷◌, ◌++◌, map, refl, sym, ap, subst, ◌∙◌}
 use Rattle.grove_edits.specs.declared.edit.Edit.{Edit}
 use Rattle.grove_edits.specs.Graph.{Graph, graph}
 use Rattle.grove_edits.specs.declared.actor.Actor.{Actor}
-use Rattle.grove_edits.specs.declared.actor.Actor.TheVariants.{Host, Author, Send}
+use Rattle.grove_edits.specs.declared.actor.Actor.TheVariants.{Author, Send}
 use Rattle.grove_edits.specs.declared.answer.Answer.{Answer}
 use Rattle.grove_edits.specs.declared.command.Command.{Command}
 use Rattle.grove_edits.specs.declared.command.Command.TheVariants.{Act, Take}

@@ -1,5 +1,5 @@
 -- Pieces that are taken one after the other, and the requests that they make.
-use Rattle.std.proofs.Common.{◌≡◌, ℕ, suc, ◌+◌, ◌<◌, ◌≤◌, Some, None, List, [], ◌∷◌, ◌++◌, length, map, take, get_or, slice_get, refl, sym, ap, subst, ◌∙◌, append_assoc, append-nil, arith}
+use Rattle.std.proofs.Common.{◌≡◌, ℕ, suc, ◌+◌, ◌≤◌, Some, None, List, [], ◌∷◌, ◌++◌, length, take, slice_get, refl, sym, ap, subst, ◌∙◌, append_assoc, append-nil, arith}
 use Rattle.std.proofs.lemmas.List.{take_more, take_all, map-append, length-take-le}
 use Rattle.std.proofs.lemmas.Option.{slice_get_within, get_or_from_slice_get}
 use Rattle.grove_sorts.specs.declared.version.Version.TheVariants.{Two}
@@ -74,8 +74,8 @@ module _ (pieces : List (List ℕ)) (actor : Actor) (before : List Request) wher
         taken = h.taken ++ some ∷ [];
         takes_front = subst (λ (ps : List (List ℕ)). TakesAll (fresh Two) ps (h.taken ++ some ∷ []) new) (sym one_more) (takes_one_more (fresh Two) stream new front h.taken piece some h.takes_front fed);
         appended = appended ∙ ap (λ (rs : List Request). rs ++ request_by actor (Take (index + 1) piece some) ∷ []) h.appended
-        ∙ append_assoc before (requests_by actor (takes 1 front h.taken)) (request_by actor (Take (index + 1) piece some) ∷ [])
-        ∙ ap (λ (rs : List Request). before ++ rs) (sym requests_of);
+            ∙ append_assoc before (requests_by actor (takes 1 front h.taken)) (request_by actor (Take (index + 1) piece some) ∷ [])
+            ∙ ap (λ (rs : List Request). before ++ rs) (sym requests_of);
       }
 
   pub all_taken : (edits : List Edit) (index : ℕ) (stream : StreamState) (requests : List Request) → joined pieces ≡ text_of edits → length pieces ≤ index

@@ -39,20 +39,20 @@ loop-machine-preserved g c =
     let one_journal = c.in_ok-push-2.ensures.items in record {
       left = append_assoc at.yielded (machine ∷ []) rest ∙ (ap (λ ms. at.yielded ++ ms) (sym steps) ∙ i.left);
       count = (let was = i.count in
-      let gone = c.in-Some.ensures.steps.1 in
-      let short = ap length steps in
-      omega arith);
+          let gone = c.in-Some.ensures.steps.1 in
+          let short = ap length steps in
+          omega arith);
       machines = (let was = i.machines in
-      let longer = ap length one_machine ∙ length_push at.machines_after.items c.in_ok-machine.machine in
-      let all = length_push at.yielded machine in
-      omega arith);
+          let longer = ap length one_machine ∙ length_push at.machines_after.items c.in_ok-machine.machine in
+          let all = length_push at.yielded machine in
+          omega arith);
       journals = (let was = i.journals in
-      let longer = ap length one_journal ∙ length_push at.journals.items c.in_ok-machine.journal in
-      let all = length_push at.yielded machine in
-      omega arith);
+          let longer = ap length one_journal ∙ length_push at.journals.items c.in_ok-machine.journal in
+          let all = length_push at.yielded machine in
+          omega arith);
       each = one_more_has_run b.after b.effect b.reply c.args.authors.now c.args.block.now.lines c.args.first_send c.args.sources.now at.yielded at.machines_after.items c.push.new.self.items
-      at.journals.items c.push-in-loop-machine.new.self.items machine c.in_ok-machine.machine c.in_ok-machine.journal c.len-replica.result c.as_slice-lines.result.now
-      i.machines i.journals i.each replica c.as_slice-lines.ensures c.in_ok-machine.ensures one_machine one_journal;
+          at.journals.items c.push-in-loop-machine.new.self.items machine c.in_ok-machine.machine c.in_ok-machine.journal c.len-replica.result c.as_slice-lines.result.now
+          i.machines i.journals i.each replica c.as_slice-lines.ensures c.in_ok-machine.ensures one_machine one_journal;
     }
 
 pub returns-clause-each : goal.returns-clause-each

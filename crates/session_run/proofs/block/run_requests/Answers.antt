@@ -1,5 +1,5 @@
 use Rattle.std.proofs.Common.{◌≡◌, ◌∷◌, ◌++◌, length, map, refl, ap, ◌∙◌, arith}
-use Rattle.std.specs.Vec.Iter.{into_iter_items, into_iter_len}
+use Rattle.std.specs.Vec.Iter.{into_iter_items}
 use Rattle.shared_replica.specs.Replays.{entry_of}
 use Rattle.shared_replica.specs.Solos.{with_step}
 use Rattle.session_run.specs.Requests.{request_of}
@@ -18,10 +18,10 @@ loop-request-preserved g c =
     let entry = entry_of b.effect b.reply solo.machine request.actor request.command in record {
       room = ap (λ s. s.calls) entered ∙ i.room;
       answered = (let now = answered_more solo.journal entry request (into_iter_items c.loop-request.request-iterator) rest c.args.requests.items i.answered steps refl in
-      ap (λ s. map request_of s.journal ++ rest) entered ∙ now);
+          ap (λ s. map request_of s.journal ++ rest) entered ∙ now);
       count = (let was = i.count in
-      let gone = c.in-Some.ensures.steps.1 in
-      let short = ap length steps in
-      omega arith);
+          let gone = c.in-Some.ensures.steps.1 in
+          let short = ap length steps in
+          omega arith);
       replays = c.act.ensures.replays c.args.machine i.replays;
     }

@@ -1,4 +1,4 @@
-use Rattle.std.proofs.Common.{◌≡◌, ◌+◌, List, [], ◌∷◌, Some, drop, slice_get, ap, arith, rules}
+use Rattle.std.proofs.Common.{◌≡◌, List, [], ◌∷◌, Some, drop, slice_get, ap, arith, rules}
 use Rattle.std.proofs.lemmas.Option.{same_Some, none-some}
 use Rattle.session_script.specs.declared.item.Item.{Item}
 use Rattle.session_script.specs.declared.item.Item.TheVariants.{Block}
