@@ -42,4 +42,10 @@ impl<M: Machine> Journal<M> {
     {
         self.entries.get(index)
     }
+
+    pub fn as_slice(&self) -> &[Entry<M>]
+        ensures entries { result.now ≡ self.now }
+    {
+        &self.entries
+    }
 }
