@@ -1,7 +1,6 @@
 pub mod Each
 pub mod Listed
 pub mod OfSessions
-pub mod OneJournal
 pub mod SameCommands
 pub mod Sent
 pub mod Taken

@@ -35,7 +35,7 @@ block_can_run session before after block h parts =
     can_run session block.lines (item_at session before after (item.Block block) (subst (AllByRecursion (IsItem session)) parts h.items))
 
 -- the `send` lines of a block are as many as are counted
-sends_counted : (lines : List Line) → count_by is_send lines ≡ length (sends_of lines)
+pub sends_counted : (lines : List Line) → count_by is_send lines ≡ length (sends_of lines)
 sends_counted [] = refl
 sends_counted (line.Author author action ∷ lines) =
     let same : count_by is_send (line.Author author action ∷ lines) ≡ 0 + count_by is_send lines = sum_by-cons (λ x. cond (is_send x) 1 0) (line.Author author action) lines in

@@ -1,0 +1,5 @@
+pub mod OneJournal
+pub mod OneReport
+pub mod Examples
+pub mod Brought
+pub mod Zipped

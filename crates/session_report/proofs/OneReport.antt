@@ -1,0 +1,53 @@
+-- A session and its journals have one report.
+use Rattle.std.proofs.Common.{◌≡◌, ℕ, ◌+◌, List, [], ◌∷◌, ◌++◌, refl, sym, ap, ◌∙◌}
+use Rattle.grove_sorts.specs.declared.ident.Ident.{Ident}
+use Rattle.grove_edits.specs.declared.edit.Edit.{Edit}
+use Rattle.grove_edits.specs.Graph.{graph, IsSame, HasSameEdits}
+use Rattle.grove_edits.proofs.Graphs.{graph-same_edits}
+use Rattle.grove_answers.proofs.SameGraph.{printed_along, one_print_text}
+use Rattle.session_script.specs.declared.item.Item.{Item}
+use Rattle.session_script.specs.declared.item.Item.TheVariants as item
+use Rattle.session_script.specs.declared.session.Session.{Session}
+use Rattle.session_report.specs.Taken.{Journals, taken}
+use Rattle.session_report.specs.Legal.{next_show}
+use Rattle.session_report.specs.Report.{IsSection, AreSections, IsItemText, AreItemTexts, IsReport, replica_heading, show_heading}
+
+-- replicas whose edits make the same graph show the same
+same_section_of : (name : Ident) (a b : List Edit) (x y : List ℕ) → IsSame (graph a) (graph b) → IsSection name a x → IsSection name b y → x ≡ y
+same_section_of name a b x y same of_a of_b =
+    of_a.written
+    ∙ ap (λ (t : List ℕ). replica_heading name ++ t)
+    (one_print_text (graph b) of_a.printed of_b.printed (printed_along (graph a) (graph b) of_a.printed same of_a.is_print_text) of_b.is_print_text)
+    ∙ sym of_b.written
+
+-- so do those that took the same edits
+pub same_section : (name : Ident) (a b : List Edit) (x y : List ℕ) → HasSameEdits a b → IsSection name a x → IsSection name b y → x ≡ y
+same_section name a b x y same = same_section_of name a b x y (graph-same_edits a b same.0 same.1)
+
+module _ {M : Type 0} where
+  one_sections : (journals : Journals M) (before : List Item) (replica : ℕ) (names : List Ident) (x y : List ℕ)
+      → AreSections journals before replica names x → AreSections journals before replica names y → x ≡ y
+  one_sections journals before replica [] x y a b = a ∙ sym b
+  one_sections journals before replica (name ∷ names) x y a b =
+      let mine : a.0 ≡ b.0 = same_section_of name (taken journals replica before) (taken journals replica before) a.0 b.0 (λ e. refl) a.2 b.2 in
+      let rest : a.1 ≡ b.1 = one_sections journals before (replica + 1) names a.1 b.1 a.3 b.3 in
+      a.4 ∙ ap (λ (t : List ℕ). t ++ a.1) mine ∙ ap (λ (t : List ℕ). b.0 ++ t) rest ∙ sym b.4
+
+  one_item : (names : List Ident) (journals : Journals M) (before : List Item) (next : Item) (x y : List ℕ)
+      → IsItemText names journals before next x → IsItemText names journals before next y → x ≡ y
+  one_item names journals before (item.Load number edit) x y a b = a ∙ sym b
+  one_item names journals before (item.Block block) x y a b = a ∙ sym b
+  one_item names journals before item.Show x y a b =
+      a.2 ∙ ap (λ (t : List ℕ). show_heading (next_show before) ++ t) (one_sections journals before 0 names a.0 b.0 a.1 b.1) ∙ sym b.2
+
+  one_texts : (names : List Ident) (journals : Journals M) (before items : List Item) (x y : List ℕ)
+      → AreItemTexts names journals before items x → AreItemTexts names journals before items y → x ≡ y
+  one_texts names journals before [] x y a b = a ∙ sym b
+  one_texts names journals before (next ∷ items) x y a b =
+      let mine : a.0 ≡ b.0 = one_item names journals before next a.0 b.0 a.2 b.2 in
+      let rest : a.1 ≡ b.1 = one_texts names journals (before ++ next ∷ []) items a.1 b.1 a.3 b.3 in
+      a.4 ∙ ap (λ (t : List ℕ). t ++ a.1) mine ∙ ap (λ (t : List ℕ). b.0 ++ t) rest ∙ sym b.4
+
+  pub one_report_text : (session : Session) (journals : Journals M) (x y : List ℕ)
+      → IsReport session journals x → IsReport session journals y → x ≡ y
+  one_report_text session journals = one_texts session.replicas journals [] session.items

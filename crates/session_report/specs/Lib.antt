@@ -1,0 +1,5 @@
+pub mod Answer
+pub mod Journal
+pub mod Taken
+pub mod Legal
+pub mod Report

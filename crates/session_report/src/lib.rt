@@ -1,0 +1,20 @@
+//! What is written of a session: the journals of its blocks, and what every replica shows. Its definitions say which journals
+//! are legal, what a replica has taken at a point, and what the report of a session and its journals is.
+#![tactic(auto)]
+
+mod answer_writing;
+mod block_journal;
+mod entry_writing;
+mod journal_list;
+mod laws;
+mod no_memory;
+mod report_writing;
+
+pub use block_journal::BlockJournal;
+pub use entry_writing::append_entry;
+pub use journal_list::JournalList;
+pub use laws::{
+    a_journal_follows_from_its_calls, cuts_do_not_matter, one_report, same_edits_same_section,
+};
+pub use no_memory::NoMemory;
+pub use report_writing::{append_block, append_replica_heading, append_show_heading};
