@@ -1,0 +1,4 @@
+use Rattle.session_answers.proofs.replicas.apply.Given as goal
+
+abbrev pub ghosts-apply_counting : goal.ghosts-apply_counting
+ghosts-apply_counting a = record { name = a.blank.name; parts = a.blank.parts }

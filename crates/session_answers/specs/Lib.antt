@@ -1,0 +1,2 @@
+pub mod BlockJournals
+pub mod Running

@@ -1,0 +1,32 @@
+ghost use Rattle.std.specs.Prelude.{IfOk};
+ghost use Rattle.session_script.specs.Session.{IsSession};
+ghost use Rattle.session_report.specs.Legal.{AreLegal};
+ghost use Rattle.session_report.specs.Report.{IsReport};
+
+use crate::no_memory::NoMemory;
+use crate::running::Running;
+use replica_core::Replica;
+use session_report::JournalList;
+use session_script::Session;
+use std::alloc::Global;
+
+/// What a session that was run leaves: its report, and the journals of its blocks.
+#[derive(Drop)]
+pub struct Ran {
+    pub text: Vec<u8>,
+    pub journals: JournalList<Replica>,
+}
+
+/// Runs a session: its items one after the other, on replicas that are empty as it begins.
+pub fn run_session(alloc: Global, session: &Session) -> Result<Ran, NoMemory>
+    requires { IsSession session.now }
+    ensures legal { IfOk result (λ ran. AreLegal session.now ran.journals) }
+    ensures report { IfOk result (λ ran. IsReport session.now ran.journals ran.text.items) }
+{
+    let mut running = Running::new(alloc, session)?;
+    for (index, item) in session.items.as_slice().iter().enumerate() {
+        running = running.run_item(alloc, session, index, item)?;
+    }
+    let Running { journals, text, .. } = running;
+    Ok(Ran { text, journals })
+}

@@ -1,0 +1,94 @@
+//! What is asked of all replicas of a session, one after the other.
+ghost use Rattle.std.specs.Prelude.{◌≡◌, ◌+◌, ◌<◌, [], ◌∷◌, ◌++◌, length, map, replicate, IfOk, OnOk};
+ghost use Rattle.replica_core.specs.Content.{no_edits, with_taken, with_block};
+ghost use Rattle.session_answers.specs.BlockJournals.{block_journals};
+ghost use Rattle.session_answers.specs.Running.{sources_of as lists_of};
+
+use crate::no_memory::NoMemory;
+use grove_edits::{Edit, EditList};
+use replica_core::Replica;
+use session_report::{BlockJournal, JournalList};
+use shared_replica::Journal;
+use std::alloc::Global;
+use std::marker::Brand;
+use std::sync::ledger::{Blank, Ledger};
+use walks::Steps;
+
+/// So many replicas that have taken nothing.
+pub(crate) fn empty_replicas(alloc: Global, count: usize) -> Result<Vec<Replica>, NoMemory>
+    ensures { IfOk result (λ replicas. replicas.items ≡ replicate count no_edits) }
+{
+    let mut replicas = Vec::new(alloc);
+    for _made in 0..count {
+        replicas.push(Replica::new(alloc)?)?;
+    }
+    Ok(replicas)
+}
+
+pub(crate) fn apply(alloc: Global, replica: &mut Replica, edit: &Edit) -> Result<(), NoMemory>
+    ensures { OnOk result (replica.new ≡ with_taken (edit.now ∷ []) replica.old) }
+{
+    apply_counting::<Brand>(alloc, replica, edit, Blank::new(1))
+}
+
+// With a counter that nobody reads.
+fn apply_counting<L: Ledger>(
+    alloc: Global,
+    replica: &mut Replica,
+    edit: &Edit,
+    blank: Blank,
+) -> Result<(), NoMemory>
+    requires name { blank.name ≡ L.name }
+    requires parts { blank.parts ≡ L.parts }
+    requires some { 0 < blank.parts }
+    ensures { OnOk result (replica.new ≡ with_taken (edit.now ∷ []) replica.old) }
+{
+    let mut steps = Steps::<L>::new(blank);
+    replica.apply(alloc, edit, &mut steps)?;
+    Ok(())
+}
+
+/// Opens a block on each replica.
+pub(crate) fn begin_block_on_each(
+    alloc: Global,
+    replicas: Vec<Replica>,
+) -> Result<Vec<Replica>, NoMemory>
+    ensures { IfOk result (λ opened. opened.items ≡ map with_block replicas.items) }
+{
+    let mut opened = Vec::with_capacity(alloc, replicas.len())?;
+    for mut replica in replicas {
+        replica.begin_block(alloc)?;
+        opened.push(replica)?;
+    }
+    Ok(opened)
+}
+
+pub(crate) fn sources_of(alloc: Global, replicas: &[Replica]) -> Result<Vec<EditList>, NoMemory>
+    ensures { IfOk result (λ sources. sources.items ≡ lists_of replicas.now) }
+{
+    let mut sources = Vec::new(alloc);
+    for replica in replicas {
+        sources.push(replica.in_order(alloc)?)?;
+    }
+    Ok(sources)
+}
+
+/// Keeps the journals of a block, one for each replica.
+pub(crate) fn append_journals(
+    block: u64,
+    made: Vec<Journal<Replica>>,
+    journals: &mut JournalList<Replica>,
+) -> Result<(), NoMemory>
+    ensures { OnOk result (journals.new ≡ journals.old ++ block_journals block 1 made.items) }
+{
+    let mut replica = 1;
+    for journal in made {
+        journals.push(BlockJournal {
+            block,
+            replica,
+            journal,
+        })?;
+        replica += 1;
+    }
+    Ok(())
+}

@@ -1,0 +1,151 @@
+ghost use Rattle.std.specs.Prelude.{◌≡◌, ◌+◌, ◌<◌, ◌≤◌, ◌^◌, ℕ, [], ◌∷◌, length, take, slice_get, Some, IfOk};
+ghost use Rattle.std.specs.List.{AllByRecursion, count_by};
+ghost use Rattle.session_script.specs.Session.{IsSession, is_send};
+ghost use Rattle.session_run.specs.Run.{CanRun};
+ghost use Rattle.session_answers.specs.Running.{IsBehind, HasLoaded, HasRunBlock, HasShown};
+
+use crate::no_memory::NoMemory;
+use crate::replicas::{append_journals, apply, begin_block_on_each, empty_replicas, sources_of};
+use crate::showing::append_sections;
+use grove_edits::Edit;
+use replica_core::Replica;
+use session_report::{JournalList, append_block, append_show_heading};
+use session_run::run_block;
+use session_script::{Block, Item, Line, Session};
+use std::alloc::Global;
+
+/// A session some of whose items are over: what its replicas have taken, and what the items left.
+#[derive(Drop)]
+pub(crate) struct Running {
+    pub(crate) replicas: Vec<Replica>,
+    pub(crate) journals: JournalList<Replica>,
+    /// The report so far.
+    pub(crate) text: Vec<u8>,
+    /// How many blocks there were.
+    pub(crate) blocks: u64,
+    /// How many `send` lines there were.
+    pub(crate) sends: u32,
+    /// How many shows there were.
+    pub(crate) shows: u64,
+}
+
+impl Running {
+    /// The session before its first item.
+    pub(crate) fn new(alloc: Global, session: &Session) -> Result<Running, NoMemory>
+        ensures { IfOk result (IsBehind session.now []) }
+    {
+        Ok(Running {
+            replicas: empty_replicas(alloc, session.replicas.len())?,
+            journals: JournalList::new(alloc),
+            text: Vec::new(alloc),
+            blocks: 0,
+            sends: 0,
+            shows: 0,
+        })
+    }
+
+    /// Runs the item at an index, once those before it are over.
+    pub(crate) fn run_item(
+        self,
+        alloc: Global,
+        session: &Session,
+        index: usize,
+        item: &Item,
+    ) -> Result<Running, NoMemory>
+        requires session { IsSession session.now }
+        requires item { slice_get session.now.items index ≡ Some item.now }
+        requires behind { IsBehind session.now (take index session.now.items) self }
+        ensures { IfOk result (IsBehind session.now (take (index + 1) session.now.items)) }
+    {
+        match item {
+            Item::Load { replica, edit } => self.load(alloc, *replica, edit),
+            Item::Block(block) => self.run_block(alloc, session, block),
+            Item::Show => self.show(alloc, session),
+        }
+    }
+
+    fn load(mut self, alloc: Global, replica: u64, edit: &Edit) -> Result<Running, NoMemory>
+        requires { replica < length self.replicas.items }
+        ensures { IfOk result (HasLoaded replica edit.now self) }
+    {
+        apply(alloc, &mut self.replicas[replica as usize], edit)?;
+        Ok(self)
+    }
+
+    fn run_block(self, alloc: Global, session: &Session, block: &Block) -> Result<Running, NoMemory>
+        requires session { IsSession session.now }
+        requires lines { AllByRecursion (CanRun session.now.authors (length session.now.replicas)) block.now.lines }
+        requires replicas { length self.replicas.items ≡ length session.now.replicas }
+        requires few_blocks { self.blocks < 64 }
+        requires few_sends { self.sends + 1 + count_by is_send block.now.lines < 2 ^ 32 }
+        ensures { IfOk result (HasRunBlock session.now block.now self) }
+    {
+        let Running {
+            replicas,
+            mut journals,
+            mut text,
+            blocks,
+            sends,
+            shows,
+        } = self;
+        let replicas = begin_block_on_each(alloc, replicas)?;
+        let sources = sources_of(alloc, &replicas)?;
+        let number = blocks + 1;
+        let (replicas, made) = run_block(
+            alloc,
+            replicas,
+            &sources,
+            &session.authors,
+            block,
+            sends + 1,
+        )?;
+        append_block(number, session.replicas.as_slice(), &made, &mut text)?;
+        append_journals(number, made, &mut journals)?;
+        Ok(Running {
+            replicas,
+            journals,
+            text,
+            blocks: number,
+            sends: sends + sends_in(block),
+            shows,
+        })
+    }
+
+    fn show(mut self, alloc: Global, session: &Session) -> Result<Running, NoMemory>
+        requires { self.shows < 8 }
+        ensures { IfOk result (HasShown session.now self) }
+    {
+        self.shows += 1;
+        append_show_heading(self.shows, &mut self.text)?;
+        append_sections(
+            alloc,
+            session.replicas.as_slice(),
+            &self.replicas,
+            &mut self.text,
+        )?;
+        Ok(self)
+    }
+}
+
+// How many `send` lines a block has.
+fn sends_in(block: &Block) -> u32
+    requires { count_by is_send block.now.lines < 2 ^ 32 }
+    ensures { result ≡ count_by is_send block.now.lines }
+{
+    count_sends(block.lines.as_slice()) as u32
+}
+
+fn count_sends(lines: &[Line]) -> usize
+    ensures { result ≡ count_by is_send lines.now }
+{
+    lines.iter().filter(|line| is_send_line(line)).count()
+}
+
+fn is_send_line(line: &Line) -> bool
+    ensures { result ≡ is_send line.now }
+{
+    match line {
+        Line::Author { .. } => false,
+        Line::Send(_) => true,
+    }
+}
