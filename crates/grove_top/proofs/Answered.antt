@@ -1,12 +1,12 @@
--- What the commands make of graphs that are the same.
+-- What questions make of graphs that are the same.
 use Rattle.std.proofs.Common.{◌≡◌, ◌≢◌, ℕ, List, ◌++◌, refl, sym, ap, ◌∙◌}
 use Rattle.grove_sorts.specs.declared.version.Version.{Version}
 use Rattle.grove_edits.specs.declared.edit.Edit.{Edit}
 use Rattle.grove_edits.specs.Graph.{Graph, graph, IsSame}
 use Rattle.edit_text.specs.Whole.{header}
 use Rattle.grove_answers.proofs.SameGraph.{canonical_along, printed_along, checked_along, one_canonical_text, one_print_text, one_check_text}
-use Rattle.grove_top.specs.declared.command.Command.{Command}
-use Rattle.grove_top.specs.declared.command.Command.TheVariants.{Merge, Show, Check}
+use Rattle.grove_top.specs.declared.command.Question.{Question}
+use Rattle.grove_top.specs.declared.command.Question.TheVariants.{Merge, Show, Check}
 use Rattle.grove_top.specs.Due.{IsMergeText, IsAnswerOf, IsAnswered}
 use Rattle.grove_top.specs.Spelled.{IsListOf}
 
@@ -17,27 +17,27 @@ one_merge_text : (version : Version) (g : Graph) (x y : List ℕ) → IsMergeTex
 one_merge_text version g x y a b =
     a.written ∙ ap (λ (text : List ℕ). header version ++ text) (one_canonical_text g a.canonical b.canonical a.is_canonical b.is_canonical) ∙ sym b.written
 
-pub answer_along : (command : Command) (version : Version) (g h : Graph) (answer : List ℕ) → IsSame g h → IsAnswerOf command version g answer → IsAnswerOf command version h answer
+pub answer_along : (question : Question) (version : Version) (g h : Graph) (answer : List ℕ) → IsSame g h → IsAnswerOf question version g answer → IsAnswerOf question version h answer
 answer_along Merge version g h answer = merged_along version g h answer
 answer_along Show version g h answer = printed_along g h answer
 answer_along Check version g h answer = checked_along g h answer
 
-pub one_answer_of : (command : Command) (version : Version) (g : Graph) (x y : List ℕ) → IsAnswerOf command version g x → IsAnswerOf command version g y → x ≡ y
+pub one_answer_of : (question : Question) (version : Version) (g : Graph) (x y : List ℕ) → IsAnswerOf question version g x → IsAnswerOf question version g y → x ≡ y
 one_answer_of Merge version g x y = one_merge_text version g x y
 one_answer_of Show version g x y = one_print_text g x y
 one_answer_of Check version g x y = one_check_text g x y
 
 -- the version shows in the text of `merge` alone
-pub any_version : (command : Command) (v w : Version) (g : Graph) (answer : List ℕ) → command ≢ Merge → IsAnswerOf command v g answer → IsAnswerOf command w g answer
+pub any_version : (question : Question) (v w : Version) (g : Graph) (answer : List ℕ) → question ≢ Merge → IsAnswerOf question v g answer → IsAnswerOf question w g answer
 any_version Merge v w g answer not_merge is = absurd (not_merge refl)
 any_version Show v w g answer not_merge is = is
 any_version Check v w g answer not_merge is = is
 
 -- the answer of the canonical list of a text is that of the text
-pub answer_told : (command : Command) (text answer : List ℕ) (version : Version) (list : List Edit) → IsListOf text version list → IsAnswerOf command version (graph list) answer → IsAnswered command text answer
-answer_told command text answer version list of_text is = record {
+pub answer_told : (question : Question) (text answer : List ℕ) (version : Version) (list : List Edit) → IsListOf text version list → IsAnswerOf question version (graph list) answer → IsAnswered question text answer
+answer_told question text answer version list of_text is = record {
   version = version;
   edits = of_text.edits;
   spelled = of_text.spelled;
-  answered = answer_along command version (graph list) (graph of_text.edits) answer of_text.canonical.same is;
+  answered = answer_along question version (graph list) (graph of_text.edits) answer of_text.canonical.same is;
 }

@@ -8,11 +8,11 @@ use Rattle.grove_top.specs.declared.outcome.Status.{Status}
 use Rattle.grove_top.specs.declared.outcome.Status.TheVariants.{Done, Usage, Malformed, TooLong, ReadFault, WriteFault, NoMemory}
 use Rattle.grove_top.specs.declared.command.Command.{Command}
 use Rattle.grove_top.specs.Words.{AreOf, AreOfNone}
-use Rattle.grove_edits.specs.declared.edit.Edit.{Edit}
-use Rattle.grove_sorts.specs.declared.version.Version.{Version}
-use Rattle.edit_text.specs.Whole.{IsTextOf}
-use Rattle.grove_top.specs.Due.{IsDue, IsCommandDue, IsFirstFault, usage_text, too_long_text}
-use Rattle.grove_top.proofs.OneDue.{no_fault}
+use Rattle.replica_core.specs.Content.{Content}
+use Rattle.session_report.specs.Taken.{Journals}
+use Rattle.grove_top.specs.Due.{IsDue, IsCommandDue, IsFirstFault, HasReading, usage_text, too_long_text}
+use Rattle.grove_top.specs.declared.outcome.Fault.{Fault}
+use Rattle.grove_top.proofs.OneDue.{no_fault, one_command}
 use Rattle.grove_top.specs.Meets.{Outside, Meets, IsReadFor}
 
 -- a text was written whole and its status answered, or the sink failed on the way
@@ -21,65 +21,75 @@ Wrote status due before after result =
     ((result ≡ status) × Took before.taken due after.taken)
     ⊎ ((result ≡ WriteFault) × HasRisen before.write_faults after.write_faults × ((count : ℕ) × (count < length due) × Took before.taken (take count due) after.taken))
 
-wrote_meets : (words : List (String Global)) (before after : Outside) (status result : Status) (text due : List ℕ) → Gave before.left text after.left → IsDue words text status due → IsReadFor status text after.left
-    → (Took before.taken due after.taken → Meets words before after status) → Wrote status due before after result → Meets words before after result
-wrote_meets words before after status result text due gave is_due read whole (inl wrote) = subst (Meets words before after) (sym wrote.0) (whole wrote.1)
-wrote_meets words before after status result text due gave is_due read whole (inr failed) =
-    subst (Meets words before after) (sym failed.0)
+wrote_meets : (words : List (String Global)) (before after : Outside) (journals : Journals Content) (status result : Status) (text due : List ℕ) → Gave before.left text after.left → IsDue words text journals status due
+    → IsReadFor status text after.left → (Took before.taken due after.taken → Meets words before after journals status) → Wrote status due before after result → Meets words before after journals result
+wrote_meets words before after journals status result text due gave is_due read whole (inl wrote) = subst (Meets words before after journals) (sym wrote.0) (whole wrote.1)
+wrote_meets words before after journals status result text due gave is_due read whole (inr failed) =
+    subst (Meets words before after journals) (sym failed.0)
     (record { status = status; text = text; due = due; count = failed.2.0; failed = failed.1; gave = gave; is_due = is_due; read = read; short = failed.2.1; took = failed.2.2 })
 
 pub gave_nothing : (left : Option (List ℕ)) → Gave left [] left
 gave_nothing None = refl
 gave_nothing (Some bytes) = refl
 
-pub usage_meets : (words : List (String Global)) (before after : Outside) (result : Status) → AreOfNone words → before.left ≡ after.left → Wrote Usage usage_text before after result → Meets words before after result
+-- the status that was written for is answered, without journals
+pub meets_as : (words : List (String Global)) (before after : Outside) (journals : Journals Content) (status result : Status) → journals ≡ [] → result ≡ status → Meets words before after [] status
+    → Meets words before after journals result
+meets_as words before after journals status result no_journals same meets =
+    subst (λ (js : Journals Content). Meets words before after js result) (sym no_journals) (subst (Meets words before after []) (sym same) meets)
+
+pub usage_meets : (words : List (String Global)) (before after : Outside) (result : Status) → AreOfNone words → before.left ≡ after.left → Wrote Usage usage_text before after result
+    → Meets words before after [] result
 usage_meets words before after result none same wrote =
     let gave : Gave before.left [] after.left = subst (Gave before.left []) same (gave_nothing before.left) in
-    wrote_meets words before after Usage result [] usage_text gave (none, refl) refl
-    (λ took. (record { text = []; due = usage_text; gave = gave; is_due = (none, refl); took = took }, refl)) wrote
+    wrote_meets words before after [] Usage result [] usage_text gave (none, refl, refl) refl
+    (λ took. (record { text = []; due = usage_text; gave = gave; is_due = (none, refl, refl); took = took }, refl)) wrote
 
-pub too_long_meets : (words : List (String Global)) (before after : Outside) (result : Status) (text : List ℕ) (command : Command) → AreOf command words → length text ≡ MOST_BYTES + 1 → Gave before.left text after.left
-    → Wrote TooLong too_long_text before after result → Meets words before after result
+pub too_long_meets : (words : List (String Global)) (before after : Outside) (result : Status) (text : List ℕ) (command : Command) → AreOf command words → length text ≡ MOST_BYTES + 1
+    → Gave before.left text after.left → Wrote TooLong too_long_text before after result → Meets words before after [] result
 too_long_meets words before after result text command are long gave wrote =
     let more : MOST_BYTES < length text = omega arith in
-    wrote_meets words before after TooLong result text too_long_text gave (command, are, (more, refl)) long
-    (λ took. (record { text = text; due = too_long_text; gave = gave; is_due = (command, are, (more, refl)); took = took }, long)) wrote
+    wrote_meets words before after [] TooLong result text too_long_text gave (command, are, (refl, more, refl)) long
+    (λ took. (record { text = text; due = too_long_text; gave = gave; is_due = (command, are, (refl, more, refl)); took = took }, long)) wrote
 
-pub command_due : (words : List (String Global)) (text due : List ℕ) (status : Status) (command : Command) → AreOf command words → IsCommandDue command text status due → IsDue words text status due
-command_due words text due Done command are is_due = (command, are, is_due)
-command_due words text due Usage command are is_due = absurd is_due
-command_due words text due (Malformed line fault) command are is_due = (command, are, is_due)
-command_due words text due TooLong command are is_due = (command, are, is_due)
-command_due words text due ReadFault command are is_due = absurd is_due
-command_due words text due WriteFault command are is_due = absurd is_due
-command_due words text due NoMemory command are is_due = absurd is_due
+pub command_due : (words : List (String Global)) (text : List ℕ) (journals : Journals Content) (due : List ℕ) (status : Status) (command : Command) → AreOf command words → IsCommandDue command text journals status due → IsDue words text journals status due
+command_due words text journals due Done command are is_due = (command, are, is_due)
+command_due words text journals due Usage command are is_due = absurd is_due
+command_due words text journals due (Malformed line fault) command are is_due = (command, are, is_due)
+command_due words text journals due TooLong command are is_due = (command, are, is_due)
+command_due words text journals due ReadFault command are is_due = absurd is_due
+command_due words text journals due WriteFault command are is_due = absurd is_due
+command_due words text journals due NoMemory command are is_due = absurd is_due
 
-whole_meets : (words : List (String Global)) (before after : Outside) (text due : List ℕ) (status : Status) (command : Command) → AreOf command words → length text ≤ MOST_BYTES → Gave before.left text after.left
-    → IsAtEnd after.left → IsCommandDue command text status due → Took before.taken due after.taken → Meets words before after status
-whole_meets words before after text due Done command are short gave at_end is_due took =
+whole_meets : (words : List (String Global)) (before after : Outside) (text : List ℕ) (journals : Journals Content) (due : List ℕ) (status : Status) (command : Command) → AreOf command words → length text ≤ MOST_BYTES
+    → Gave before.left text after.left → IsAtEnd after.left → IsCommandDue command text journals status due → Took before.taken due after.taken → Meets words before after journals status
+whole_meets words before after text journals due Done command are short gave at_end is_due took =
     record { answers = record { text = text; due = due; gave = gave; is_due = (command, are, is_due); took = took }; at_end = at_end }
-whole_meets words before after text due Usage command are short gave at_end is_due took = absurd is_due
-whole_meets words before after text due (Malformed line fault) command are short gave at_end is_due took =
+whole_meets words before after text journals due Usage command are short gave at_end is_due took = absurd is_due
+whole_meets words before after text journals due (Malformed line fault) command are short gave at_end is_due took =
     record { answers = record { text = text; due = due; gave = gave; is_due = (command, are, is_due); took = took }; at_end = at_end }
-whole_meets words before after text due TooLong command are short gave at_end is_due took = let long = is_due.0 in absurd (omega arith)
-whole_meets words before after text due ReadFault command are short gave at_end is_due took = absurd is_due
-whole_meets words before after text due WriteFault command are short gave at_end is_due took = absurd is_due
-whole_meets words before after text due NoMemory command are short gave at_end is_due took = absurd is_due
+whole_meets words before after text journals due TooLong command are short gave at_end is_due took = let long = is_due.1 in absurd (omega arith)
+whole_meets words before after text journals due ReadFault command are short gave at_end is_due took = absurd is_due
+whole_meets words before after text journals due WriteFault command are short gave at_end is_due took = absurd is_due
+whole_meets words before after text journals due NoMemory command are short gave at_end is_due took = absurd is_due
 
-read_whole : (text due : List ℕ) (left : Option (List ℕ)) (status : Status) (command : Command) → length text ≤ MOST_BYTES → IsAtEnd left → IsCommandDue command text status due → IsReadFor status text left
-read_whole text due left Done command short at_end is_due = at_end
-read_whole text due left Usage command short at_end is_due = absurd is_due
-read_whole text due left (Malformed line fault) command short at_end is_due = at_end
-read_whole text due left TooLong command short at_end is_due = let more = is_due.0 in absurd (omega arith)
-read_whole text due left ReadFault command short at_end is_due = at_end
-read_whole text due left WriteFault command short at_end is_due = at_end
-read_whole text due left NoMemory command short at_end is_due = at_end
+read_whole : (text : List ℕ) (journals : Journals Content) (due : List ℕ) (left : Option (List ℕ)) (status : Status) (command : Command) → length text ≤ MOST_BYTES → IsAtEnd left → IsCommandDue command text journals status due
+    → IsReadFor status text left
+read_whole text journals due left Done command short at_end is_due = at_end
+read_whole text journals due left Usage command short at_end is_due = absurd is_due
+read_whole text journals due left (Malformed line fault) command short at_end is_due = at_end
+read_whole text journals due left TooLong command short at_end is_due = let more = is_due.1 in absurd (omega arith)
+read_whole text journals due left ReadFault command short at_end is_due = at_end
+read_whole text journals due left WriteFault command short at_end is_due = at_end
+read_whole text journals due left NoMemory command short at_end is_due = at_end
 
-pub command_meets : (words : List (String Global)) (before after : Outside) (text due written : List ℕ) (status result : Status) (command : Command) → AreOf command words → length text ≤ MOST_BYTES
-    → Gave before.left text after.left → IsAtEnd after.left → IsCommandDue command text status due → written ≡ due → Wrote status written before after result → Meets words before after result
-command_meets words before after text due written status result command are short gave at_end is_due same wrote =
-    wrote_meets words before after status result text due gave (command_due words text due status command are is_due) (read_whole text due after.left status command short at_end is_due)
-    (whole_meets words before after text due status command are short gave at_end is_due)
+pub command_meets : (words : List (String Global)) (before after : Outside) (text : List ℕ) (journals : Journals Content) (due written : List ℕ) (status result : Status) (command : Command) → AreOf command words
+    → length text ≤ MOST_BYTES → Gave before.left text after.left → IsAtEnd after.left → IsCommandDue command text journals status due → written ≡ due → Wrote status written before after result
+    → Meets words before after journals result
+command_meets words before after text journals due written status result command are short gave at_end is_due same wrote =
+    wrote_meets words before after journals status result text due gave (command_due words text journals due status command are is_due)
+    (read_whole text journals due after.left status command short at_end is_due)
+    (whole_meets words before after text journals due status command are short gave at_end is_due)
     (subst (λ (t : List ℕ). Wrote status t before after result) same wrote)
 
 -- ---- a good input is answered
@@ -97,19 +107,24 @@ gave_part : (told text : List ℕ) (left : Option (List ℕ)) → Gave (Some tol
 gave_part told text None gave = absurd cc
 gave_part told text (Some rest) gave = omega (arith, ap length (some_is told (text ++ rest) gave), length-append text rest)
 
-pub complete : (words : List (String Global)) (before after : Outside) (status : Status) (command : Command) (text : List ℕ) (version : Version) (edits : List Edit)
-    → Meets words before after status → AreOf command words → before.left ≡ Some text → IsTextOf text version edits → length text ≤ MOST_BYTES
+-- where the words are those of the command, the answer is its own
+fault_of_command : (words : List (String Global)) (text : List ℕ) (line : ℕ) (fault : Fault) (command own : Command) → AreOf command words → AreOf own words → IsFirstFault own text line fault → IsFirstFault command text line fault
+fault_of_command words text line fault command own are are_own h = subst (λ (c : Command). IsFirstFault c text line fault) (one_command words own command are_own are) h
+
+pub complete : (words : List (String Global)) (before after : Outside) (journals : Journals Content) (status : Status) (command : Command) (text : List ℕ)
+    → Meets words before after journals status → AreOf command words → before.left ≡ Some text → HasReading command text → length text ≤ MOST_BYTES
     → ¬ HasRisen before.read_faults after.read_faults → ¬ HasRisen before.write_faults after.write_faults → (status ≡ Done) ⊎ (status ≡ NoMemory)
-complete words before after Done command text version edits meets are told spelled short no_read no_write = inl refl
-complete words before after Usage command text version edits meets are told spelled short no_read no_write = absurd (meets.0.is_due.0 command are)
-complete words before after (Malformed line fault) command text version edits meets are told spelled short no_read no_write =
+complete words before after journals Done command text meets are told reading short no_read no_write = inl refl
+complete words before after journals Usage command text meets are told reading short no_read no_write = absurd (meets.0.is_due.0 command are)
+complete words before after journals (Malformed line fault) command text meets are told reading short no_read no_write =
     let answers = meets.answers in
     let all : text ≡ answers.text = gave_all text answers.text after.left (subst (λ left. Gave left answers.text after.left) told answers.gave) meets.at_end in
-    absurd (no_fault text version edits line fault spelled (subst (λ (t : List ℕ). IsFirstFault t line fault) (sym all) answers.is_due.2.1))
-complete words before after TooLong command text version edits meets are told spelled short no_read no_write =
+    absurd (no_fault command text line fault reading
+    (fault_of_command words text line fault command answers.is_due.0 are answers.is_due.1 (subst (λ (t : List ℕ). IsFirstFault answers.is_due.0 t line fault) (sym all) answers.is_due.2.2)))
+complete words before after journals TooLong command text meets are told reading short no_read no_write =
     let few : length meets.0.text ≤ length text = gave_part text meets.0.text after.left (subst (λ left. Gave left meets.0.text after.left) told meets.0.gave) in
     let long = meets.1 in
     absurd (omega arith)
-complete words before after ReadFault command text version edits meets are told spelled short no_read no_write = absurd (no_read meets.0)
-complete words before after WriteFault command text version edits meets are told spelled short no_read no_write = absurd (no_write meets.failed)
-complete words before after NoMemory command text version edits meets are told spelled short no_read no_write = inr refl
+complete words before after journals ReadFault command text meets are told reading short no_read no_write = absurd (no_read meets.0)
+complete words before after journals WriteFault command text meets are told reading short no_read no_write = absurd (no_write meets.failed)
+complete words before after journals NoMemory command text meets are told reading short no_read no_write = inr refl

@@ -1,4 +1,4 @@
-pub mod FaultOfLine
+pub mod FaultOf
 pub mod Words
 pub mod Spelled
 pub mod Due

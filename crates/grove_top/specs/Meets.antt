@@ -1,4 +1,4 @@
--- What each status of a run says of the words, of the input and of what was written.
+-- What each status of a run says of the words, of the input, of the journals handed out and of what was written.
 use Rattle.std.specs.declared.alloc.Global.{Global}
 use Rattle.std.specs.Prelude.{String, ◌≡◌, ℕ, ◌+◌, ◌<◌, List, [], length, take, Option}
 use Rattle.grove_io.specs.Outside.{HasRisen, Gave, Took, IsAtEnd}
@@ -6,6 +6,8 @@ use Rattle.grove_top.specs.declared.outcome.Status.{Status}
 use Rattle.grove_top.specs.declared.outcome.Status.TheVariants.{Done, Usage, Malformed, TooLong, ReadFault, WriteFault, NoMemory}
 use Rattle.grove_top.specs.declared.command.Command.{Command}
 use Rattle.grove_top.specs.Words.{AreOf}
+use Rattle.replica_core.specs.Content.{Content}
+use Rattle.session_report.specs.Taken.{Journals}
 use Rattle.grove_top.specs.Due.{IsDue, most_bytes}
 
 -- a source and a sink at one moment: the bytes left and taken, where they are told, and the counts of faults
@@ -15,17 +17,17 @@ pub record Outside : Type 0 where
   pub taken : Option (List ℕ)
   pub write_faults : ℕ
 
--- The source gave a text, and the whole text that is due for it with this status was written.
-pub record Answers (words : List (String Global)) (before after : Outside) (status : Status) : Type 0 where
+-- The source gave a text, and the whole text that is due for it and the journals with this status was written.
+pub record Answers (words : List (String Global)) (before after : Outside) (journals : Journals Content) (status : Status) : Type 0 where
   pub text : List ℕ
   pub due : List ℕ
   pub gave : Gave before.left text after.left
-  pub is_due : IsDue words text status due
+  pub is_due : IsDue words text journals status due
   pub took : Took before.taken due after.taken
 
 -- to its end
-pub record AnswersWhole (words : List (String Global)) (before after : Outside) (status : Status) : Type 0 where
-  pub answers : Answers words before after status
+pub record AnswersWhole (words : List (String Global)) (before after : Outside) (journals : Journals Content) (status : Status) : Type 0 where
+  pub answers : Answers words before after journals status
   pub at_end : IsAtEnd after.left
 
 -- how much of the input was read for a status: nothing for the usage line, no more than shows that it is too long, and else all
@@ -35,30 +37,31 @@ IsReadFor TooLong text left = length text ≡ most_bytes + 1
 IsReadFor status text left = IsAtEnd left
 
 -- The sink failed, and what it took is a part of what was due, from its front and not all of it.
-pub record IsCutOff (words : List (String Global)) (before after : Outside) : Type 0 where
+pub record IsCutOff (words : List (String Global)) (before after : Outside) (journals : Journals Content) : Type 0 where
   pub status : Status
   pub text : List ℕ
   pub due : List ℕ
   pub count : ℕ
   pub failed : HasRisen before.write_faults after.write_faults
   pub gave : Gave before.left text after.left
-  pub is_due : IsDue words text status due
+  pub is_due : IsDue words text journals status due
   pub read : IsReadFor status text after.left
   pub short : count < length due
   pub took : Took before.taken (take count due) after.taken
 
--- nothing was written, for words of a command
-pub record IsSilent (words : List (String Global)) (before after : Outside) : Type 0 where
+-- nothing was written, for words of a command, and no journals are handed out
+pub record IsSilent (words : List (String Global)) (before after : Outside) (journals : Journals Content) : Type 0 where
   pub command : (command : Command) × AreOf command words
   pub took : Took before.taken [] after.taken
+  pub no_journals : journals ≡ []
 
-abbrev pub Meets : List (String Global) → Outside → Outside → Status → Type 0
-Meets words before after Done = AnswersWhole words before after Done
-Meets words before after (Malformed line fault) = AnswersWhole words before after (Malformed line fault)
+abbrev pub Meets : List (String Global) → Outside → Outside → Journals Content → Status → Type 0
+Meets words before after journals Done = AnswersWhole words before after journals Done
+Meets words before after journals (Malformed line fault) = AnswersWhole words before after journals (Malformed line fault)
 -- of the input no more was read than shows that it is too long
-Meets words before after TooLong = (answers : Answers words before after TooLong) × (length answers.text ≡ most_bytes + 1)
+Meets words before after journals TooLong = (answers : Answers words before after journals TooLong) × (length answers.text ≡ most_bytes + 1)
 -- nothing was read
-Meets words before after Usage = (answers : Answers words before after Usage) × (answers.text ≡ [])
-Meets words before after ReadFault = HasRisen before.read_faults after.read_faults × IsSilent words before after
-Meets words before after WriteFault = IsCutOff words before after
-Meets words before after NoMemory = IsSilent words before after
+Meets words before after journals Usage = (answers : Answers words before after journals Usage) × (answers.text ≡ [])
+Meets words before after journals ReadFault = HasRisen before.read_faults after.read_faults × IsSilent words before after journals
+Meets words before after journals WriteFault = IsCutOff words before after journals
+Meets words before after journals NoMemory = IsSilent words before after journals

@@ -1,7 +1,16 @@
 /// What the words ask for.
 #[derive(Clone, Copy, Debug, PartialEq, Eq)]
 pub enum Command {
-    /// The canonical text of the graph of the input's edits.
+    /// A text of the graph of the input's edits.
+    Ask(Question),
+    /// The report of the session of the input.
+    Run,
+}
+
+/// What is asked of a graph.
+#[derive(Clone, Copy, Debug, PartialEq, Eq)]
+pub enum Question {
+    /// Its canonical text.
     Merge,
     /// The print text of its grove.
     Show,

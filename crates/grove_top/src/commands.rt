@@ -1,8 +1,9 @@
-ghost use Rattle.std.specs.Prelude.{◌≡◌, ◌≤◌, length, IfOk};
+ghost use Rattle.std.specs.Prelude.{◌≡◌, ◌≤◌, [], length, IfOk};
 ghost use Rattle.grove_edits.specs.Graph.{graph, Ascends};
+ghost use Rattle.grove_top.specs.declared.command.Command.TheVariants.{Ask, Run};
 ghost use Rattle.grove_top.specs.Due.{IsCommandDue, IsAnswerOf, IsMergeText, most_bytes, malformed_text, fault_word};
 
-use crate::command::Command;
+use crate::command::{Command, Question};
 use crate::no_memory::NoMemory;
 use crate::outcome::{Fault, Status};
 use crate::reading::read_edits;
@@ -10,15 +11,20 @@ use edit_text::{TextFault, write_version};
 use grove_answers::{append_canonical_text, check_text, print_text};
 use grove_edits::EditList;
 use grove_sorts::Version;
+use replica_core::Replica;
 use seeded_hash::HashSeed;
+use session_answers::{Ran, run_session};
+use session_report::JournalList;
+use session_script::{ScriptFault, read_session};
 use std::alloc::Global;
 use text_parts::write_number;
 
-/// A status, and the whole text to write with it.
+/// A status, the whole text to write with it, and the journals to hand out.
 #[derive(Drop)]
 pub(crate) struct Due {
     pub(crate) status: Status,
     pub(crate) text: Vec<u8>,
+    pub(crate) journals: JournalList<Replica>,
 }
 
 /// What is due for a command on an input of at most `MOST_BYTES` bytes.
@@ -29,14 +35,30 @@ pub(crate) fn form_due(
     text: &[u8],
 ) -> Result<Due, NoMemory>
     requires { length text.now ≤ most_bytes }
-    ensures { IfOk result (λ due. IsCommandDue command text.now due.status due.text.items) }
+    ensures { IfOk result (λ due. IsCommandDue command text.now due.journals due.status due.text.items) }
+{
+    match command {
+        Command::Ask(question) => form_answer(alloc, seed, question, text),
+        Command::Run => form_report(alloc, seed, text),
+    }
+}
+
+fn form_answer(
+    alloc: Global,
+    seed: HashSeed,
+    question: Question,
+    text: &[u8],
+) -> Result<Due, NoMemory>
+    requires { length text.now ≤ most_bytes }
+    ensures { IfOk result (λ due. IsCommandDue (Ask question) text.now due.journals due.status due.text.items) }
 {
     match read_edits(alloc, text) {
         Ok((version, edits)) => {
-            let text = answer(alloc, seed, command, version, edits)?;
+            let text = answer(alloc, seed, question, version, edits)?;
             Ok(Due {
                 status: Status::Done,
                 text,
+                journals: JournalList::new(alloc),
             })
         }
         Err(TextFault::Malformed { line, fault }) => malformed(alloc, line, Fault::from(fault)),
@@ -45,20 +67,38 @@ pub(crate) fn form_due(
     }
 }
 
+fn form_report(alloc: Global, seed: HashSeed, text: &[u8]) -> Result<Due, NoMemory>
+    requires { length text.now ≤ most_bytes }
+    ensures { IfOk result (λ due. IsCommandDue Run text.now due.journals due.status due.text.items) }
+{
+    match read_session(alloc, text) {
+        Ok(session) => {
+            let Ran { text, journals } = run_session(alloc, seed, &session)?;
+            Ok(Due {
+                status: Status::Done,
+                text,
+                journals,
+            })
+        }
+        Err(ScriptFault::Bad { line, kind }) => malformed(alloc, line, Fault::from(kind)),
+        Err(ScriptFault::NoMemory) => Err(NoMemory),
+    }
+}
+
 fn answer(
     alloc: Global,
     seed: HashSeed,
-    command: Command,
+    question: Question,
     version: Version,
     edits: EditList,
 ) -> Result<Vec<u8>, NoMemory>
     requires { Ascends edits }
-    ensures { IfOk result (λ text. IsAnswerOf command version (graph edits) text.items) }
+    ensures { IfOk result (λ text. IsAnswerOf question version (graph edits) text.items) }
 {
-    Ok(match command {
-        Command::Merge => merge_text(alloc, version, &edits)?,
-        Command::Show => print_text(alloc, edits, seed)?,
-        Command::Check => check_text(alloc, edits, seed)?,
+    Ok(match question {
+        Question::Merge => merge_text(alloc, version, &edits)?,
+        Question::Show => print_text(alloc, edits, seed)?,
+        Question::Check => check_text(alloc, edits, seed)?,
     })
 }
 
@@ -75,6 +115,7 @@ fn merge_text(alloc: Global, version: Version, edits: &EditList) -> Result<Vec<u
 fn malformed(alloc: Global, line: u64, fault: Fault) -> Result<Due, NoMemory>
     ensures status { IfOk result (λ due. due.status ≡ Status.Malformed line fault) }
     ensures text { IfOk result (λ due. due.text.items ≡ malformed_text line fault) }
+    ensures journals { IfOk result (λ due. due.journals ≡ []) }
 {
     let mut text = Vec::from_slice(alloc, b"malformed ")?;
     write_number(line, &mut text)?;
@@ -84,6 +125,7 @@ fn malformed(alloc: Global, line: u64, fault: Fault) -> Result<Due, NoMemory>
     Ok(Due {
         status: Status::Malformed { line, fault },
         text,
+        journals: JournalList::new(alloc),
     })
 }
 
@@ -95,6 +137,13 @@ fn word(fault: Fault) -> &'static [u8]
         Fault::BadVertex => b"bad-vertex",
         Fault::NoPosition => b"no-position",
         Fault::WrongSort => b"wrong-sort",
+        Fault::OutOfPlace => b"out-of-place",
+        Fault::UnknownReplica => b"unknown-replica",
+        Fault::RepeatedReplica => b"repeated-replica",
+        Fault::UnknownAuthor => b"unknown-author",
+        Fault::RepeatedAuthor => b"repeated-author",
+        Fault::TooMany => b"too-many",
         Fault::Rest => b"rest",
+        Fault::Unended => b"unended",
     }
 }

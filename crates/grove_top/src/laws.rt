@@ -4,20 +4,22 @@ ghost use Rattle.grove_edits.specs.declared.edit.Edit.{Edit};
 ghost use Rattle.grove_edits.specs.Graph.{HasSameEdits};
 ghost use Rattle.grove_sorts.specs.declared.version.Version.{Version};
 ghost use Rattle.edit_text.specs.Whole.{IsTextOf};
-ghost use Rattle.grove_top.specs.declared.command.Command.{Command};
-ghost use Rattle.grove_top.specs.declared.command.Command.TheVariants.{Merge};
+ghost use Rattle.replica_core.specs.Content.{Content};
+ghost use Rattle.session_report.specs.Taken.{Journals};
+ghost use Rattle.grove_top.specs.declared.command.Question.{Question};
+ghost use Rattle.grove_top.specs.declared.command.Question.TheVariants.{Merge};
 ghost use Rattle.grove_top.specs.declared.outcome.Status.{Status};
 ghost use Rattle.grove_top.specs.Due.{IsDue, IsAnswered};
 
-/// Law: for any words and bytes one status and one text are due at most.
+/// Law: for any words and bytes, and any journals handed out, one status and one text are due at most.
 pub fn one_text_is_due()
-    ensures one { (words : List (String Global)) (text : List ℕ) (s t : Status) (x y : List ℕ) → IsDue words text s x → IsDue words text t y → (s ≡ t) × (x ≡ y) }
+    ensures one { (words : List (String Global)) (text : List ℕ) (journals : Journals Content) (s t : Status) (x y : List ℕ) → IsDue words text journals s x → IsDue words text journals t y → (s ≡ t) × (x ≡ y) }
 {}
 
-/// Law: texts of one version that spell the same edits, in any order and with any repeats, get the same answer from each command; from `show` and `check` those of two versions do too.
+/// Law: texts of one version that spell the same edits, in any order and with any repeats, get the same answer to each question; those of two versions do too, but to `merge`.
 pub fn same_edits_same_text()
-    ensures one_version { (command : Command) (version : Version) (s t : List ℕ) (a b : List Edit) (x y : List ℕ) → IsTextOf s version a → IsTextOf t version b
-        → HasSameEdits a b → IsAnswered command s x → IsAnswered command t y → x ≡ y }
-    ensures any_version { (command : Command) (v w : Version) (s t : List ℕ) (a b : List Edit) (x y : List ℕ) → command ≢ Merge → IsTextOf s v a → IsTextOf t w b
-        → HasSameEdits a b → IsAnswered command s x → IsAnswered command t y → x ≡ y }
+    ensures one_version { (question : Question) (version : Version) (s t : List ℕ) (a b : List Edit) (x y : List ℕ) → IsTextOf s version a → IsTextOf t version b
+        → HasSameEdits a b → IsAnswered question s x → IsAnswered question t y → x ≡ y }
+    ensures any_version { (question : Question) (v w : Version) (s t : List ℕ) (a b : List Edit) (x y : List ℕ) → question ≢ Merge → IsTextOf s v a → IsTextOf t w b
+        → HasSameEdits a b → IsAnswered question s x → IsAnswered question t y → x ≡ y }
 {}

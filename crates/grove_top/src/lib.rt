@@ -12,7 +12,7 @@ mod outcome;
 mod reading;
 mod top;
 
-pub use command::Command;
+pub use command::{Command, Question};
 pub use exit::exit_status;
 pub use laws::{one_text_is_due, same_edits_same_text};
 pub use limit::MOST_BYTES;

@@ -67,3 +67,9 @@ impl From<grove_answers::NoMemory> for NoMemory {
         NoMemory
     }
 }
+
+impl From<session_answers::NoMemory> for NoMemory {
+    fn from(_error: session_answers::NoMemory) -> NoMemory {
+        NoMemory
+    }
+}

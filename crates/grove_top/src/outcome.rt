@@ -1,9 +1,14 @@
 use edit_text::LineFault;
+use replica_core::Replica;
+use session_report::JournalList;
+use session_script::ScriptKind;
 
-/// How a run ended.
-#[derive(Clone, Copy, Debug, PartialEq, Eq)]
+/// How a run ended, and the journals of the blocks that it ran. There are none unless a session was run and its report is
+/// written, whole or in part.
+#[derive(Drop)]
 pub struct Outcome {
     pub status: Status,
+    pub journals: JournalList<Replica>,
 }
 
 /// What a run answers, and with it what stands written.
@@ -32,12 +37,26 @@ pub enum Fault {
     BadVertex,
     NoPosition,
     WrongSort,
+    /// A line of this form has no place here in a session.
+    OutOfPlace,
+    /// It names a replica that is not declared.
+    UnknownReplica,
+    /// It declares a replica again.
+    RepeatedReplica,
+    /// Its author is not declared.
+    UnknownAuthor,
+    /// It declares an author again.
+    RepeatedAuthor,
+    /// It is one more than a session may have, or sends beyond the limits.
+    TooMany,
     /// The input ends behind a line that no LF ends.
     Rest,
+    /// A session ends before a replica is declared, or in a block.
+    Unended,
 }
 
 impl From<LineFault> for Fault {
-    ghost use Rattle.grove_top.specs.FaultOfLine.{fault_of_line};
+    ghost use Rattle.grove_top.specs.FaultOf.{fault_of_line};
     ghost use Rattle.std.specs.Prelude.{◌≡◌};
 
     ghost from_gives = { λ line fault. fault ≡ fault_of_line line };
@@ -48,6 +67,30 @@ impl From<LineFault> for Fault {
             LineFault::BadVertex => Fault::BadVertex,
             LineFault::NoPosition => Fault::NoPosition,
             LineFault::WrongSort => Fault::WrongSort,
+        }
+    }
+}
+
+impl From<ScriptKind> for Fault {
+    ghost use Rattle.grove_top.specs.FaultOf.{fault_of_kind};
+    ghost use Rattle.std.specs.Prelude.{◌≡◌};
+
+    ghost from_gives = { λ kind fault. fault ≡ fault_of_kind kind };
+
+    fn from(kind: ScriptKind) -> Fault {
+        match kind {
+            ScriptKind::Syntax => Fault::Syntax,
+            ScriptKind::BadVertex => Fault::BadVertex,
+            ScriptKind::NoPosition => Fault::NoPosition,
+            ScriptKind::WrongSort => Fault::WrongSort,
+            ScriptKind::OutOfPlace => Fault::OutOfPlace,
+            ScriptKind::UnknownReplica => Fault::UnknownReplica,
+            ScriptKind::RepeatedReplica => Fault::RepeatedReplica,
+            ScriptKind::UnknownAuthor => Fault::UnknownAuthor,
+            ScriptKind::RepeatedAuthor => Fault::RepeatedAuthor,
+            ScriptKind::TooMany => Fault::TooMany,
+            ScriptKind::Rest => Fault::Rest,
+            ScriptKind::Unended => Fault::Unended,
         }
     }
 }

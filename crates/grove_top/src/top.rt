@@ -1,19 +1,19 @@
 ghost use Rattle.std.specs.Prelude.{◌≡◌, ◌≢◌, ◌⊎◌, ◌<◌, ◌≤◌, ◌↔◌, ℕ, List, [], ◌∷◌, Some, length, take, map, string_bytes, IsTrue, IfSome, IfNone};
 ghost use Rattle.grove_io.specs.Outside.{HasRisen, Gave, Took};
-ghost use Rattle.grove_edits.specs.declared.edit.Edit.{Edit};
-ghost use Rattle.grove_sorts.specs.declared.version.Version.{Version};
-ghost use Rattle.edit_text.specs.Whole.{IsTextOf};
+ghost use Rattle.replica_core.specs.Content.{Content};
+ghost use Rattle.session_report.specs.Taken.{Journals};
 ghost use Rattle.grove_top.specs.declared.command.Command.{Command};
 ghost use Rattle.grove_top.specs.Words.{AreOf, AreOfNone};
-ghost use Rattle.grove_top.specs.Due.{IsDue, most_bytes, usage_text, too_long_text};
+ghost use Rattle.grove_top.specs.Due.{IsDue, HasReading, most_bytes, usage_text, too_long_text};
 ghost use Rattle.grove_top.specs.Meets.{Meets};
 
-use crate::command::Command;
+use crate::command::{Command, Question};
 use crate::commands::form_due;
 use crate::limit::MOST_BYTES;
 use crate::outcome::{Outcome, Status};
 use grove_io::{InputFault, Sink, Source, read_all, write_out};
 use seeded_hash::HashSeed;
+use session_report::JournalList;
 use std::alloc::Global;
 
 const USAGE: &[u8] = b"usage: grove merge | show | check | run | gen N\n";
@@ -35,23 +35,22 @@ pub fn run<S: Source, K: Sink>(
     ensures meets { Meets words.now
         (record { left = S.left source.old; read_faults = S.faults source.old; taken = K.taken sink.old; write_faults = K.faults sink.old })
         (record { left = S.left source.new; read_faults = S.faults source.new; taken = K.taken sink.new; write_faults = K.faults sink.new })
-        result.status }
+        result.journals result.status }
     ensures reads_nothing { AreOfNone words.now → source.new ≡ source.old }
 
     // A good input is answered, unless the outside fails or memory runs out.
-    ensures complete { (command : Command) (text : List ℕ) (version : Version) (edits : List Edit) → AreOf command words.now
-        → S.left source.old ≡ Some text → IsTextOf text version edits → length text ≤ most_bytes
+    ensures complete { (command : Command) (text : List ℕ) → AreOf command words.now
+        → S.left source.old ≡ Some text → HasReading command text → length text ≤ most_bytes
         → ¬ HasRisen (S.faults source.old) (S.faults source.new) → ¬ HasRisen (K.faults sink.old) (K.faults sink.new)
         → (result.status ≡ Status.Done) ⊎ (result.status ≡ Status.NoMemory) }
 
     // No count rises where the source never fails and the sink does not for as many bytes as may be due.
     ensures no_read_fault { S.never_fails source.old → S.faults source.new ≡ S.faults source.old }
     ensures no_write_fault { (room : ℕ) → K.never_fails sink.old room
-        → ((text due : List ℕ) (status : Status) → Gave (S.left source.old) text (S.left source.new) → IsDue words.now text status due → length due ≤ room)
+        → ((text due : List ℕ) (journals : Journals Content) (status : Status) → Gave (S.left source.old) text (S.left source.new) → IsDue words.now text journals status due → length due ≤ room)
         → K.faults sink.new ≡ K.faults sink.old }
 {
-    let status = answer(alloc, seed, words, source, sink);
-    Outcome { status }
+    answer(alloc, seed, words, source, sink)
 }
 
 fn answer<S: Source, K: Sink>(
@@ -60,28 +59,43 @@ fn answer<S: Source, K: Sink>(
     words: &[String],
     source: &mut S,
     sink: &mut K,
-) -> Status
+) -> Outcome
     ensures meets { Meets words.now
         (record { left = S.left source.old; read_faults = S.faults source.old; taken = K.taken sink.old; write_faults = K.faults sink.old })
         (record { left = S.left source.new; read_faults = S.faults source.new; taken = K.taken sink.new; write_faults = K.faults sink.new })
-        result }
+        result.journals result.status }
     ensures reads_nothing { AreOfNone words.now → source.new ≡ source.old }
     ensures no_read_fault { S.never_fails source.old → S.faults source.new ≡ S.faults source.old }
     ensures no_write_fault { (room : ℕ) → K.never_fails sink.old room
-        → ((text due : List ℕ) (status : Status) → Gave (S.left source.old) text (S.left source.new) → IsDue words.now text status due → length due ≤ room)
+        → ((text due : List ℕ) (journals : Journals Content) (status : Status) → Gave (S.left source.old) text (S.left source.new) → IsDue words.now text journals status due → length due ≤ room)
         → K.faults sink.new ≡ K.faults sink.old }
 {
     let Some(command) = command_of(words) else {
-        return write(sink, Status::Usage, USAGE);
+        return without_journals(alloc, write(sink, Status::Usage, USAGE));
     };
     match read_all(alloc, source, MOST_BYTES) {
         Ok(text) => match form_due(alloc, seed, command, &text) {
-            Ok(due) => write(sink, due.status, &due.text),
-            Err(_) => Status::NoMemory,
+            Ok(due) => Outcome {
+                status: write(sink, due.status, &due.text),
+                journals: due.journals,
+            },
+            Err(_) => without_journals(alloc, Status::NoMemory),
         },
-        Err(InputFault::TooLong) => write(sink, Status::TooLong, TOO_LONG),
-        Err(InputFault::ReadFault) => Status::ReadFault,
-        Err(InputFault::NoMemory) => Status::NoMemory,
+        Err(InputFault::TooLong) => {
+            without_journals(alloc, write(sink, Status::TooLong, TOO_LONG))
+        }
+        Err(InputFault::ReadFault) => without_journals(alloc, Status::ReadFault),
+        Err(InputFault::NoMemory) => without_journals(alloc, Status::NoMemory),
+    }
+}
+
+fn without_journals(alloc: Global, status: Status) -> Outcome
+    ensures status { result.status ≡ status }
+    ensures journals { result.journals ≡ [] }
+{
+    Outcome {
+        status,
+        journals: JournalList::new(alloc),
     }
 }
 
@@ -90,11 +104,13 @@ fn command_of(words: &[String]) -> Option<Command>
     ensures none { IfNone result (AreOfNone words.now) }
 {
     if is_word(words, "merge") {
-        Some(Command::Merge)
+        Some(Command::Ask(Question::Merge))
     } else if is_word(words, "show") {
-        Some(Command::Show)
+        Some(Command::Ask(Question::Show))
     } else if is_word(words, "check") {
-        Some(Command::Check)
+        Some(Command::Ask(Question::Check))
+    } else if is_word(words, "run") {
+        Some(Command::Run)
     } else {
         None
     }

@@ -43,8 +43,8 @@ pub seen_as : (kept : LiveGraph) (opening : List Edge) (content : Content) → I
 seen_as kept opening content of stands same_opening =
     let same : edits_in kept.store ≡ content.edits = stored_is kept.store content.edits of.in_order stands.store in
     let view : content_of kept opening ≡ content =
-        ap (λ (edits : List Edit). let c : Content = record { edits = edits; opening = opening } in c) same
-        ∙ ap (λ (edges : List Edge). let c : Content = record { edits = content.edits; opening = edges } in c) same_opening in
+    ap (λ (edits : List Edit). let c : Content = record { edits = edits; opening = opening } in c) same
+    ∙ ap (λ (edges : List Edge). let c : Content = record { edits = content.edits; opening = edges } in c) same_opening in
     record {
       view = view;
       invariant = record {
@@ -94,9 +94,9 @@ seen_empty kept opening stands present =
     let first : IsSeenAs kept [] no_edits = seen_as kept [] no_edits content_empty stands refl in
     let same : edits_in kept.store ≡ [] = ap (λ (c : Content). c.edits) first.view in
     let none : opening ≡ [] =
-        one_present (well_formed (state_in kept.store)) opening (map edit_edge (edits_in kept.store)) present
-        (canonical_present (well_formed (state_in kept.store)) (edits_in kept.store) (listed kept [] first.invariant))
-        ∙ ap (map edit_edge) same in
+    one_present (well_formed (state_in kept.store)) opening (map edit_edge (edits_in kept.store)) present
+    (canonical_present (well_formed (state_in kept.store)) (edits_in kept.store) (listed kept [] first.invariant))
+    ∙ ap (map edit_edge) same in
     seen_as kept opening no_edits content_empty stands none
 
 -- ---- plans

@@ -19,9 +19,9 @@ stands_next g edits i edit kept lt is of =
     let more : take (i + 1) edits ≡ take i edits ++ edit ∷ [] = take_more edits i edit lt ∙ ap (λ (x : Edit). take i edits ++ x ∷ []) (sym is) in
     stands_along (graph_join (graph_join g (graph (take i edits))) (graph (edit ∷ []))) (graph_join g (graph (take (i + 1) edits))) kept
     (λ e.
-      state_join_assoc (g e) (graph (take i edits) e) (graph (edit ∷ []) e)
-      ∙ ap (state_join (g e)) (sym (graph-append (take i edits) (edit ∷ []) e))
-      ∙ ap (λ (xs : List Edit). state_join (g e) (graph xs e)) (sym more))
+    state_join_assoc (g e) (graph (take i edits) e) (graph (edit ∷ []) e)
+    ∙ ap (state_join (g e)) (sym (graph-append (take i edits) (edit ∷ []) e))
+    ∙ ap (λ (xs : List Edit). state_join (g e) (graph xs e)) (sym more))
     of
 
 pub stands_after : (g : Graph) (edits : List Edit) (i : ℕ) (kept : LiveGraph) → length edits ≤ i → StandsFor (graph_join g (graph (take i edits))) kept → StandsFor (graph_join g (graph edits)) kept
@@ -32,7 +32,7 @@ pub room_for_next : (edits : List Edit) (i : ℕ) (edit : Edit) (kept : LiveGrap
     → HasRoomFor (map edit_edge (drop i edits)) kept → HasRoomFor (edit_edge edit ∷ map edit_edge (drop (i + 1) edits)) kept
 room_for_next edits i edit kept lt is of =
     let next : drop i edits ≡ edit ∷ drop (i + 1) edits =
-        drop-cons edits i edit lt ∙ ap (λ (x : Edit). x ∷ drop (suc i) edits) (sym is) ∙ ap (λ (k : ℕ). edit ∷ drop k edits) (sym (add-one i)) in
+    drop-cons edits i edit lt ∙ ap (λ (x : Edit). x ∷ drop (suc i) edits) (sym is) ∙ ap (λ (k : ℕ). edit ∷ drop k edits) (sym (add-one i)) in
     subst (λ (xs : List Edit). HasRoomFor (map edit_edge xs) kept) next of
 
 -- the edges of all edits

@@ -6,6 +6,7 @@ ghost use Rattle.session_report.specs.Report.{IsReport};
 use crate::no_memory::NoMemory;
 use crate::running::Running;
 use replica_core::Replica;
+use seeded_hash::HashSeed;
 use session_report::JournalList;
 use session_script::Session;
 use std::alloc::Global;
@@ -17,13 +18,14 @@ pub struct Ran {
     pub journals: JournalList<Replica>,
 }
 
-/// Runs a session: its items one after the other, on replicas that are empty as it begins.
-pub fn run_session(alloc: Global, session: &Session) -> Result<Ran, NoMemory>
+/// Runs a session: its items one after the other, on replicas that are empty as it begins. What they look up they find by hashes
+/// under a seed, and what the session leaves is the same whatever the seed is.
+pub fn run_session(alloc: Global, seed: HashSeed, session: &Session) -> Result<Ran, NoMemory>
     requires { IsSession session.now }
     ensures legal { IfOk result (λ ran. AreLegal session.now ran.journals) }
     ensures report { IfOk result (λ ran. IsReport session.now ran.journals ran.text.items) }
 {
-    let mut running = Running::new(alloc, session)?;
+    let mut running = Running::new(alloc, seed, session)?;
     for (index, item) in session.items.as_slice().iter().enumerate() {
         running = running.run_item(alloc, session, index, item)?;
     }

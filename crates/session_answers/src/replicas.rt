@@ -7,6 +7,7 @@ ghost use Rattle.session_answers.specs.Running.{sources_of as lists_of};
 use crate::no_memory::NoMemory;
 use grove_edits::{Edit, EditList};
 use replica_core::Replica;
+use seeded_hash::HashSeed;
 use session_report::{BlockJournal, JournalList};
 use shared_replica::Journal;
 use std::alloc::Global;
@@ -14,13 +15,17 @@ use std::marker::Brand;
 use std::sync::ledger::{Blank, Ledger};
 use walks::Steps;
 
-/// So many replicas that have taken nothing.
-pub(crate) fn empty_replicas(alloc: Global, count: usize) -> Result<Vec<Replica>, NoMemory>
+/// So many replicas that have taken nothing, which hash under a seed.
+pub(crate) fn empty_replicas(
+    alloc: Global,
+    seed: HashSeed,
+    count: usize,
+) -> Result<Vec<Replica>, NoMemory>
     ensures { IfOk result (λ replicas. replicas.items ≡ replicate count no_edits) }
 {
     let mut replicas = Vec::new(alloc);
     for _made in 0..count {
-        replicas.push(Replica::new(alloc)?)?;
+        replicas.push(Replica::with_seed(alloc, seed)?)?;
     }
     Ok(replicas)
 }

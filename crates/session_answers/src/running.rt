@@ -9,6 +9,7 @@ use crate::replicas::{append_journals, apply, begin_block_on_each, empty_replica
 use crate::showing::append_sections;
 use grove_edits::Edit;
 use replica_core::Replica;
+use seeded_hash::HashSeed;
 use session_report::{JournalList, append_block, append_show_heading};
 use session_run::run_block;
 use session_script::{Block, Item, Line, Session};
@@ -31,11 +32,11 @@ pub(crate) struct Running {
 
 impl Running {
     /// The session before its first item.
-    pub(crate) fn new(alloc: Global, session: &Session) -> Result<Running, NoMemory>
+    pub(crate) fn new(alloc: Global, seed: HashSeed, session: &Session) -> Result<Running, NoMemory>
         ensures { IfOk result (IsBehind session.now []) }
     {
         Ok(Running {
-            replicas: empty_replicas(alloc, session.replicas.len())?,
+            replicas: empty_replicas(alloc, seed, session.replicas.len())?,
             journals: JournalList::new(alloc),
             text: Vec::new(alloc),
             blocks: 0,

@@ -1,4 +1,5 @@
 use super::*;
+use seeded_hash::HashSeed;
 use session_script::read_session;
 use std::test::Fail;
 
@@ -18,7 +19,7 @@ show
 #[test]
 fn a_session_is_run(rt: HostRuntime) -> Result<(), Fail> {
     let session = read_session(rt.alloc(), AMBIGUOUS).map_err(|_| "a session")?;
-    let ran = run_session(rt.alloc(), &session).map_err(|_| "memory")?;
+    let ran = run_session(rt.alloc(), HashSeed::FIXED, &session).map_err(|_| "memory")?;
     assert_eq!(rt; ran.journals.len(), 1);
     assert_eq!(rt;
         ran.text.as_slice(),

@@ -2,4 +2,4 @@ use Rattle.grove_top.proofs.Statuses.{complete}
 use Rattle.grove_top.proofs.top.run.Goals as goal
 
 pub returns-clause-complete : goal.returns-clause-complete
-returns-clause-complete g c = λ command text version edits are told spelled short. complete c.args.words.now _ _ c.answer-status.result command text version edits c.answer-status.ensures.meets are told spelled short
+returns-clause-complete g c = λ command text are told reading short. complete c.args.words.now _ _ c.answer.result.journals c.answer.result.status command text c.answer.ensures.meets are told reading short

@@ -10,6 +10,6 @@ use Rattle.replica_core.proofs.replica.Replica.act.Goals as goal
 pub returns-clause-refused : goal.returns-clause-refused
 returns-clause-refused g c = λ fault is.
     let none : c.in_ok-edits.edits ≡ [] =
-        refusal_has_none (graph c.args.self.now.edits) c.args.self.now.opening c.args.author c.args.action.now c.in_ok-edits.edits fault
-        (subst (λ (a : Answer). IsPlan (graph c.args.self.now.edits) c.args.self.now.opening c.args.author c.args.action.now c.in_ok-edits.edits a) is c.in_ok-edits.ensures.plan) in
+    refusal_has_none (graph c.args.self.now.edits) c.args.self.now.opening c.args.author c.args.action.now c.in_ok-edits.edits fault
+    (subst (λ (a : Answer). IsPlan (graph c.args.self.now.edits) c.args.self.now.opening c.args.author c.args.action.now c.in_ok-edits.edits a) is c.in_ok-edits.ensures.plan) in
     (none, c.in_ok-apply_all.ensures.taken ∙ ap (λ (edits : List Edit). with_taken edits c.args.self.now) none)
