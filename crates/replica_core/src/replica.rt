@@ -135,7 +135,8 @@ impl Replica {
         ensures appended { OnOk result ((text : List ℕ) × IsPrintText (graph self.now.edits) text × (out.new.items ≡ out.old.items ++ text)) }
         ensures unchanged { OnErr result (out.new.items ≡ out.old.items) }
     {
-        let text = print_text(alloc, self.in_order(alloc)?, self.graph.parents.seed())?;
+        let edits = self.in_order(alloc)?;
+        let text = print_text(alloc, edits, self.graph.parents.seed())?;
         out.extend_from_slice(&text)?;
         Ok(())
     }
@@ -145,7 +146,8 @@ impl Replica {
         ensures appended { OnOk result ((text : List ℕ) × IsCanonicalText (graph self.now.edits) text × (out.new.items ≡ out.old.items ++ text)) }
         ensures unchanged { OnErr result (out.new.items ≡ out.old.items) }
     {
-        append_canonical_text(&self.in_order(alloc)?, out)?;
+        let edits = self.in_order(alloc)?;
+        append_canonical_text(&edits, out)?;
         Ok(())
     }
 
