@@ -1,5 +1,5 @@
 //! Blocks of sessions: what a block asks of each replica, namely the lines of the authors who act on it and the pieces that are sent to
-//! it, which journals are legal for it, and how it is run.
+//! it, and how it is run.
 #![tactic(auto)]
 
 mod block;
