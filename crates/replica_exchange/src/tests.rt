@@ -1,3 +1,5 @@
+ghost use Rattle.std.specs.Prelude.{◌≡◌};
+
 use super::*;
 use edit_text::{LineFault, read_line};
 use grove_edits::EditList;
@@ -15,7 +17,10 @@ const LINES: [&[u8]; 3] = [
 fn three_edits(alloc: Global) -> Result<EditList, Fail> {
     let mut edits = EditList::new(alloc);
     for line in LINES {
-        edits.push(read_line(Version::Two, line).ok().ok_or("a good line")?)?;
+        let Ok(edit) = read_line(Version::Two, line) else {
+            return Err(Fail::from("a good line"));
+        };
+        edits.push(edit)?;
     }
     Ok(edits)
 }
@@ -35,42 +40,78 @@ fn reversed_twice(cut: u64) -> SendLine
     }
 }
 
+fn is_piece(pieces: &PieceList, index: usize, want: &[u8]) -> bool {
+    match pieces.get(index) {
+        Some(piece) => piece == want,
+        None => false,
+    }
+}
+
 #[test]
 fn a_text_is_cut_after_every_so_many_bytes(rt: HostRuntime) -> Result<(), Fail> {
     let list = three_edits(rt.alloc())?;
     let pieces = packets(rt.alloc(), &list, &reversed_twice(50))?;
     assert_eq!(rt; pieces.len(), 4);
-    for (index, want) in [
-        (
+    assert!(rt;
+        is_piece(
+            &pieces,
             0,
-            b"+3.4 3.1 plus right 3.3 true\n+3.2 0.0 root main 3.".as_slice(),
-        ),
-        (3, b"1 plus left 2.1 num:2\n".as_slice()),
-    ] {
-        let piece = pieces.get(index).ok_or("a piece")?;
-        assert_eq!(rt; piece, want);
-    }
-    assert!(rt; pieces.get(4).is_none());
+            b"+3.4 3.1 plus right 3.3 true\n+3.2 0.0 root main 3.",
+        )
+    );
+    assert!(rt; is_piece(&pieces, 3, b"1 plus left 2.1 num:2\n"));
     Ok(())
+}
+
+// How many bytes are sent in one piece.
+fn sent_length(alloc: Global, list: &EditList, skip: u64, take: u64) -> Result<usize, Fail> {
+    let line = SendLine {
+        from: 0,
+        to: 0,
+        skip,
+        take,
+        reverse: false,
+        twice: false,
+        cut: 65_536,
+    };
+    let pieces = packets(alloc, list, &line)?;
+    match pieces.get(0) {
+        Some(piece) => Ok(piece.len()),
+        None => Ok(0),
+    }
 }
 
 #[test]
 fn edits_are_left_out_and_taken(rt: HostRuntime) -> Result<(), Fail> {
     let list = three_edits(rt.alloc())?;
     for (skip, take, length) in [(0, 1, 29), (1, 1, 28), (2, 9, 29), (3, 9, 0), (0, 0, 0)] {
-        let line = SendLine {
-            from: 0,
-            to: 0,
-            skip,
-            take,
-            reverse: false,
-            twice: false,
-            cut: 65_536,
-        };
-        let pieces = packets(rt.alloc(), &list, &line)?;
-        assert_eq!(rt; pieces.get(0).map_or(0, |piece| piece.len()), length);
+        assert_eq!(rt; sent_length(rt.alloc(), &list, skip, take)?, length);
     }
     Ok(())
+}
+
+// The edits of all pieces.
+fn taken_of(alloc: Global, pieces: &PieceList) -> Result<EditList, Fail> {
+    let mut taker = Taker::new(alloc);
+    let mut taken = EditList::new(alloc);
+    for index in 0..pieces.len() {
+        let piece = pieces.get(index).ok_or("a piece")?;
+        let Ok(edits) = taker.take(piece) else {
+            return Err(Fail::from("its edits"));
+        };
+        taken.extend_from_slice(edits.as_slice())?;
+    }
+    Ok(taken)
+}
+
+// Whether the edits are three in reverse, again and again.
+fn are_reversed(list: &EditList, taken: &EditList) -> bool {
+    for index in 0..taken.len() {
+        if list.get(2 - index % 3) != taken.get(index) {
+            return false;
+        }
+    }
+    true
 }
 
 #[test]
@@ -78,18 +119,9 @@ fn pieces_are_taken_whatever_their_length(rt: HostRuntime) -> Result<(), Fail> {
     let list = three_edits(rt.alloc())?;
     for cut in 1..180u64 {
         let pieces = packets(rt.alloc(), &list, &reversed_twice(cut))?;
-        let mut taker = Taker::new(rt.alloc());
-        let mut count = 0;
-        for index in 0..pieces.len() {
-            let piece = pieces.get(index).ok_or("a piece")?;
-            let edits = taker.take(piece).ok().ok_or("its edits")?;
-            for edit in edits.as_slice() {
-                let want = list.as_slice().get(2 - count % 3).ok_or("an edit")?;
-                assert!(rt; edit == want);
-                count += 1;
-            }
-        }
-        assert_eq!(rt; count, 6);
+        let taken = taken_of(rt.alloc(), &pieces)?;
+        assert_eq!(rt; taken.len(), 6);
+        assert!(rt; are_reversed(&list, &taken));
     }
     Ok(())
 }
