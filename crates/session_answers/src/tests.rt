@@ -18,8 +18,10 @@ show
 
 #[test]
 fn a_session_is_run(rt: HostRuntime) -> Result<(), Fail> {
-    let session = read_session(rt.alloc(), AMBIGUOUS).map_err(|_| "a session")?;
-    let ran = run_session(rt.alloc(), HashSeed::FIXED, &session).map_err(|_| "memory")?;
+    let Ok(session) = read_session(rt.alloc(), AMBIGUOUS) else {
+        return Err(Fail::from("a session"));
+    };
+    let ran = run_session(rt.alloc(), HashSeed::FIXED, &session)?;
     assert_eq!(rt; ran.journals.len(), 1);
     assert_eq!(rt;
         ran.text.as_slice(),
