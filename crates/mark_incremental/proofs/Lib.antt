@@ -1,0 +1,13 @@
+pub mod Tails
+pub mod Growth
+pub mod Levels
+pub mod Steps
+pub mod WalksUp
+pub mod Raised
+pub mod Renewed
+pub mod Trees
+pub mod Lists
+pub mod Begins
+pub mod Applied
+pub mod RootChange
+pub mod WholeTrees
