@@ -1,6 +1,0 @@
-pub mod Reading
-pub mod Looking
-pub mod Walking
-pub mod Passing
-pub mod Raising
-pub mod Standing
