@@ -1,10 +1,11 @@
 //! The outside of the program: a `Source` gives bytes and a `Sink` takes them, and each counts its faults.
 //! There are sources and sinks in memory, and adapters over std's readers and writers.
-//! `read_all` reads a source to its end, and `write_out` writes all of some bytes.
+//! `read_all` reads a source to its end, and `write_out` writes all of some bytes. A `Gate` says when the calls of authors start.
 #![tactic(auto)]
 
 mod calls;
 mod fault;
+mod gate;
 mod memory_sink;
 mod memory_source;
 mod no_memory;
@@ -20,6 +21,7 @@ mod writer_sink;
 mod writing;
 
 pub use fault::{Failed, InputFault};
+pub use gate::{Gate, OpenGate};
 pub use memory_sink::MemorySink;
 pub use memory_source::MemorySource;
 pub use no_memory::NoMemory;
