@@ -1,0 +1,47 @@
+-- The first turn of some lines.
+use Rattle.std.proofs.Common.{◌≡◌, ℕ, zero, suc, ◌+◌, ◌<◌, ◌≤◌, Bool, true, false, cond, List, [], ◌∷◌, ◌++◌, length, get_or, take, drop, refl, sym, ap, ◌∙◌, arith, append_assoc, append-nil}
+use Rattle.std.specs.List.{AllByRecursion}
+use Rattle.grove_edits.specs.declared.action.Action.{Action}
+use Rattle.grove_edits.specs.declared.edit.Edit.{Edit}
+use Rattle.author_desk.specs.Lines.{slots_named, slots_cut, is_opening_cut}
+use Rattle.author_desk.specs.Turns.{in_first_turn, turns_of}
+
+abbrev pub AreOpeningCuts : List Edit → List Action → Type 0
+AreOpeningCuts es lines = AllByRecursion (λ line. is_opening_cut es line ≡ true) lines
+
+cut_first : (es : List Edit) (x : Action) (xs : List Action) → is_opening_cut es x ≡ true → turns_of es (x ∷ xs) ≡ in_first_turn x (turns_of es xs)
+cut_first es x xs is = ap (λ (b : Bool). cond b (in_first_turn x (turns_of es xs)) ((x ∷ []) ∷ turns_of es xs)) is
+
+other_first : (es : List Edit) (x : Action) (xs : List Action) → is_opening_cut es x ≡ false → turns_of es (x ∷ xs) ≡ (x ∷ []) ∷ turns_of es xs
+other_first es x xs is = ap (λ (b : Bool). cond b (in_first_turn x (turns_of es xs)) ((x ∷ []) ∷ turns_of es xs)) is
+
+-- the first line that is no opening cut ends the turn
+pub turn_at : (es : List Edit) (xs : List Action) (i n : ℕ) (x : Action) → i < length xs → n ≡ i + 1 → get_or xs i x ≡ x → AreOpeningCuts es (take i xs) → is_opening_cut es x ≡ false
+    → turns_of es xs ≡ take n xs ∷ turns_of es (drop n xs)
+turn_at es [] i n x lt e at all is = absurd (omega arith)
+turn_at es (y ∷ ys) i zero x lt e at all is = absurd (omega arith)
+turn_at es (y ∷ ys) zero (suc zero) x lt e at all is = other_first es y ys (ap (is_opening_cut es) at ∙ is)
+turn_at es (y ∷ ys) zero (suc (suc n)) x lt e at all is = absurd (omega arith)
+turn_at es (y ∷ ys) (suc i) (suc n) x lt e at all is = cut_first es y ys all.0 ∙ ap (in_first_turn y) (turn_at es ys i n x (omega arith) (omega arith) at all.1 is)
+
+-- where all lines are opening cuts, they are one turn
+pub one_turn : (es : List Edit) (xs : List Action) (n : ℕ) → 1 ≤ length xs → length xs ≤ n → AreOpeningCuts es (take n xs) → turns_of es xs ≡ take (length xs) xs ∷ turns_of es (drop (length xs) xs)
+one_turn es [] n some le all = absurd (omega arith)
+one_turn es (x ∷ xs) zero some le all = absurd (omega arith)
+one_turn es (x ∷ []) (suc n) some le all = cut_first es x [] all.0
+one_turn es (x ∷ y ∷ ys) (suc n) some le all = cut_first es x (y ∷ ys) all.0 ∙ ap (in_first_turn x) (one_turn es (y ∷ ys) n (omega arith) (omega arith) all.1)
+
+pub cuts_more : (es : List Edit) (xs : List Action) (i n : ℕ) (x : Action) → i < length xs → n ≡ i + 1 → get_or xs i x ≡ x → AreOpeningCuts es (take i xs) → is_opening_cut es x ≡ true → AreOpeningCuts es (take n xs)
+cuts_more es [] i n x lt e at all is = absurd (omega arith)
+cuts_more es (y ∷ ys) i zero x lt e at all is = absurd (omega arith)
+cuts_more es (y ∷ ys) zero (suc zero) x lt e at all is = (ap (is_opening_cut es) at ∙ is, tt)
+cuts_more es (y ∷ ys) zero (suc (suc n)) x lt e at all is = absurd (omega arith)
+cuts_more es (y ∷ ys) (suc i) (suc n) x lt e at all is = (all.0, cuts_more es ys i n x (omega arith) (omega arith) at all.1 is)
+
+pub slots_more : (es : List Edit) (xs : List Action) (i n : ℕ) (x : Action) → i < length xs → n ≡ i + 1 → get_or xs i x ≡ x → slots_cut es (take n xs) ≡ slots_cut es (take i xs) ++ slots_named es x
+slots_more es [] i n x lt e at = absurd (omega arith)
+slots_more es (y ∷ ys) i zero x lt e at = absurd (omega arith)
+slots_more es (y ∷ ys) zero (suc zero) x lt e at = append-nil (slots_named es y) ∙ ap (slots_named es) at
+slots_more es (y ∷ ys) zero (suc (suc n)) x lt e at = absurd (omega arith)
+slots_more es (y ∷ ys) (suc i) (suc n) x lt e at =
+    ap (λ slots. slots_named es y ++ slots) (slots_more es ys i n x (omega arith) (omega arith) at) ∙ sym (append_assoc (slots_named es y) (slots_cut es (take i ys)) (slots_named es x))

@@ -1,0 +1,5 @@
+pub mod Named
+pub mod FirstTurn
+pub mod Raising
+pub mod UnderWay
+pub mod Standing

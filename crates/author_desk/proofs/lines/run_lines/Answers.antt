@@ -1,0 +1,73 @@
+use Rattle.std.proofs.Common.{◌≡◌, zero, suc, List, [], ◌∷◌, length, refl, ◌∙◌, arith, Result, Ok, Err, OnErr}
+use Rattle.author_desk.proofs.UnderWay.{starts, begins, goes_on, enters_first, raises_first, turns_same, ends_entered, ends_raised, ends_made, ends_left}
+use Rattle.author_desk.proofs.lines.run_lines.Goals as goal
+
+on_err : {T E P : Type 0} (r : Result T E) → P → OnErr r P
+on_err (Ok x) h = tt
+on_err (Err e) h = h
+
+nothing : {X : Type 0} (xs : List X) → length xs ≡ 0 → xs ≡ []
+nothing [] none = refl
+nothing (x ∷ xs) none = absurd (omega arith)
+
+pub loop-left-init : goal.loop-left-init
+loop-left-init g c = (begins c.args.pass.now c.args.cuts.now c.args.lines.now c.requires.calls, refl)
+
+pub enter-requires-clause-shared : goal.enter-requires-clause-shared
+enter-requires-clause-shared g c κs within =
+    let u = c.loop-left.invariant.0 in
+    (turns_same c.args.pass.now c.loop-left.pass u.turns u.entered).0 ∙ c.requires.shared
+
+pub loop-left-preserved : goal.loop-left-preserved
+loop-left-preserved g c =
+    let s = starts c.loop-left.cuts c.start_turn-count.new.cuts c.loop-left.left.now c.split_at.result.0.now c.split_at.result.1.now c.start_turn-count.result c.split_at.ensures.front c.split_at.ensures.back
+    c.start_turn-count.ensures.first_turn c.start_turn-count.ensures.raised in
+    let calls = c.loop-left.invariant.1 in
+    let fewer = c.split_at.ensures.back_len in (
+      goes_on c.args.pass.now c.loop-left.pass c.enter.new.pass c.args.cuts.now c.loop-left.cuts c.start_turn-count.new.cuts c.args.lines.now c.loop-left.left.now c.split_at.result.0.now c.split_at.result.1.now c.requires.cuts
+      c.loop-left.invariant.0 s c.in_ok-enter.ensures.entered,
+      omega arith,
+    )
+
+pub returns-in_err-enter-clause-entered_first : goal.returns-in_err-enter-clause-entered_first
+returns-in_err-enter-clause-entered_first g c =
+    let s = starts c.loop-left.cuts c.start_turn-count.new.cuts c.loop-left.left.now c.split_at.result.0.now c.split_at.result.1.now c.start_turn-count.result c.split_at.ensures.front c.split_at.ensures.back
+    c.start_turn-count.ensures.first_turn c.start_turn-count.ensures.raised in
+    on_err c.from_residual.result
+    (enters_first c.args.pass.now c.loop-left.pass c.enter.new.pass c.args.cuts.now c.loop-left.cuts c.args.lines.now c.loop-left.left.now c.split_at.result.0.now c.split_at.result.1.now c.loop-left.invariant.0 s.split
+    c.in_err-enter.ensures.first)
+
+pub returns-in_err-enter-clause-raised_first : goal.returns-in_err-enter-clause-raised_first
+returns-in_err-enter-clause-raised_first g c =
+    let s = starts c.loop-left.cuts c.start_turn-count.new.cuts c.loop-left.left.now c.split_at.result.0.now c.split_at.result.1.now c.start_turn-count.result c.split_at.ensures.front c.split_at.ensures.back
+    c.start_turn-count.ensures.first_turn c.start_turn-count.ensures.raised in
+    on_err c.from_residual.result
+    (raises_first c.args.pass.now c.loop-left.pass c.args.cuts.now c.loop-left.cuts c.start_turn-count.new.cuts c.args.lines.now c.loop-left.left.now c.split_at.result.0.now c.split_at.result.1.now c.requires.cuts
+    c.loop-left.invariant.0 s)
+
+pub returns-in_err-enter-clause-same : goal.returns-in_err-enter-clause-same
+returns-in_err-enter-clause-same g c =
+    let u = c.loop-left.invariant.0 in
+    let h = enters_first c.args.pass.now c.loop-left.pass c.enter.new.pass c.args.cuts.now c.loop-left.cuts c.args.lines.now c.loop-left.left.now c.split_at.result.0.now c.split_at.result.1.now u
+    (starts c.loop-left.cuts c.start_turn-count.new.cuts c.loop-left.left.now c.split_at.result.0.now c.split_at.result.1.now c.start_turn-count.result c.split_at.ensures.front c.split_at.ensures.back
+    c.start_turn-count.ensures.first_turn c.start_turn-count.ensures.raised).split c.in_err-enter.ensures.first in
+    turns_same c.args.pass.now c.enter.new.pass h.0 h.2
+
+pub returns-clause-same : goal.returns-clause-same
+returns-clause-same g c = let u = c.loop-left.invariant.0 in turns_same c.args.pass.now c.loop-left.pass u.turns u.entered
+
+pub returns-clause-entered : goal.returns-clause-entered
+returns-clause-entered g c =
+    ends_entered c.args.pass.now c.loop-left.pass c.args.cuts.now c.loop-left.cuts c.args.lines.now c.loop-left.left.now c.loop-left.invariant.0 (nothing c.loop-left.left.now (grind arith))
+
+pub returns-clause-raised : goal.returns-clause-raised
+returns-clause-raised g c =
+    ends_raised c.args.pass.now c.loop-left.pass c.args.cuts.now c.loop-left.cuts c.args.lines.now c.loop-left.left.now c.loop-left.invariant.0 (nothing c.loop-left.left.now (grind arith))
+
+pub returns-clause-made : goal.returns-clause-made
+returns-clause-made g c =
+    ends_made c.args.pass.now c.loop-left.pass c.args.cuts.now c.loop-left.cuts c.args.lines.now c.loop-left.left.now c.loop-left.invariant.0 (nothing c.loop-left.left.now (grind arith))
+
+pub returns-clause-left : goal.returns-clause-left
+returns-clause-left g c =
+    ends_left c.args.pass.now c.loop-left.pass c.args.cuts.now c.loop-left.cuts c.args.lines.now c.loop-left.left.now c.loop-left.invariant.0 (nothing c.loop-left.left.now (grind arith))

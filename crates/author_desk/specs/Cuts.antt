@@ -1,0 +1,35 @@
+-- What contracts see of the cuts of an author: the opening edges, the board, and what its seat raised.
+use Rattle.std.specs.Prelude.{◌≡◌, ℕ, List, [], ◌++◌, length}
+use mathlib.Core.List.{IsPrefix}
+use Rattle.grove_edits.specs.declared.action.Action.{Action}
+use Rattle.grove_edits.specs.declared.edit.Edit.{Edit}
+use Rattle.grove_edits.specs.Graph.{Ascends}
+use Rattle.edge_board.specs.Seats.{BoardStanding}
+use Rattle.author_desk.specs.declared.cuts.Cuts.{Cuts}
+use Rattle.author_desk.specs.declared.cuts.Cuts.TheVariants.{Empty, On}
+use Rattle.author_desk.specs.Lines.{slots_cut}
+
+-- the edits whose edges are the opening ones
+abbrev pub opening_edits : Cuts → List Edit
+opening_edits Empty = []
+opening_edits (On opening board seat) = opening.now
+
+-- the opening edges ascend, and each has a slot of the board, at which the seat is
+abbrev pub CanRaise : Cuts → Type 0
+CanRaise Empty = Unit {0}
+CanRaise (On opening board seat) = Ascends opening.now × (length board.now.opening ≡ length opening.now) × (seat.board ≡ board.now)
+
+-- the seat raised these slots, and nothing else; it is at its board and has its parts as before
+pub record SeatRaises (before after : BoardStanding) (slots : List ℕ) : Type 0 where
+  pub board : after.board ≡ before.board
+  pub parts : after.parts ≡ before.parts
+  pub marks : after.marks ≡ before.marks ++ slots
+
+-- the same of the seat of some cuts, whose opening edges and board stay
+abbrev pub Raises : Cuts → Cuts → List ℕ → Type 0
+Raises Empty after slots = after ≡ Empty
+Raises (On opening board seat) after slots = (seat' : BoardStanding) × (after ≡ On opening board seat') × SeatRaises seat seat' slots
+
+-- the slots of the first lines were raised, perhaps of all or of none
+abbrev pub RaisesFirst : Cuts → Cuts → List Action → Type 0
+RaisesFirst before after lines = (first : List Action) × IsPrefix first lines × Raises before after (slots_cut (opening_edits before) first)

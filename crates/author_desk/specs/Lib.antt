@@ -1,0 +1,4 @@
+pub mod Lines
+pub mod Turns
+pub mod Cuts
+pub mod Together

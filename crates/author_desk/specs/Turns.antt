@@ -1,0 +1,34 @@
+-- In which turns the lines of an author are entered: a cut of opening edges goes with the line behind it.
+use Rattle.std.specs.Prelude.{◌≡◌, if◌then◌else◌, List, [], ◌∷◌, map}
+use mathlib.Core.List.{IsPrefix}
+use Rattle.grove_edits.specs.declared.action.Action.{Action}
+use Rattle.grove_edits.specs.declared.answer.Answer.{Answer}
+use Rattle.grove_edits.specs.declared.command.Command.{Command}
+use Rattle.grove_edits.specs.declared.command.Command.TheVariants.{Act}
+use Rattle.grove_edits.specs.declared.edit.Edit.{Edit}
+use Rattle.shared_replica.specs.Passes.{Call, Passing, EntersInTurns, all_calls}
+use Rattle.author_desk.specs.Lines.{is_opening_cut}
+
+-- the turns, with a line more at the front of the first one, or in a turn of its own where there is none
+abbrev pub in_first_turn : Action → List (List Action) → List (List Action)
+in_first_turn line [] = (line ∷ []) ∷ []
+in_first_turn line (turn ∷ turns) = (line ∷ turn) ∷ turns
+
+-- the lines, as turns: each is a run of opening cuts and the line behind it, and the last one may be such a run alone
+abbrev pub turns_of : List Edit → List Action → List (List Action)
+turns_of opening [] = []
+turns_of opening (line ∷ lines) = if is_opening_cut opening line then in_first_turn line (turns_of opening lines) else (line ∷ []) ∷ turns_of opening lines
+
+abbrev pub commands_of : List (Call Command Answer) → List Command
+commands_of calls = map (λ call. call.command) calls
+
+module _ {M E : Type 0} where
+  -- the pass entered the lines, each turn of them by one turn
+  abbrev pub EntersLines : Passing M Command E Answer → Passing M Command E Answer → List Edit → List Action → Type 0
+  EntersLines before after opening lines =
+      (turns : List (List (Call Command Answer))) × (map commands_of turns ≡ map (map Act) (turns_of opening lines)) × EntersInTurns before after turns
+
+  -- the pass entered the first of the lines, perhaps all or none, and nothing else
+  abbrev pub EntersFirstLines : Passing M Command E Answer → Passing M Command E Answer → List Action → Type 0
+  EntersFirstLines before after lines =
+      (turns : List (List (Call Command Answer))) × IsPrefix (commands_of (all_calls turns)) (map Act lines) × EntersInTurns before after turns
