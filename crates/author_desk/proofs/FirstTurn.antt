@@ -1,10 +1,10 @@
 -- The first turn of some lines.
 use Rattle.std.proofs.Common.{◌≡◌, ℕ, zero, suc, ◌+◌, ◌<◌, ◌≤◌, Bool, true, false, cond, List, [], ◌∷◌, ◌++◌, length, get_or, take, drop, refl, sym, ap, ◌∙◌, arith, append_assoc, append-nil}
-use Rattle.std.specs.List.{AllByRecursion}
+use Rattle.std.specs.List.{AllByRecursion, flat_map}
 use Rattle.grove_edits.specs.declared.action.Action.{Action}
 use Rattle.grove_edits.specs.declared.edit.Edit.{Edit}
 use Rattle.author_desk.specs.Lines.{slots_named, slots_cut, is_opening_cut}
-use Rattle.author_desk.specs.Turns.{in_first_turn, turns_of}
+use Rattle.author_desk.specs.Turns.{in_first_turn, turns_of, IsTurn}
 
 abbrev pub AreOpeningCuts : List Edit → List Action → Type 0
 AreOpeningCuts es lines = AllByRecursion (λ line. is_opening_cut es line ≡ true) lines
@@ -45,3 +45,28 @@ slots_more es (y ∷ ys) zero (suc zero) x lt e at = append-nil (slots_named es 
 slots_more es (y ∷ ys) zero (suc (suc n)) x lt e at = absurd (omega arith)
 slots_more es (y ∷ ys) (suc i) (suc n) x lt e at =
     ap (λ slots. slots_named es y ++ slots) (slots_more es ys i n x (omega arith) (omega arith) at) ∙ sym (append_assoc (slots_named es y) (slots_cut es (take i ys)) (slots_named es x))
+
+-- ---- all turns
+
+with_first : (x : Action) (ts : List (List Action)) → flat_map (λ turn. turn) (in_first_turn x ts) ≡ x ∷ flat_map (λ turn. turn) ts
+with_first x [] = refl
+with_first x (t ∷ ts) = refl
+
+pub all_lines : (es : List Edit) (xs : List Action) → flat_map (λ turn. turn) (turns_of es xs) ≡ xs
+all_lines es [] = refl
+all_lines es (x ∷ xs) = by_test (is_opening_cut es x) (all_lines es xs) where
+  by_test : (b : Bool) → flat_map (λ turn. turn) (turns_of es xs) ≡ xs → flat_map (λ turn. turn) (cond b (in_first_turn x (turns_of es xs)) ((x ∷ []) ∷ turns_of es xs)) ≡ x ∷ xs
+  by_test true rest = with_first x (turns_of es xs) ∙ ap (λ ys. x ∷ ys) rest
+  by_test false rest = ap (λ ys. x ∷ ys) rest
+
+with_cut : (es : List Edit) (x : Action) (ts : List (List Action)) → is_opening_cut es x ≡ true → AllByRecursion (IsTurn es) ts → AllByRecursion (IsTurn es) (in_first_turn x ts)
+with_cut es x [] is all = (tt, tt)
+with_cut es x ([] ∷ ts) is all = absurd all.0
+with_cut es x ((y ∷ ys) ∷ ts) is all = ((is, all.0), all.1)
+
+pub all_runs : (es : List Edit) (xs : List Action) → AllByRecursion (IsTurn es) (turns_of es xs)
+all_runs es [] = tt
+all_runs es (x ∷ xs) = by_test (is_opening_cut es x) refl (all_runs es xs) where
+  by_test : (b : Bool) → is_opening_cut es x ≡ b → AllByRecursion (IsTurn es) (turns_of es xs) → AllByRecursion (IsTurn es) (cond b (in_first_turn x (turns_of es xs)) ((x ∷ []) ∷ turns_of es xs))
+  by_test true is rest = with_cut es x (turns_of es xs) is rest
+  by_test false is rest = (tt, rest)

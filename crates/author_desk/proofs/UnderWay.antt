@@ -126,13 +126,13 @@ module _ {M E : Type 0} where
         turns = u.turns ++ calls ∷ [];
         entered = enters_both b p p' u.turns (calls ∷ []) u.entered (p', e.2, refl);
         made =
-        ap commands_of (all_calls-append u.turns (calls ∷ []) ∙ ap (λ cs. all_calls u.turns ++ cs) (append-nil calls))
-        ∙ (map-append (λ (call : Call Command Answer). call.command) (all_calls u.turns) calls ∙ (ap (λ cs. cs ++ commands_of calls) u.made ∙ (ap (λ cs. map Act u.done ++ cs) e.1 ∙ sym (map-append Act u.done turn))));
+            ap commands_of (all_calls-append u.turns (calls ∷ []) ∙ ap (λ cs. all_calls u.turns ++ cs) (append-nil calls))
+            ∙ (map-append (λ (call : Call Command Answer). call.command) (all_calls u.turns) calls ∙ (ap (λ cs. cs ++ commands_of calls) u.made ∙ (ap (λ cs. map Act u.done ++ cs) e.1 ∙ sym (map-append Act u.done turn))));
         as_turns =
-        ap (λ ts. ts ++ map (map Act) (turns_of es behind)) (map-append commands_of u.turns (calls ∷ []))
-        ∙ (append_assoc (map commands_of u.turns) (commands_of calls ∷ []) (map (map Act) (turns_of es behind))
-        ∙ (ap (λ cs. map commands_of u.turns ++ cs ∷ map (map Act) (turns_of es behind)) e.1
-        ∙ (ap (λ ts. map commands_of u.turns ++ map (map Act) ts) (sym first') ∙ u.as_turns)));
+            ap (λ ts. ts ++ map (map Act) (turns_of es behind)) (map-append commands_of u.turns (calls ∷ []))
+            ∙ (append_assoc (map commands_of u.turns) (commands_of calls ∷ []) (map (map Act) (turns_of es behind))
+            ∙ (ap (λ cs. map commands_of u.turns ++ cs ∷ map (map Act) (turns_of es behind)) e.1
+            ∙ (ap (λ ts. map commands_of u.turns ++ map (map Act) ts) (sym first') ∙ u.as_turns)));
         raised = raised_with b p c c' c'' lines left turn can u s.raised;
         room = omega arith;
       }
@@ -150,7 +150,7 @@ module _ {M E : Type 0} where
         (
           rest ++ map Act behind,
           ap (λ xs. xs ++ (rest ++ map Act behind)) more
-          ∙ (append_assoc (map Act u.done) cs (rest ++ map Act behind) ∙ (ap (λ xs. map Act u.done ++ xs) all ∙ (sym (map-append Act u.done left) ∙ ap (map Act) u.split))),
+              ∙ (append_assoc (map Act u.done) cs (rest ++ map Act behind) ∙ (ap (λ xs. map Act u.done ++ xs) all ∙ (sym (map-append Act u.done left) ∙ ap (map Act) u.split))),
         ),
         enters_both b p p' u.turns ts u.entered h.2,
       )

@@ -1,5 +1,5 @@
 -- What contracts see of the cuts of an author: the opening edges, the board, and what its seat raised.
-use Rattle.std.specs.Prelude.{◌≡◌, ℕ, List, [], ◌++◌, length}
+use Rattle.std.specs.Prelude.{◌≡◌, ℕ, List, [], ◌++◌, length, Option, Some, None}
 use mathlib.Core.List.{IsPrefix}
 use Rattle.grove_edits.specs.declared.action.Action.{Action}
 use Rattle.grove_edits.specs.declared.edit.Edit.{Edit}
@@ -13,6 +13,11 @@ use Rattle.author_desk.specs.Lines.{slots_cut}
 abbrev pub opening_edits : Cuts → List Edit
 opening_edits Empty = []
 opening_edits (On opening board seat) = opening.now
+
+-- the seat at the board, where there is one
+abbrev pub seat_of : Cuts → Option BoardStanding
+seat_of Empty = None
+seat_of (On opening board seat) = Some seat
 
 -- the opening edges ascend, and each has a slot of the board, at which the seat is
 abbrev pub CanRaise : Cuts → Type 0

@@ -1,5 +1,5 @@
 -- In which turns the lines of an author are entered: a cut of opening edges goes with the line behind it.
-use Rattle.std.specs.Prelude.{◌≡◌, if◌then◌else◌, List, [], ◌∷◌, map}
+use Rattle.std.specs.Prelude.{◌≡◌, if◌then◌else◌, IsTrue, List, [], ◌∷◌, map}
 use mathlib.Core.List.{IsPrefix}
 use Rattle.grove_edits.specs.declared.action.Action.{Action}
 use Rattle.grove_edits.specs.declared.answer.Answer.{Answer}
@@ -18,6 +18,12 @@ in_first_turn line (turn ∷ turns) = (line ∷ turn) ∷ turns
 abbrev pub turns_of : List Edit → List Action → List (List Action)
 turns_of opening [] = []
 turns_of opening (line ∷ lines) = if is_opening_cut opening line then in_first_turn line (turns_of opening lines) else (line ∷ []) ∷ turns_of opening lines
+
+-- opening cuts, and then one line, which may be such a cut too
+abbrev pub IsTurn : List Edit → List Action → Type 0
+IsTurn opening [] = ⊥
+IsTurn opening (line ∷ []) = Unit {0}
+IsTurn opening (line ∷ next ∷ lines) = IsTrue (is_opening_cut opening line) × IsTurn opening (next ∷ lines)
 
 abbrev pub commands_of : List (Call Command Answer) → List Command
 commands_of calls = map (λ call. call.command) calls

@@ -1,6 +1,6 @@
 ghost use Rattle.std.specs.Prelude.{◌≡◌};
 ghost use Rattle.author_desk.specs.Lines.{slots_named, is_opening_cut};
-ghost use Rattle.author_desk.specs.Cuts.{opening_edits, CanRaise, Raises};
+ghost use Rattle.author_desk.specs.Cuts.{opening_edits, seat_of, CanRaise, Raises};
 
 use crate::opening::raise_edges_named;
 use edge_board::{Board, BoardSeat};
@@ -17,6 +17,22 @@ pub enum Cuts<'a> {
         board: &'a Board,
         seat: BoardSeat,
     },
+}
+
+impl<'a> Cuts<'a> {
+    /// The seat at the board, where there is one.
+    pub fn into_seat(self) -> Option<BoardSeat>
+        ensures { result ≡ seat_of self.entry }
+    {
+        match self {
+            Cuts::Empty => None,
+            Cuts::On {
+                opening: _,
+                board: _,
+                seat,
+            } => Some(seat),
+        }
+    }
 }
 
 /// Raises the slots of the opening edges that a line cuts, and says whether it cuts any.

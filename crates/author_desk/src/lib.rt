@@ -17,6 +17,6 @@ mod starting;
 mod tests;
 
 pub use cuts::Cuts;
-pub use laws::each_turn_stands_together;
+pub use laws::{each_turn_stands_together, turns_have_each_line_once};
 pub use lines::run_lines;
 pub use no_memory::NoMemory;

@@ -25,7 +25,7 @@ loop-left-preserved g c =
     let calls = c.loop-left.invariant.1 in
     let fewer = c.split_at.ensures.back_len in (
       goes_on c.args.pass.now c.loop-left.pass c.enter.new.pass c.args.cuts.now c.loop-left.cuts c.start_turn-count.new.cuts c.args.lines.now c.loop-left.left.now c.split_at.result.0.now c.split_at.result.1.now c.requires.cuts
-      c.loop-left.invariant.0 s c.in_ok-enter.ensures.entered,
+          c.loop-left.invariant.0 s c.in_ok-enter.ensures.entered,
       omega arith,
     )
 

@@ -45,7 +45,7 @@ returns-clause-raised c =
       board = i.0;
       parts = i.1;
       marks =
-      sym (append-nil marks)
-      ∙ (ap (λ n. marks ++ range_with_len c.loop-slot.slot n) (sym none)
-      ∙ (i.2 ∙ ap (λ slots. c.args.seat.now.marks ++ slots) (sym (slots_between name opening 0 first (end - first) end first (omega arith) c.count_up_to-end.ensures.within before up_to (omega arith)))));
+          sym (append-nil marks)
+          ∙ (ap (λ n. marks ++ range_with_len c.loop-slot.slot n) (sym none)
+          ∙ (i.2 ∙ ap (λ slots. c.args.seat.now.marks ++ slots) (sym (slots_between name opening 0 first (end - first) end first (omega arith) c.count_up_to-end.ensures.within before up_to (omega arith)))));
     }

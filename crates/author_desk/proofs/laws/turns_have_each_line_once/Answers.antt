@@ -1,0 +1,8 @@
+use Rattle.author_desk.proofs.FirstTurn.{all_lines, all_runs}
+use Rattle.author_desk.proofs.laws.turns_have_each_line_once.Goals as goal
+
+pub returns-clause-lines : goal.returns-clause-lines
+returns-clause-lines c opening lines = all_lines opening lines
+
+pub returns-clause-runs : goal.returns-clause-runs
+returns-clause-runs c opening lines = all_runs opening lines
