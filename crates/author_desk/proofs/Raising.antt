@@ -4,7 +4,7 @@ use Rattle.grove_edits.specs.declared.action.Action.{Action}
 use Rattle.author_desk.specs.declared.cuts.Cuts.{Cuts}
 use Rattle.author_desk.specs.declared.cuts.Cuts.TheVariants.{Empty, On}
 use Rattle.author_desk.specs.Lines.{slots_named, slots_cut}
-use Rattle.author_desk.specs.Cuts.{opening_edits, CanRaise, Raises}
+use Rattle.author_desk.specs.Cuts.{opening_edits, CanRaise, Raises, KeepsSeat}
 use Rattle.author_desk.proofs.FirstTurn.{slots_more}
 
 pub raises_none : (c : Cuts) → Raises c c []
@@ -28,6 +28,10 @@ raises_both (On opening board seat) c' c'' xs ys h h' =
 pub still : (c c' : Cuts) (xs : List ℕ) → CanRaise c → Raises c c' xs → CanRaise c' × (opening_edits c' ≡ opening_edits c)
 still Empty c' xs can h = subst (λ z. CanRaise z × (opening_edits z ≡ [])) (sym h) (tt, refl)
 still (On opening board seat) c' xs can h = subst (λ z. CanRaise z × (opening_edits z ≡ opening.now)) (sym h.1) ((can.0, can.1, h.2.board ∙ can.2), refl)
+
+pub keeps_seat : (c c' : Cuts) (xs : List ℕ) → Raises c c' xs → KeepsSeat c c'
+keeps_seat Empty c' xs h = h
+keeps_seat (On opening board seat) c' xs h = (h.0, h.1, h.2.board, h.2.parts)
 
 -- one line more
 pub raises_line : (c c' c'' : Cuts) (lines : List Action) (i : ℕ) (x : Action) → CanRaise c → i < length lines → get_or lines i x ≡ x → Raises c c' (slots_cut (opening_edits c) (take i lines))

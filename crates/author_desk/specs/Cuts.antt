@@ -35,6 +35,11 @@ abbrev pub Raises : Cuts → Cuts → List ℕ → Type 0
 Raises Empty after slots = after ≡ Empty
 Raises (On opening board seat) after slots = (seat' : BoardStanding) × (after ≡ On opening board seat') × SeatRaises seat seat' slots
 
+-- the opening edges and the board stay, and the seat is at the board with its parts
+abbrev pub KeepsSeat : Cuts → Cuts → Type 0
+KeepsSeat Empty after = after ≡ Empty
+KeepsSeat (On opening board seat) after = (seat' : BoardStanding) × (after ≡ On opening board seat') × (seat'.board ≡ seat.board) × (seat'.parts ≡ seat.parts)
+
 -- the slots of the first lines were raised, perhaps of all or of none
 abbrev pub RaisesFirst : Cuts → Cuts → List Action → Type 0
 RaisesFirst before after lines = (first : List Action) × IsPrefix first lines × Raises before after (slots_cut (opening_edits before) first)

@@ -3,7 +3,7 @@ ghost use Rattle.grove_edits.specs.declared.actor.Actor.TheVariants.{Author};
 ghost use Rattle.grove_edits.specs.declared.command.Command.TheVariants.{Act};
 ghost use Rattle.author_desk.specs.Lines.{slots_cut};
 ghost use Rattle.author_desk.specs.Turns.{commands_of, EntersLines, EntersFirstLines};
-ghost use Rattle.author_desk.specs.Cuts.{opening_edits, CanRaise, Raises, RaisesFirst};
+ghost use Rattle.author_desk.specs.Cuts.{opening_edits, CanRaise, Raises, RaisesFirst, KeepsSeat};
 
 use crate::cuts::Cuts;
 use crate::entering::enter;
@@ -46,6 +46,7 @@ pub fn run_lines<R: Wait, M: Machine<Command = Command, Reply = Answer>, G: Gate
     ensures entered_first { OnErr result (EntersFirstLines pass.old pass.new lines.now) }
     ensures raised_first { OnErr result (RaisesFirst cuts.old cuts.new lines.now) }
 
+    ensures kept { KeepsSeat cuts.old cuts.new }
     ensures same { (pass.new.shared ≡ pass.old.shared) × (pass.new.actor ≡ pass.old.actor) × (pass.new.parts ≡ pass.old.parts) × (pass.new.joined ≡ pass.old.joined) }
 {
     let mut left = lines;

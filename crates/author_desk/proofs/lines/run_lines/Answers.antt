@@ -1,4 +1,7 @@
-use Rattle.std.proofs.Common.{◌≡◌, zero, suc, List, [], ◌∷◌, length, refl, ◌∙◌, arith, Result, Ok, Err, OnErr}
+use Rattle.std.proofs.Common.{◌≡◌, List, [], ◌∷◌, length, refl, ◌∙◌, arith, Result, Ok, Err, OnErr}
+use Rattle.author_desk.specs.Lines.{slots_cut}
+use Rattle.author_desk.specs.Cuts.{opening_edits}
+use Rattle.author_desk.proofs.Raising.{keeps_seat}
 use Rattle.author_desk.proofs.UnderWay.{starts, begins, goes_on, enters_first, raises_first, turns_same, ends_entered, ends_raised, ends_made, ends_left}
 use Rattle.author_desk.proofs.lines.run_lines.Goals as goal
 
@@ -44,6 +47,19 @@ returns-in_err-enter-clause-raised_first g c =
     on_err c.from_residual.result
     (raises_first c.args.pass.now c.loop-left.pass c.args.cuts.now c.loop-left.cuts c.start_turn-count.new.cuts c.args.lines.now c.loop-left.left.now c.split_at.result.0.now c.split_at.result.1.now c.requires.cuts
     c.loop-left.invariant.0 s)
+
+pub returns-in_err-enter-clause-kept : goal.returns-in_err-enter-clause-kept
+returns-in_err-enter-clause-kept g c =
+    let s = starts c.loop-left.cuts c.start_turn-count.new.cuts c.loop-left.left.now c.split_at.result.0.now c.split_at.result.1.now c.start_turn-count.result c.split_at.ensures.front c.split_at.ensures.back
+    c.start_turn-count.ensures.first_turn c.start_turn-count.ensures.raised in
+    let h = raises_first c.args.pass.now c.loop-left.pass c.args.cuts.now c.loop-left.cuts c.start_turn-count.new.cuts c.args.lines.now c.loop-left.left.now c.split_at.result.0.now c.split_at.result.1.now c.requires.cuts
+    c.loop-left.invariant.0 s in
+    keeps_seat c.args.cuts.now c.start_turn-count.new.cuts (slots_cut (opening_edits c.args.cuts.now) h.0) h.2
+
+pub returns-clause-kept : goal.returns-clause-kept
+returns-clause-kept g c =
+    let u = c.loop-left.invariant.0 in
+    keeps_seat c.args.cuts.now c.loop-left.cuts (slots_cut (opening_edits c.args.cuts.now) u.done) u.raised
 
 pub returns-in_err-enter-clause-same : goal.returns-in_err-enter-clause-same
 returns-in_err-enter-clause-same g c =

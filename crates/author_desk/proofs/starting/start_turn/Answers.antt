@@ -1,4 +1,4 @@
-use Rattle.std.proofs.Common.{◌≡◌, ◌+◌, take, false, refl, sym, ap, ◌∙◌, arith}
+use Rattle.std.proofs.Common.{◌≡◌, ◌+◌, take, false, refl, sym, ap, ◌∙◌}
 use Rattle.author_desk.specs.Lines.{slots_cut, is_opening_cut}
 use Rattle.author_desk.specs.Cuts.{opening_edits}
 use Rattle.author_desk.proofs.FirstTurn.{turn_at, one_turn}
