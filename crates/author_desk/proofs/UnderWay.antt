@@ -10,7 +10,7 @@ use Rattle.shared_replica.specs.Passes.{Call, Passing, Enters, EntersAll, Enters
 use Rattle.author_desk.specs.declared.cuts.Cuts.{Cuts}
 use Rattle.author_desk.specs.Lines.{slots_named, slots_cut}
 use Rattle.author_desk.specs.Turns.{turns_of, commands_of, EntersLines, EntersFirstLines}
-use Rattle.author_desk.specs.Cuts.{opening_edits, CanRaise, Raises, RaisesFirst}
+use Rattle.author_desk.specs.Cuts.{opening_edits, CanRaise, Raises, RaisesFirst, StartsTurn}
 use Rattle.author_desk.proofs.Raising.{raises_none, raises_both, still}
 
 all_calls-append : {C R : Type 0} (ts us : List (List (Call C R))) → all_calls (ts ++ us) ≡ all_calls ts ++ all_calls us
@@ -44,20 +44,19 @@ module _ {M C E R : Type 0} where
       let both = length-append t (all_calls ts) in
       omega arith
 
--- the first turn of the lines that are left has started
-pub record IsStarted (cuts cuts' : Cuts) (left turn behind : List Action) : Type 0 where
-  pub split : turn ++ behind ≡ left
-  pub first : turns_of (opening_edits cuts) left ≡ turn ∷ turns_of (opening_edits cuts) behind
-  pub raised : Raises cuts cuts' (slots_cut (opening_edits cuts) turn)
+-- ---- the first turn
 
 pub starts : (c c' : Cuts) (left turn behind : List Action) (n : ℕ) → turn ≡ take n left → behind ≡ drop n left → turns_of (opening_edits c) left ≡ take n left ∷ turns_of (opening_edits c) (drop n left)
-    → Raises c c' (slots_cut (opening_edits c) (take n left)) → IsStarted c c' left turn behind
+    → Raises c c' (slots_cut (opening_edits c) (take n left)) → StartsTurn c c' left turn behind
 starts c c' left turn behind n front back first raised =
     record {
       split = ap₂ (λ (xs ys : List Action). xs ++ ys) front back ∙ take-append-drop n left;
       first = first ∙ ap₂ (λ (xs ys : List Action). xs ∷ turns_of (opening_edits c) ys) (sym front) (sym back);
       raised = subst (λ xs. Raises c c' (slots_cut (opening_edits c) xs)) (sym front) raised;
     }
+
+pub lengths : (c c' : Cuts) (lines turn behind : List Action) → StartsTurn c c' lines turn behind → length turn + length behind ≡ length lines
+lengths c c' lines turn behind s = sym (length-append turn behind) ∙ ap length s.split
 
 module _ {M E : Type 0} where
   enters_both : (b m a : Passing M Command E Answer) (ts us : List (List (Call Command Answer))) → EntersInTurns b m ts → EntersInTurns m a us → EntersInTurns b a (ts ++ us)
@@ -108,7 +107,7 @@ module _ {M E : Type 0} where
       (raises_both c c' c'' (slots_cut es u.done) (slots_cut es turn) u.raised (subst (λ e. Raises c' c'' (slots_cut e turn)) same h))
 
   -- one turn more
-  pub goes_on : (b p p' : Passing M Command E Answer) (c c' c'' : Cuts) (lines left turn behind : List Action) → CanRaise c → IsUnderWay b p c c' lines left → IsStarted c' c'' left turn behind → EntersAll p p' (map Act turn)
+  pub goes_on : (b p p' : Passing M Command E Answer) (c c' c'' : Cuts) (lines left turn behind : List Action) → CanRaise c → IsUnderWay b p c c' lines left → StartsTurn c' c'' left turn behind → EntersAll p p' (map Act turn)
       → IsUnderWay b p' c c'' lines behind
   goes_on b p p' c c' c'' lines left turn behind can u s e =
       let es = opening_edits c in
@@ -117,7 +116,7 @@ module _ {M E : Type 0} where
       let calls : List (Call Command Answer) = e.0 in
       let first' : turns_of es left ≡ turn ∷ turns_of es behind = subst (λ z. turns_of z left ≡ turn ∷ turns_of z behind) same s.first in
       let many : length calls ≡ length turn = sym (length-map calls (λ (call : Call Command Answer). call.command)) ∙ (ap length e.1 ∙ length-map turn Act) in
-      let parts : length turn + length behind ≡ length left = sym (length-append turn behind) ∙ ap length is in
+      let parts = lengths c' c'' left turn behind s in
       let had = e.2.left in
       let has = u.room in
       record {
@@ -155,7 +154,7 @@ module _ {M E : Type 0} where
         enters_both b p p' u.turns ts u.entered h.2,
       )
 
-  pub raises_first : (b p : Passing M Command E Answer) (c c' c'' : Cuts) (lines left turn behind : List Action) → CanRaise c → IsUnderWay b p c c' lines left → IsStarted c' c'' left turn behind → RaisesFirst c c'' lines
+  pub raises_first : (b p : Passing M Command E Answer) (c c' c'' : Cuts) (lines left turn behind : List Action) → CanRaise c → IsUnderWay b p c c' lines left → StartsTurn c' c'' left turn behind → RaisesFirst c c'' lines
   raises_first b p c c' c'' lines left turn behind can u s =
       (u.done ++ turn, (behind, append_assoc u.done turn behind ∙ (ap (λ xs. u.done ++ xs) s.split ∙ u.split)), raised_with b p c c' c'' lines left turn can u s.raised)
 

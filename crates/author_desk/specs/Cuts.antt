@@ -1,5 +1,5 @@
 -- What contracts see of the cuts of an author: the opening edges, the board, and what its seat raised.
-use Rattle.std.specs.Prelude.{◌≡◌, ℕ, List, [], ◌++◌, length, Option, Some, None}
+use Rattle.std.specs.Prelude.{◌≡◌, ℕ, List, [], ◌∷◌, ◌++◌, length, Option, Some, None}
 use mathlib.Core.List.{IsPrefix}
 use Rattle.grove_edits.specs.declared.action.Action.{Action}
 use Rattle.grove_edits.specs.declared.edit.Edit.{Edit}
@@ -8,6 +8,7 @@ use Rattle.edge_board.specs.Seats.{BoardStanding}
 use Rattle.author_desk.specs.declared.cuts.Cuts.{Cuts}
 use Rattle.author_desk.specs.declared.cuts.Cuts.TheVariants.{Empty, On}
 use Rattle.author_desk.specs.Lines.{slots_cut}
+use Rattle.author_desk.specs.Turns.{turns_of}
 
 -- the edits whose edges are the opening ones
 abbrev pub opening_edits : Cuts → List Edit
@@ -39,6 +40,12 @@ Raises (On opening board seat) after slots = (seat' : BoardStanding) × (after �
 abbrev pub KeepsSeat : Cuts → Cuts → Type 0
 KeepsSeat Empty after = after ≡ Empty
 KeepsSeat (On opening board seat) after = (seat' : BoardStanding) × (after ≡ On opening board seat') × (seat'.board ≡ seat.board) × (seat'.parts ≡ seat.parts)
+
+-- the first turn of some lines has started, and its slots are raised
+pub record StartsTurn (before after : Cuts) (lines turn behind : List Action) : Type 0 where
+  pub split : turn ++ behind ≡ lines
+  pub first : turns_of (opening_edits before) lines ≡ turn ∷ turns_of (opening_edits before) behind
+  pub raised : Raises before after (slots_cut (opening_edits before) turn)
 
 -- the slots of the first lines were raised, perhaps of all or of none
 abbrev pub RaisesFirst : Cuts → Cuts → List Action → Type 0

@@ -52,11 +52,10 @@ pub fn run_lines<R: Wait, M: Machine<Command = Command, Reply = Answer>, G: Gate
     let mut left = lines;
     let mut call = first_call;
     while !left.is_empty() {
-        let count = start_turn(cuts, author, call, left, gate);
-        let (turn, behind) = left.split_at(count);
+        let (turn, behind) = start_turn(cuts, author, call, left, gate);
         enter(rt, alloc, shared, pass, turn)?;
         left = behind;
-        call += count as u64;
+        call += turn.len() as u64;
     }
     Ok(())
 }

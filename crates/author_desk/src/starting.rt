@@ -1,8 +1,6 @@
 //! When lines start, and which of them a turn has.
-ghost use Rattle.std.specs.Prelude.{◌≡◌, ◌+◌, ◌^◌, ◌<◌, ◌≤◌, ◌∷◌, length, take, drop};
-ghost use Rattle.author_desk.specs.Lines.{slots_cut};
-ghost use Rattle.author_desk.specs.Turns.{turns_of};
-ghost use Rattle.author_desk.specs.Cuts.{opening_edits, CanRaise, Raises};
+ghost use Rattle.std.specs.Prelude.{◌+◌, ◌^◌, ◌<◌, ◌≤◌, length};
+ghost use Rattle.author_desk.specs.Cuts.{CanRaise, StartsTurn};
 
 use crate::cuts::{Cuts, raise_edges};
 use grove_edits::Action;
@@ -24,28 +22,26 @@ fn wait_until_ready<G: Gate>(gate: &G, author: u32, call: u64) {
     }
 }
 
-/// Starts the lines of the first turn, one after the other, and raises the slots that they cut. Answers how many lines these are.
-/// `first_call` is the number of the first line.
-pub(crate) fn start_turn<G: Gate>(
+/// Starts the lines of the first turn, one after the other, and raises the slots that they cut. Answers these lines and those behind
+/// them. `first_call` is the number of the first line.
+pub(crate) fn start_turn<'a, G: Gate>(
     cuts: &mut Cuts<'_>,
     author: u32,
     first_call: u64,
-    lines: &[Action],
+    lines: &'a [Action],
     gate: &G,
-) -> usize
+) -> (&'a [Action], &'a [Action])
     requires cuts { CanRaise cuts.old }
     requires some_line { 1 ≤ length lines.now }
     requires numbers { first_call + length lines.now < 2 ^ 64 }
-    ensures some_line { 1 ≤ result }
-    ensures within { result ≤ length lines.now }
-    ensures first_turn { turns_of (opening_edits cuts.old) lines.now ≡ take result lines.now ∷ turns_of (opening_edits cuts.old) (drop result lines.now) }
-    ensures raised { Raises cuts.old cuts.new (slots_cut (opening_edits cuts.old) (take result lines.now)) }
+    ensures some_line { 1 ≤ length result.0.now }
+    ensures started { StartsTurn cuts.old cuts.new lines.now result.0.now result.1.now }
 {
     for (index, line) in lines.iter().enumerate() {
         wait_until_ready(gate, author, first_call + index as u64);
         if !raise_edges(cuts, line) {
-            return index + 1;
+            return lines.split_at(index + 1);
         }
     }
-    lines.len()
+    lines.split_at(lines.len())
 }

@@ -2,7 +2,7 @@ use Rattle.std.proofs.Common.{◌≡◌, List, [], ◌∷◌, length, refl, ◌�
 use Rattle.author_desk.specs.Lines.{slots_cut}
 use Rattle.author_desk.specs.Cuts.{opening_edits}
 use Rattle.author_desk.proofs.Raising.{keeps_seat}
-use Rattle.author_desk.proofs.UnderWay.{starts, begins, goes_on, enters_first, raises_first, turns_same, ends_entered, ends_raised, ends_made, ends_left}
+use Rattle.author_desk.proofs.UnderWay.{lengths, begins, goes_on, enters_first, raises_first, turns_same, ends_entered, ends_raised, ends_made, ends_left}
 use Rattle.author_desk.proofs.lines.run_lines.Goals as goal
 
 on_err : {T E P : Type 0} (r : Result T E) → P → OnErr r P
@@ -23,38 +23,31 @@ enter-requires-clause-shared g c κs within =
 
 pub loop-left-preserved : goal.loop-left-preserved
 loop-left-preserved g c =
-    let s = starts c.loop-left.cuts c.start_turn-count.new.cuts c.loop-left.left.now c.split_at.result.0.now c.split_at.result.1.now c.start_turn-count.result c.split_at.ensures.front c.split_at.ensures.back
-    c.start_turn-count.ensures.first_turn c.start_turn-count.ensures.raised in
+    let s = c.start_turn.ensures.started in
     let calls = c.loop-left.invariant.1 in
-    let fewer = c.split_at.ensures.back_len in (
-      goes_on c.args.pass.now c.loop-left.pass c.enter.new.pass c.args.cuts.now c.loop-left.cuts c.start_turn-count.new.cuts c.args.lines.now c.loop-left.left.now c.split_at.result.0.now c.split_at.result.1.now c.requires.cuts
+    let parts = lengths c.loop-left.cuts c.start_turn.new.cuts c.loop-left.left.now c.start_turn.result.0.now c.start_turn.result.1.now s in (
+      goes_on c.args.pass.now c.loop-left.pass c.enter.new.pass c.args.cuts.now c.loop-left.cuts c.start_turn.new.cuts c.args.lines.now c.loop-left.left.now c.start_turn.result.0.now c.start_turn.result.1.now c.requires.cuts
           c.loop-left.invariant.0 s c.in_ok-enter.ensures.entered,
       omega arith,
     )
 
 pub returns-in_err-enter-clause-entered_first : goal.returns-in_err-enter-clause-entered_first
 returns-in_err-enter-clause-entered_first g c =
-    let s = starts c.loop-left.cuts c.start_turn-count.new.cuts c.loop-left.left.now c.split_at.result.0.now c.split_at.result.1.now c.start_turn-count.result c.split_at.ensures.front c.split_at.ensures.back
-    c.start_turn-count.ensures.first_turn c.start_turn-count.ensures.raised in
     on_err c.from_residual.result
-    (enters_first c.args.pass.now c.loop-left.pass c.enter.new.pass c.args.cuts.now c.loop-left.cuts c.args.lines.now c.loop-left.left.now c.split_at.result.0.now c.split_at.result.1.now c.loop-left.invariant.0 s.split
-    c.in_err-enter.ensures.first)
+    (enters_first c.args.pass.now c.loop-left.pass c.enter.new.pass c.args.cuts.now c.loop-left.cuts c.args.lines.now c.loop-left.left.now c.start_turn.result.0.now c.start_turn.result.1.now c.loop-left.invariant.0
+    c.start_turn.ensures.started.split c.in_err-enter.ensures.first)
 
 pub returns-in_err-enter-clause-raised_first : goal.returns-in_err-enter-clause-raised_first
 returns-in_err-enter-clause-raised_first g c =
-    let s = starts c.loop-left.cuts c.start_turn-count.new.cuts c.loop-left.left.now c.split_at.result.0.now c.split_at.result.1.now c.start_turn-count.result c.split_at.ensures.front c.split_at.ensures.back
-    c.start_turn-count.ensures.first_turn c.start_turn-count.ensures.raised in
     on_err c.from_residual.result
-    (raises_first c.args.pass.now c.loop-left.pass c.args.cuts.now c.loop-left.cuts c.start_turn-count.new.cuts c.args.lines.now c.loop-left.left.now c.split_at.result.0.now c.split_at.result.1.now c.requires.cuts
-    c.loop-left.invariant.0 s)
+    (raises_first c.args.pass.now c.loop-left.pass c.args.cuts.now c.loop-left.cuts c.start_turn.new.cuts c.args.lines.now c.loop-left.left.now c.start_turn.result.0.now c.start_turn.result.1.now c.requires.cuts
+    c.loop-left.invariant.0 c.start_turn.ensures.started)
 
 pub returns-in_err-enter-clause-kept : goal.returns-in_err-enter-clause-kept
 returns-in_err-enter-clause-kept g c =
-    let s = starts c.loop-left.cuts c.start_turn-count.new.cuts c.loop-left.left.now c.split_at.result.0.now c.split_at.result.1.now c.start_turn-count.result c.split_at.ensures.front c.split_at.ensures.back
-    c.start_turn-count.ensures.first_turn c.start_turn-count.ensures.raised in
-    let h = raises_first c.args.pass.now c.loop-left.pass c.args.cuts.now c.loop-left.cuts c.start_turn-count.new.cuts c.args.lines.now c.loop-left.left.now c.split_at.result.0.now c.split_at.result.1.now c.requires.cuts
-    c.loop-left.invariant.0 s in
-    keeps_seat c.args.cuts.now c.start_turn-count.new.cuts (slots_cut (opening_edits c.args.cuts.now) h.0) h.2
+    let h = raises_first c.args.pass.now c.loop-left.pass c.args.cuts.now c.loop-left.cuts c.start_turn.new.cuts c.args.lines.now c.loop-left.left.now c.start_turn.result.0.now c.start_turn.result.1.now c.requires.cuts
+    c.loop-left.invariant.0 c.start_turn.ensures.started in
+    keeps_seat c.args.cuts.now c.start_turn.new.cuts (slots_cut (opening_edits c.args.cuts.now) h.0) h.2
 
 pub returns-clause-kept : goal.returns-clause-kept
 returns-clause-kept g c =
@@ -63,10 +56,8 @@ returns-clause-kept g c =
 
 pub returns-in_err-enter-clause-same : goal.returns-in_err-enter-clause-same
 returns-in_err-enter-clause-same g c =
-    let u = c.loop-left.invariant.0 in
-    let h = enters_first c.args.pass.now c.loop-left.pass c.enter.new.pass c.args.cuts.now c.loop-left.cuts c.args.lines.now c.loop-left.left.now c.split_at.result.0.now c.split_at.result.1.now u
-    (starts c.loop-left.cuts c.start_turn-count.new.cuts c.loop-left.left.now c.split_at.result.0.now c.split_at.result.1.now c.start_turn-count.result c.split_at.ensures.front c.split_at.ensures.back
-    c.start_turn-count.ensures.first_turn c.start_turn-count.ensures.raised).split c.in_err-enter.ensures.first in
+    let h = enters_first c.args.pass.now c.loop-left.pass c.enter.new.pass c.args.cuts.now c.loop-left.cuts c.args.lines.now c.loop-left.left.now c.start_turn.result.0.now c.start_turn.result.1.now c.loop-left.invariant.0
+    c.start_turn.ensures.started.split c.in_err-enter.ensures.first in
     turns_same c.args.pass.now c.enter.new.pass h.0 h.2
 
 pub returns-clause-same : goal.returns-clause-same
