@@ -1,0 +1,4 @@
+pub mod Generated
+pub mod Group
+pub mod Items
+pub mod Parts
