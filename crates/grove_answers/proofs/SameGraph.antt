@@ -1,4 +1,4 @@
--- Graphs that are the same have the same texts, and each has one of each kind.
+-- Graphs that are the same have the same texts and counts, and each has one of each kind.
 use Rattle.std.proofs.Common.{◌≡◌, inl, inr, ℕ, suc, List, [], ◌∷◌, ◌++◌, length, sym, ap, subst, ◌∙◌}
 use Rattle.grove_edits.specs.Graph.{Graph, IsSame}
 use Rattle.grove_edits.proofs.Unique.{canonical_once}
@@ -10,6 +10,8 @@ use Rattle.marking.specs.Grove.{MarkedTrees, IsMarkedGrove}
 use Rattle.marking.proofs.OneMarking.{one_marking}
 use Rattle.plain_typing.specs.Typed.{AreTyped}
 use Rattle.grove_printer.specs.Print.{print_text, marked_lines}
+use Rattle.grove_answers.specs.declared.counts.Counts.{Counts}
+use Rattle.grove_answers.specs.Counts.{AreCounts, conflict_count, mark_count, all_marked}
 use Rattle.grove_answers.specs.Texts.{IsCanonicalText, IsPrintText, IsCheckText, all_trees, roots_line}
 
 pub canonical_along : (g h : Graph) (text : List ℕ) → IsSame g h → IsCanonicalText g text → IsCanonicalText h text
@@ -63,3 +65,35 @@ one_check_text g x y a b =
     ∙ ap (λ (h : Grove). marked_lines b.marked ++ roots_line (length (all_trees h)) a.typed) groves
     ∙ ap (λ (k : ℕ). marked_lines b.marked ++ roots_line (length (all_trees b.grove)) k) numbers
     ∙ sym b.written
+
+pub counts_along : (g h : Graph) (counts : Counts) → IsSame g h → AreCounts g counts → AreCounts h counts
+counts_along g h counts same are = record {
+  grove = are.grove;
+  marked = are.marked;
+  is_grove = grove_along g h are.grove same are.is_grove;
+  is_marked = are.is_marked;
+  none = are.none;
+  multi = are.multi;
+  cycle = are.cycle;
+  conflicts = are.conflicts;
+  marks = are.marks;
+}
+
+counts_from_fields : (a b : Counts) → a.none ≡ b.none → a.multi ≡ b.multi → a.cycle ≡ b.cycle → a.conflicts ≡ b.conflicts → a.marks ≡ b.marks → a ≡ b
+counts_from_fields a b none multi cycle conflicts marks =
+    ap (λ n. record { none = n; multi = a.multi; cycle = a.cycle; conflicts = a.conflicts; marks = a.marks }) none
+    ∙ ap (λ n. record { none = b.none; multi = n; cycle = a.cycle; conflicts = a.conflicts; marks = a.marks }) multi
+    ∙ ap (λ n. record { none = b.none; multi = b.multi; cycle = n; conflicts = a.conflicts; marks = a.marks }) cycle
+    ∙ ap (λ n. record { none = b.none; multi = b.multi; cycle = b.cycle; conflicts = n; marks = a.marks }) conflicts
+    ∙ ap (λ n. record { none = b.none; multi = b.multi; cycle = b.cycle; conflicts = b.conflicts; marks = n }) marks
+
+pub one_counts : (g : Graph) (x y : Counts) → AreCounts g x → AreCounts g y → x ≡ y
+one_counts g x y a b =
+    let groves : a.grove ≡ b.grove = one_grove g a.grove b.grove a.is_grove b.is_grove in
+    let marks : a.marked ≡ b.marked = marked_alike a.grove b.grove a.marked b.marked groves a.is_marked b.is_marked in
+    counts_from_fields x y
+    (a.none ∙ ap (λ (h : Grove). length h.none) groves ∙ sym b.none)
+    (a.multi ∙ ap (λ (h : Grove). length h.multi) groves ∙ sym b.multi)
+    (a.cycle ∙ ap (λ (h : Grove). length h.cycle) groves ∙ sym b.cycle)
+    (a.conflicts ∙ ap (λ (m : MarkedTrees). conflict_count (all_marked m)) marks ∙ sym b.conflicts)
+    (a.marks ∙ ap (λ (m : MarkedTrees). mark_count (all_marked m)) marks ∙ sym b.marks)

@@ -1,9 +1,13 @@
--- What one tree after the other adds to a text, and to the number of those that are typed.
+-- What one tree after the other adds to a text, to the number of those that are typed, and to counts.
 use Rattle.std.proofs.Common.{◌≡◌, inl, inr, ℕ, ◌+◌, List, [], ◌∷◌, ◌++◌, refl, sym, ap, subst, ◌∙◌, arith, append_assoc, append-nil}
+use Rattle.std.specs.Prelude.{count_by}
+use Rattle.std.proofs.lemmas.List.Sums.{sum_by-append}
 use Rattle.grove_terms.specs.declared.node.Node.{Node}
-use Rattle.marking.specs.Marking.{MarkedNode}
+use Rattle.marking.specs.Marking.{MarkedNode, has_mark}
 use Rattle.plain_typing.specs.Typed.{AreTyped}
 use Rattle.grove_printer.specs.Print.{tree_text, trees_text, tree_marked_lines, trees_marked_lines}
+use Rattle.grove_answers.specs.declared.counts.Counts.{Counts}
+use Rattle.grove_answers.specs.Counts.{is_conflict, conflict_count, mark_count, with_nodes}
 
 trees_text-append : (a b : List (List MarkedNode)) → trees_text (a ++ b) ≡ trees_text a ++ trees_text b
 trees_text-append [] b = refl
@@ -44,3 +48,23 @@ typed-append (t ∷ ts) b m n (inr of_a) of_b = inr (of_a.0, typed-append ts b m
 
 pub typed_more : (a b : List (List Node)) (r s t : ℕ) → HasCounted a r s → HasCounted b s t → HasCounted (a ++ b) r t
 typed_more a b r s t first then = (first.0 + then.0, typed-append a b first.0 then.0 first.1 then.1, (let rose = first.2 in let rose_more = then.2 in omega arith))
+
+-- ---- counts
+
+-- the counts with other numbers of conflicts and marks
+abbrev with_numbers : ℕ → ℕ → Counts → Counts
+with_numbers conflicts marks counts = record counts { conflicts = conflicts; marks = marks }
+
+numbers_alike : (counts : Counts) (c d m n : ℕ) → c ≡ d → m ≡ n → with_numbers c m counts ≡ with_numbers d n counts
+numbers_alike counts c d m n same_conflicts same_marks = ap (λ k. with_numbers k m counts) same_conflicts ∙ ap (λ k. with_numbers d k counts) same_marks
+
+pub nodes_none : (counts : Counts) → counts ≡ with_nodes [] counts
+nodes_none counts = numbers_alike counts counts.conflicts (counts.conflicts + conflict_count []) counts.marks (counts.marks + mark_count []) (omega arith) (omega arith)
+
+pub nodes_more : (r s t : Counts) (m n : List (List MarkedNode)) → s ≡ with_nodes m r → t ≡ with_nodes n s → t ≡ with_nodes (m ++ n) r
+nodes_more r s t m n first then =
+    let conflicts = sum_by-append (count_by (λ (x : MarkedNode). is_conflict x.node.what)) m n in
+    let marks = sum_by-append (count_by (λ (x : MarkedNode). has_mark x.mark)) m n in
+    then ∙ ap (with_nodes n) first
+    ∙ numbers_alike r ((r.conflicts + conflict_count m) + conflict_count n) (r.conflicts + conflict_count (m ++ n)) ((r.marks + mark_count m) + mark_count n) (r.marks + mark_count (m ++ n))
+    (omega (arith, conflicts)) (omega (arith, marks))

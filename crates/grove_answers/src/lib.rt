@@ -4,6 +4,8 @@
 
 mod canonical;
 mod check;
+mod counting;
+mod counts;
 mod laws;
 mod no_memory;
 mod program;
@@ -14,6 +16,8 @@ mod walk;
 
 pub use canonical::append_canonical_text;
 pub use check::check_text;
+pub use counting::grove_counts;
+pub use counts::Counts;
 pub use laws::same_graphs_have_one_text;
 pub use no_memory::NoMemory;
 pub use show::print_text;

@@ -1,0 +1,96 @@
+ghost use Rattle.std.specs.Prelude.{◌≡◌, IfOk, OnOk, count_by};
+ghost use Rattle.grove_edits.specs.Graph.{graph, Ascends};
+ghost use Rattle.marking.specs.Marking.{has_mark};
+ghost use Rattle.grove_answers.specs.Counts.{AreCounts, is_conflict, with_trees, with_nodes};
+ghost use Rattle.grove_answers.specs.Laws.{nodes_none, nodes_more};
+
+use crate::counts::Counts;
+use crate::no_memory::NoMemory;
+use crate::program::Program;
+use crate::report::Report;
+use crate::reporting::report_program;
+use ctx_table::CtxTable;
+use grove_edits::EditList;
+use grove_printer::Section;
+use grove_terms::{Tree, What};
+use marking::{MarkedNode, MarkedTree};
+use seeded_hash::HashSeed;
+use std::alloc::Global;
+use type_core::TypeTable;
+
+/// The counts of a canonical list's graph. What it looks up it finds by hashes under a seed.
+pub fn grove_counts(alloc: Global, edits: EditList, seed: HashSeed) -> Result<Counts, NoMemory>
+    requires { Ascends edits }
+    ensures { IfOk result (AreCounts (graph edits)) }
+{
+    let program = Program::of(alloc, edits, seed)?;
+    let mut counts = Counts {
+        none: 0,
+        multi: 0,
+        cycle: 0,
+        conflicts: 0,
+        marks: 0,
+    };
+    report_program(alloc, &program, &mut counts)?;
+    Ok(counts)
+}
+
+impl Report for Counts {
+    ghost begins = { λ before section trees after. after ≡ with_trees section trees before };
+
+    ghost takes = { λ before trees marked after. after ≡ with_nodes marked before };
+
+    ghost takes_none = { λ counts. nodes_none counts };
+
+    ghost takes_more = { λ r s t a b m n first then. nodes_more r s t m n first then };
+
+    fn begin(&mut self, section: Section, trees: usize) -> Result<(), NoMemory> {
+        let trees = trees as u64;
+        match section {
+            Section::NoParent => self.none = trees,
+            Section::Multi => self.multi = trees,
+            Section::Cycle => self.cycle = trees,
+        }
+        Ok(())
+    }
+
+    // No memory holds so many nodes that their number would not fit.
+    fn take(
+        &mut self,
+        _alloc: Global,
+        _tree: &Tree,
+        marked: &MarkedTree,
+        _types: &mut TypeTable,
+        _contexts: &mut CtxTable,
+    ) -> Result<(), NoMemory> {
+        let conflicts = conflicts_in(marked.as_slice()) as u64;
+        let marks = marks_in(marked.as_slice()) as u64;
+        self.conflicts = self.conflicts.checked_add(conflicts).ok_or(NoMemory)?;
+        self.marks = self.marks.checked_add(marks).ok_or(NoMemory)?;
+        Ok(())
+    }
+}
+
+fn conflicts_in(nodes: &[MarkedNode]) -> usize
+    ensures { result ≡ count_by (λ m. is_conflict m.node.now.what) nodes.now }
+{
+    nodes
+        .iter()
+        .filter(|node| is_conflict(&node.node.what))
+        .count()
+}
+
+fn is_conflict(what: &What) -> bool
+    ensures { result ≡ is_conflict what.now }
+{
+    match what {
+        What::Conflict(_, _) => true,
+        What::Vertex(_) | What::Hole(_) | What::MultiRef(_) | What::CycleRef(_) => false,
+    }
+}
+
+fn marks_in(nodes: &[MarkedNode]) -> usize
+    ensures { result ≡ count_by (λ m. has_mark m.mark) nodes.now }
+{
+    nodes.iter().filter(|node| node.mark.is_some()).count()
+}
