@@ -1,5 +1,8 @@
 pub mod Counting
 pub mod OneDue
+pub mod OneGenerated
 pub mod Statuses
+pub mod Values
 pub mod WordsAre
+pub mod GenWords
 pub mod Answered

@@ -2,6 +2,8 @@
 use Rattle.std.specs.declared.alloc.Global.{Global}
 use Rattle.std.proofs.Common.{◌≡◌, ◌≢◌, ◌⊎◌, inl, inr, ℕ, List, [], ◌∷◌, get_or, nat_eq, if◌then◌else◌, refl, sym, ap, subst, ◌∙◌, arith}
 use Rattle.std.specs.Prelude.{String}
+use Rattle.std.specs.Str.Parse.{digits_value}
+use Rattle.std.proofs.lemmas.Fmt.{decimal_is_IsNumeral}
 use Rattle.grove_edits.specs.declared.edit.Edit.{Edit}
 use Rattle.grove_edits.specs.Graph.{graph, IsSame, HasSameEdits}
 use Rattle.grove_edits.proofs.Graphs.{graph-same_edits}
@@ -17,19 +19,22 @@ use Rattle.session_script.proofs.OneSession.{one_session, session_or_fault}
 use Rattle.replica_core.specs.Content.{Content}
 use Rattle.session_report.specs.Taken.{Journals}
 use Rattle.session_report.specs.Report.{IsReport}
+use Rattle.session_report.specs.Summary.{IsSummary}
 use Rattle.session_report.proofs.OneReport.{one_report_text}
+use Rattle.session_report.proofs.OneSummary.{one_summary_text}
+use Rattle.session_gen.specs.Generated.{generated_text}
 use Rattle.grove_top.specs.FaultOf.{fault_of_line, fault_of_kind}
 use Rattle.grove_top.specs.declared.command.Command.{Command}
-use Rattle.grove_top.specs.declared.command.Command.TheVariants.{Ask, Run}
+use Rattle.grove_top.specs.declared.command.Command.TheVariants.{Ask, Run, Generate}
 use Rattle.grove_top.specs.declared.command.Question.{Question}
 use Rattle.grove_top.specs.declared.command.Question.TheVariants.{Merge, Show, Check}
-use Rattle.grove_top.specs.Words.{word_of, AreOf, AreOfNone}
+use Rattle.grove_top.specs.Words.{words_of, AreOf, AreOfNone, IsWithinLimits}
 use Rattle.grove_top.specs.declared.outcome.Fault.{Fault}
 use Rattle.grove_top.specs.declared.outcome.Fault.TheVariants.{Syntax, BadVertex, NoPosition, WrongSort, OutOfPlace, UnknownReplica, RepeatedReplica, UnknownAuthor, RepeatedAuthor, TooMany, Rest, Unended}
 use Rattle.grove_top.specs.declared.outcome.Status.{Status}
 use Rattle.grove_top.specs.declared.outcome.Status.TheVariants.{Done, Usage, Malformed, TooLong, ReadFault, WriteFault, NoMemory}
 use Rattle.grove_top.proofs.Answered.{answer_along, any_version, one_answer_of}
-use Rattle.grove_top.specs.Due.{IsDue, IsCommandDue, IsAnswerTo, IsAnswerOf, IsAnswered, IsReported, IsFirstFault, IsFirstFaultOfEdits, IsFirstFaultOfSession, HasReading, malformed_text, usage_text}
+use Rattle.grove_top.specs.Due.{IsDue, IsCommandDue, IsAnswerTo, IsAnswerOf, IsAnswered, IsReported, IsSummarized, IsFirstFault, IsFirstFaultOfEdits, IsFirstFaultOfSession, HasReading, malformed_text, usage_text}
 
 -- a fault of a text is that of a line, or a rest
 fault_split : (text : List ℕ) (line : ℕ) (fault : Fault) → IsFirstFaultOfEdits text line fault → ((fault ≡ Rest) × HasTextRest text line) ⊎ ((of_line : LineFault) × (fault ≡ fault_of_line of_line) × IsMalformedText text line of_line)
@@ -126,24 +131,35 @@ no_session_fault text session line fault spelled h = session_or_fault text sessi
 reported_or_fault : (text : List ℕ) (journals : Journals Content) (report : List ℕ) (line : ℕ) (fault : Fault) → IsReported text journals report → IsFirstFaultOfSession text line fault → ⊥
 reported_or_fault text journals report line fault is h = no_session_fault text is.session line fault is.spelled h
 
+-- ---- generated sessions
+
+one_summarized : (loads : ℕ) (journals : Journals Content) (x y : List ℕ) → IsSummarized loads journals x → IsSummarized loads journals y → x ≡ y
+one_summarized loads journals x y a b =
+    let same : a.session ≡ b.session = one_session (generated_text loads) a.session b.session a.spelled b.spelled in
+    one_summary_text b.session journals x y (subst (λ (s : Session). IsSummary s journals x) same a.is_summary) b.is_summary
+
 -- ---- commands
 
 one_answer_to : (command : Command) (text : List ℕ) (journals : Journals Content) (x y : List ℕ) → IsAnswerTo command text journals x → IsAnswerTo command text journals y → x ≡ y
 one_answer_to (Ask question) text journals x y a b = one_answer question text x y a.1 b.1
 one_answer_to Run text journals x y a b = one_reported text journals x y a b
+one_answer_to (Generate loads) text journals x y a b = one_summarized loads journals x y a b
 
 one_first_fault : (command : Command) (text : List ℕ) (m n : ℕ) (f g : Fault) → IsFirstFault command text m f → IsFirstFault command text n g → (m ≡ n) × (f ≡ g)
 one_first_fault (Ask question) text m n f g a b = one_fault text m n f g a b
 one_first_fault Run text m n f g a b = one_session_fault text m n f g a b
+one_first_fault (Generate loads) text m n f g a b = absurd a
 
 answer_or_fault : (command : Command) (text : List ℕ) (journals : Journals Content) (answer : List ℕ) (line : ℕ) (fault : Fault) → IsAnswerTo command text journals answer → IsFirstFault command text line fault → ⊥
 answer_or_fault (Ask question) text journals answer line fault is h = answered_or_fault question text answer line fault is.1 h
 answer_or_fault Run text journals answer line fault is h = reported_or_fault text journals answer line fault is h
+answer_or_fault (Generate loads) text journals answer line fault is h = h
 
 -- a text that a command can read has no fault
 pub no_fault : (command : Command) (text : List ℕ) (line : ℕ) (fault : Fault) → HasReading command text → IsFirstFault command text line fault → ⊥
 no_fault (Ask question) text line fault reading h = no_fault_of_edits text reading.0 reading.1 line fault reading.2 h
 no_fault Run text line fault reading h = no_session_fault text reading.0 line fault reading.1 h
+no_fault (Generate loads) text line fault reading h = h
 
 one_command_due : (command : Command) (text : List ℕ) (journals : Journals Content) (x y : List ℕ) (s t : Status) → IsCommandDue command text journals s x → IsCommandDue command text journals t y → (s ≡ t) × (x ≡ y)
 one_command_due command text journals x y Done Done a b = (refl, one_answer_to command text journals x y a.1 b.1)
@@ -175,37 +191,33 @@ one_command_due command text journals x y ReadFault t a b = absurd a
 one_command_due command text journals x y WriteFault t a b = absurd a
 one_command_due command text journals x y NoMemory t a b = absurd a
 
--- the command that a word is of, by its first letter
-command_read : List ℕ → Command
-command_read word =
-    if nat_eq (get_or word 0 0) 109 then Ask Merge
-    else if nat_eq (get_or word 0 0) 115 then Ask Show
-    else if nat_eq (get_or word 0 0) 99 then Ask Check
+-- the command that words are of, by the first letter of the first
+command_read : List (List ℕ) → Command
+command_read words =
+    if nat_eq (get_or (get_or words 0 []) 0 0) 109 then Ask Merge
+    else if nat_eq (get_or (get_or words 0 []) 0 0) 115 then Ask Show
+    else if nat_eq (get_or (get_or words 0 []) 0 0) 99 then Ask Check
+    else if nat_eq (get_or (get_or words 0 []) 0 0) 103 then Generate (digits_value 10 (get_or words 1 []))
     else Run
 
-reads_back : (c : Command) → command_read (word_of c) ≡ c
+reads_back : (c : Command) → IsWithinLimits c → command_read (words_of c) ≡ c
 unfolding command_read
-reads_back (Ask Merge) = refl
-reads_back (Ask Show) = refl
-reads_back (Ask Check) = refl
-reads_back Run = refl
+reads_back (Ask Merge) within = refl
+reads_back (Ask Show) within = refl
+reads_back (Ask Check) within = refl
+reads_back Run within = refl
+reads_back (Generate loads) within = ap Generate (decimal_is_IsNumeral loads (omega (arith, within.1))).1
 
 -- the words are those of one command at most
-one_command_by : (c d : Command) → word_of c ≡ word_of d → c ≡ d
-one_command_by c d e = sym (reads_back c) ∙ ap command_read e ∙ reads_back d
-
-tail_same : (x y : List ℕ) → x ∷ [] ≡ y ∷ [] → x ≡ y
-tail_same x y e = cc
-
 pub one_command : (words : List (String Global)) (c d : Command) → AreOf c words → AreOf d words → c ≡ d
-one_command words c d a b = one_command_by c d (tail_same (word_of c) (word_of d) (sym a ∙ b))
+one_command words c d a b = sym (reads_back c a.1) ∙ ap command_read (sym a.0 ∙ b.0) ∙ reads_back d b.1
 
 -- what is due is the usage line, or is due for a command
-abbrev Split : List (String Global) → List ℕ → Journals Content → Status → List ℕ → Type 0
+abbrev pub Split : List (String Global) → List ℕ → Journals Content → Status → List ℕ → Type 0
 Split words text journals status due =
     ((status ≡ Usage) × AreOfNone words × (due ≡ usage_text)) ⊎ ((command : Command) × AreOf command words × IsCommandDue command text journals status due)
 
-due_split : (words : List (String Global)) (text : List ℕ) (journals : Journals Content) (due : List ℕ) (status : Status) → IsDue words text journals status due → Split words text journals status due
+pub due_split : (words : List (String Global)) (text : List ℕ) (journals : Journals Content) (due : List ℕ) (status : Status) → IsDue words text journals status due → Split words text journals status due
 due_split words text journals due Done h = inr h
 due_split words text journals due Usage h = inl (refl, h.0, h.2)
 due_split words text journals due (Malformed line fault) h = inr h

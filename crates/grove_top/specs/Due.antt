@@ -15,16 +15,18 @@ use Rattle.replica_core.specs.Content.{Content}
 use Rattle.session_report.specs.Taken.{Journals}
 use Rattle.session_report.specs.Legal.{AreLegal}
 use Rattle.session_report.specs.Report.{IsReport}
+use Rattle.session_report.specs.Summary.{IsSummary}
+use Rattle.session_gen.specs.Generated.{generated_text}
 use Rattle.grove_top.specs.declared.outcome.Fault.{Fault}
 use Rattle.grove_top.specs.declared.outcome.Fault.TheVariants.{Syntax, BadVertex, NoPosition, WrongSort, OutOfPlace, UnknownReplica, RepeatedReplica, UnknownAuthor, RepeatedAuthor, TooMany, Rest, Unended}
 use Rattle.grove_top.specs.declared.outcome.Status.{Status}
 use Rattle.grove_top.specs.declared.outcome.Status.TheVariants.{Done, Usage, Malformed, TooLong, ReadFault, WriteFault, NoMemory}
 use Rattle.grove_top.specs.declared.command.Command.{Command}
-use Rattle.grove_top.specs.declared.command.Command.TheVariants.{Ask, Run}
+use Rattle.grove_top.specs.declared.command.Command.TheVariants.{Ask, Run, Generate}
 use Rattle.grove_top.specs.declared.command.Question.{Question}
 use Rattle.grove_top.specs.declared.command.Question.TheVariants.{Merge, Show, Check}
 use Rattle.grove_top.specs.FaultOf.{fault_of_kind}
-use Rattle.grove_top.specs.Words.{AreOf, AreOfNone}
+use Rattle.grove_top.specs.Words.{AreOf, AreOfNone, Reads}
 
 -- what is written where the words are those of no command
 abbrev pub usage_text : List ℕ
@@ -87,6 +89,13 @@ pub record IsReported (text : List ℕ) (journals : Journals Content) (report : 
   pub are_legal : AreLegal session journals
   pub is_report : IsReport session journals report
 
+-- the summary is that of the generated session with so many loads and of the journals, which are legal for it
+pub record IsSummarized (loads : ℕ) (journals : Journals Content) (summary : List ℕ) : Type 0 where
+  pub session : Session
+  pub spelled : Spells (generated_text loads) session
+  pub are_legal : AreLegal session journals
+  pub is_summary : IsSummary session journals summary
+
 -- the first line of a text that spells no session, and its first fault
 pub record IsFirstFaultOfSession (text : List ℕ) (line : ℕ) (fault : Fault) : Type 0 where
   pub kind : ScriptKind
@@ -97,19 +106,22 @@ pub record IsFirstFaultOfSession (text : List ℕ) (line : ℕ) (fault : Fault) 
 abbrev pub most_bytes : ℕ
 most_bytes = 16777216
 
--- the answer of a command to a text, with the journals handed out: there are none unless a session is run
+-- the answer of a command to a text, with the journals handed out: there are none unless a session is run. A generated session has
+-- nothing to do with the text
 abbrev pub IsAnswerTo : Command → List ℕ → Journals Content → List ℕ → Type 0
 IsAnswerTo (Ask question) text journals answer = (journals ≡ []) × IsAnswered question text answer
 IsAnswerTo Run text journals answer = IsReported text journals answer
+IsAnswerTo (Generate loads) text journals answer = IsSummarized loads journals answer
 
 -- the first line without a reading for a command, and its first fault
 abbrev pub IsFirstFault : Command → List ℕ → ℕ → Fault → Type 0
 IsFirstFault (Ask question) text line fault = IsFirstFaultOfEdits text line fault
 IsFirstFault Run text line fault = IsFirstFaultOfSession text line fault
+IsFirstFault (Generate loads) text line fault = ⊥
 
 -- what is due for the words of a command, with the journals handed out
 abbrev pub IsCommandDue : Command → List ℕ → Journals Content → Status → List ℕ → Type 0
-IsCommandDue command text journals TooLong due = (journals ≡ []) × (most_bytes < length text) × (due ≡ too_long_text)
+IsCommandDue command text journals TooLong due = (journals ≡ []) × (most_bytes < length text) × (due ≡ too_long_text) × Reads command
 IsCommandDue command text journals (Malformed line fault) due =
     (journals ≡ []) × (length text ≤ most_bytes) × IsFirstFault command text line fault × (due ≡ malformed_text line fault)
 IsCommandDue command text journals Done due = (length text ≤ most_bytes) × IsAnswerTo command text journals due
@@ -127,3 +139,4 @@ IsDue words text journals status due = (command : Command) × AreOf command word
 abbrev pub HasReading : Command → List ℕ → Type 0
 HasReading (Ask question) text = (version : Version) × (edits : List Edit) × IsTextOf text version edits
 HasReading Run text = (session : Session) × Spells text session
+HasReading (Generate loads) text = Unit {0}

@@ -5,7 +5,8 @@ use Rattle.grove_io.specs.Outside.{HasRisen, Gave, Took, IsAtEnd}
 use Rattle.grove_top.specs.declared.outcome.Status.{Status}
 use Rattle.grove_top.specs.declared.outcome.Status.TheVariants.{Done, Usage, Malformed, TooLong, ReadFault, WriteFault, NoMemory}
 use Rattle.grove_top.specs.declared.command.Command.{Command}
-use Rattle.grove_top.specs.Words.{AreOf}
+use Rattle.grove_top.specs.declared.command.Command.TheVariants.{Ask, Run, Generate}
+use Rattle.grove_top.specs.Words.{AreOf, AskToRead}
 use Rattle.replica_core.specs.Content.{Content}
 use Rattle.session_report.specs.Taken.{Journals}
 use Rattle.grove_top.specs.Due.{IsDue, most_bytes}
@@ -25,16 +26,29 @@ pub record Answers (words : List (String Global)) (before after : Outside) (jour
   pub is_due : IsDue words text journals status due
   pub took : Took before.taken due after.taken
 
--- to its end
+-- how much of the input a command reads: all of it, and for a generated session nothing
+abbrev pub IsReadBy : Command → List ℕ → Option (List ℕ) → Type 0
+IsReadBy (Ask question) text left = IsAtEnd left
+IsReadBy Run text left = IsAtEnd left
+IsReadBy (Generate loads) text left = text ≡ []
+
+-- as much was read as the command of the words reads
+pub record IsRead (words : List (String Global)) (text : List ℕ) (left : Option (List ℕ)) : Type 0 where
+  pub command : Command
+  pub are : AreOf command words
+  pub read : IsReadBy command text left
+
+-- to its end, where the command reads
 pub record AnswersWhole (words : List (String Global)) (before after : Outside) (journals : Journals Content) (status : Status) : Type 0 where
   pub answers : Answers words before after journals status
-  pub at_end : IsAtEnd after.left
+  pub is_read : IsRead words answers.text after.left
 
--- how much of the input was read for a status: nothing for the usage line, no more than shows that it is too long, and else all
-abbrev pub IsReadFor : Status → List ℕ → Option (List ℕ) → Type 0
-IsReadFor Usage text left = text ≡ []
-IsReadFor TooLong text left = length text ≡ most_bytes + 1
-IsReadFor status text left = IsAtEnd left
+-- how much of the input was read for a status: nothing for the usage line, no more than shows that it is too long, and else what the
+-- command reads
+abbrev pub IsReadFor : List (String Global) → Status → List ℕ → Option (List ℕ) → Type 0
+IsReadFor words Usage text left = text ≡ []
+IsReadFor words TooLong text left = length text ≡ most_bytes + 1
+IsReadFor words status text left = IsRead words text left
 
 -- The sink failed, and what it took is a part of what was due, from its front and not all of it.
 pub record IsCutOff (words : List (String Global)) (before after : Outside) (journals : Journals Content) : Type 0 where
@@ -45,7 +59,7 @@ pub record IsCutOff (words : List (String Global)) (before after : Outside) (jou
   pub failed : HasRisen before.write_faults after.write_faults
   pub gave : Gave before.left text after.left
   pub is_due : IsDue words text journals status due
-  pub read : IsReadFor status text after.left
+  pub read : IsReadFor words status text after.left
   pub short : count < length due
   pub took : Took before.taken (take count due) after.taken
 
@@ -62,6 +76,6 @@ Meets words before after journals (Malformed line fault) = AnswersWhole words be
 Meets words before after journals TooLong = (answers : Answers words before after journals TooLong) × (length answers.text ≡ most_bytes + 1)
 -- nothing was read
 Meets words before after journals Usage = (answers : Answers words before after journals Usage) × (answers.text ≡ [])
-Meets words before after journals ReadFault = HasRisen before.read_faults after.read_faults × IsSilent words before after journals
+Meets words before after journals ReadFault = HasRisen before.read_faults after.read_faults × IsSilent words before after journals × AskToRead words
 Meets words before after journals WriteFault = IsCutOff words before after journals
 Meets words before after journals NoMemory = IsSilent words before after journals

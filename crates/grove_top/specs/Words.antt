@@ -1,20 +1,41 @@
 -- The words of the commands.
 use Rattle.std.specs.declared.alloc.Global.{Global}
-use Rattle.std.specs.Prelude.{String, ◌≡◌, ℕ, List, [], ◌∷◌, map, codes, string_bytes}
+use Rattle.std.specs.Prelude.{String, ◌≡◌, ℕ, ◌≤◌, List, [], ◌∷◌, map, codes, decimal, string_bytes}
 use Rattle.grove_top.specs.declared.command.Command.{Command}
-use Rattle.grove_top.specs.declared.command.Command.TheVariants.{Ask, Run}
+use Rattle.grove_top.specs.declared.command.Command.TheVariants.{Ask, Run, Generate}
 use Rattle.grove_top.specs.declared.command.Question.TheVariants.{Merge, Show, Check}
 
-abbrev pub word_of : Command → List ℕ
-word_of (Ask Merge) = codes "merge"
-word_of (Ask Show) = codes "show"
-word_of (Ask Check) = codes "check"
-word_of Run = codes "run"
+abbrev pub words_of : Command → List (List ℕ)
+words_of (Ask Merge) = codes "merge" ∷ []
+words_of (Ask Show) = codes "show" ∷ []
+words_of (Ask Check) = codes "check" ∷ []
+words_of Run = codes "run" ∷ []
+words_of (Generate loads) = codes "gen" ∷ decimal loads ∷ []
 
--- the words are the one of the command
+-- how many loads a generated session may have
+abbrev pub most_loads : ℕ
+most_loads = 200000
+
+-- it has one at least
+abbrev pub IsWithinLimits : Command → Type 0
+IsWithinLimits (Ask question) = Unit {0}
+IsWithinLimits Run = Unit {0}
+IsWithinLimits (Generate loads) = (1 ≤ loads) × (loads ≤ most_loads)
+
+-- the words are those of the command
 abbrev pub AreOf : Command → List (String Global) → Type 0
-AreOf command words = map string_bytes words ≡ word_of command ∷ []
+AreOf command words = (map string_bytes words ≡ words_of command) × IsWithinLimits command
 
 -- the words are those of no command
 abbrev pub AreOfNone : List (String Global) → Type 0
 AreOfNone words = (command : Command) → AreOf command words → ⊥
+
+-- the command reads the input
+abbrev pub Reads : Command → Type 0
+Reads (Ask question) = Unit {0}
+Reads Run = Unit {0}
+Reads (Generate loads) = ⊥
+
+-- the words are those of a command that reads
+abbrev pub AskToRead : List (String Global) → Type 0
+AskToRead words = (command : Command) × AreOf command words × Reads command

@@ -5,6 +5,8 @@ pub enum Command {
     Ask(Question),
     /// The report of the session of the input.
     Run,
+    /// The summary of the generated session with so many loads, from 1 to `MOST_LOADS`. The input is not read.
+    Generate { loads: u64 },
 }
 
 /// What is asked of a graph.

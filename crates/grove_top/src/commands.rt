@@ -1,6 +1,7 @@
-ghost use Rattle.std.specs.Prelude.{◌≡◌, ◌≤◌, [], length, IfOk};
+ghost use Rattle.std.specs.Prelude.{◌≡◌, ◌≤◌, ℕ, List, [], length, IfOk};
 ghost use Rattle.grove_edits.specs.Graph.{graph, Ascends};
-ghost use Rattle.grove_top.specs.declared.command.Command.TheVariants.{Ask, Run};
+ghost use Rattle.grove_top.specs.declared.command.Command.TheVariants.{Ask, Run, Generate};
+ghost use Rattle.grove_top.specs.Words.{IsWithinLimits, most_loads};
 ghost use Rattle.grove_top.specs.Due.{IsCommandDue, IsAnswerOf, IsMergeText, most_bytes, malformed_text, fault_word};
 
 use crate::command::{Command, Question};
@@ -13,7 +14,8 @@ use grove_edits::EditList;
 use grove_sorts::Version;
 use replica_core::Replica;
 use seeded_hash::HashSeed;
-use session_answers::{Ran, run_session};
+use session_answers::{Ran, run_session, summarize_session};
+use session_gen::generate;
 use session_report::JournalList;
 use session_script::{ScriptFault, read_session};
 use std::alloc::Global;
@@ -27,19 +29,21 @@ pub(crate) struct Due {
     pub(crate) journals: JournalList<Replica>,
 }
 
-/// What is due for a command on an input of at most `MOST_BYTES` bytes.
+/// What is due for a command on an input of at most `MOST_BYTES` bytes, which does not matter to a generated session.
 pub(crate) fn form_due(
     alloc: Global,
     seed: HashSeed,
     command: Command,
     text: &[u8],
 ) -> Result<Due, NoMemory>
-    requires { length text.now ≤ most_bytes }
+    requires short { length text.now ≤ most_bytes }
+    requires within { IsWithinLimits command }
     ensures { IfOk result (λ due. IsCommandDue command text.now due.journals due.status due.text.items) }
 {
     match command {
         Command::Ask(question) => form_answer(alloc, seed, question, text),
         Command::Run => form_report(alloc, seed, text),
+        Command::Generate { loads } => form_summary(alloc, seed, loads),
     }
 }
 
@@ -83,6 +87,19 @@ fn form_report(alloc: Global, seed: HashSeed, text: &[u8]) -> Result<Due, NoMemo
         Err(ScriptFault::Bad { line, kind }) => malformed(alloc, line, Fault::from(kind)),
         Err(ScriptFault::NoMemory) => Err(NoMemory),
     }
+}
+
+fn form_summary(alloc: Global, seed: HashSeed, loads: u64) -> Result<Due, NoMemory>
+    requires { loads ≤ most_loads }
+    ensures { IfOk result (λ due. (text : List ℕ) → length text ≤ most_bytes → IsCommandDue (Generate loads) text due.journals due.status due.text.items) }
+{
+    let session = generate(alloc, loads)?;
+    let Ran { text, journals } = summarize_session(alloc, seed, &session)?;
+    Ok(Due {
+        status: Status::Done,
+        text,
+        journals,
+    })
 }
 
 fn answer(

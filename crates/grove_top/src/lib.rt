@@ -14,8 +14,8 @@ mod top;
 
 pub use command::{Command, Question};
 pub use exit::exit_status;
-pub use laws::{one_text_is_due, same_edits_same_text};
-pub use limit::MOST_BYTES;
+pub use laws::{one_summary_is_due, one_text_is_due, same_edits_same_text};
+pub use limit::{MOST_BYTES, MOST_LOADS};
 pub use outcome::{Fault, Outcome, Status};
 pub use top::run;
 

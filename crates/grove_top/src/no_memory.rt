@@ -68,6 +68,12 @@ impl From<grove_answers::NoMemory> for NoMemory {
     }
 }
 
+impl From<session_script::NoMemory> for NoMemory {
+    fn from(_error: session_script::NoMemory) -> NoMemory {
+        NoMemory
+    }
+}
+
 impl From<session_answers::NoMemory> for NoMemory {
     fn from(_error: session_answers::NoMemory) -> NoMemory {
         NoMemory

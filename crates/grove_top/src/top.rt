@@ -1,20 +1,23 @@
 ghost use Rattle.std.specs.Prelude.{◌≡◌, ◌≢◌, ◌⊎◌, ◌<◌, ◌≤◌, ◌↔◌, ℕ, List, [], ◌∷◌, Some, length, take, map, string_bytes, IsTrue, IfSome, IfNone};
+ghost use Rattle.std.specs.Prelude.{IsErrOf, IfOk, vec_len, codes, decimal};
 ghost use Rattle.grove_io.specs.Outside.{HasRisen, Gave, Took};
 ghost use Rattle.replica_core.specs.Content.{Content};
 ghost use Rattle.session_report.specs.Taken.{Journals};
 ghost use Rattle.grove_top.specs.declared.command.Command.{Command};
-ghost use Rattle.grove_top.specs.Words.{AreOf, AreOfNone};
+ghost use Rattle.grove_top.specs.declared.command.Command.TheVariants.{Generate};
+ghost use Rattle.grove_top.specs.Words.{AreOf, AreOfNone, AskToRead, Reads, most_loads};
 ghost use Rattle.grove_top.specs.Due.{IsDue, HasReading, most_bytes, usage_text, too_long_text};
-ghost use Rattle.grove_top.specs.Meets.{Meets};
+ghost use Rattle.grove_top.specs.Meets.{Meets, IsReadBy};
 
 use crate::command::{Command, Question};
 use crate::commands::form_due;
-use crate::limit::MOST_BYTES;
+use crate::limit::{MOST_BYTES, MOST_LOADS};
 use crate::outcome::{Outcome, Status};
 use grove_io::{InputFault, Sink, Source, read_all, write_out};
 use seeded_hash::HashSeed;
 use session_report::JournalList;
 use std::alloc::Global;
+use text_parts::read_number;
 
 const USAGE: &[u8] = b"usage: grove merge | show | check | run | gen N\n";
 
@@ -22,7 +25,7 @@ const TOO_LONG: &[u8] = b"too long\n";
 
 /// Runs a command: `words` are those after the program's name.
 ///
-/// The words are judged first, then the length of the input, then its text. The whole output is formed before anything
+/// The words are judged first, then the length of the input, then its text. A generated session reads nothing. The whole output is formed before anything
 /// is written. What is written is the same whatever the seed is: where nobody can choose the seed, nobody can write a text whose vertices,
 /// types and contexts are slow to look up. A read fault comes before `TooLong` and `Malformed`, and a write fault on their lines replaces them.
 pub fn run<S: Source, K: Sink>(
@@ -36,12 +39,16 @@ pub fn run<S: Source, K: Sink>(
         (record { left = S.left source.old; read_faults = S.faults source.old; taken = K.taken sink.old; write_faults = K.faults sink.old })
         (record { left = S.left source.new; read_faults = S.faults source.new; taken = K.taken sink.new; write_faults = K.faults sink.new })
         result.journals result.status }
-    ensures reads_nothing { AreOfNone words.now → source.new ≡ source.old }
+    ensures reads_nothing { ¬ AskToRead words.now → source.new ≡ source.old }
 
     // A good input is answered, unless the outside fails or memory runs out.
     ensures complete { (command : Command) (text : List ℕ) → AreOf command words.now
         → S.left source.old ≡ Some text → HasReading command text → length text ≤ most_bytes
         → ¬ HasRisen (S.faults source.old) (S.faults source.new) → ¬ HasRisen (K.faults sink.old) (K.faults sink.new)
+        → (result.status ≡ Status.Done) ⊎ (result.status ≡ Status.NoMemory) }
+
+    // A generated session is, whatever the source has.
+    ensures generated { (loads : ℕ) → AreOf (Generate loads) words.now → ¬ HasRisen (K.faults sink.old) (K.faults sink.new)
         → (result.status ≡ Status.Done) ⊎ (result.status ≡ Status.NoMemory) }
 
     // No count rises where the source never fails and the sink does not for as many bytes as may be due.
@@ -64,7 +71,7 @@ fn answer<S: Source, K: Sink>(
         (record { left = S.left source.old; read_faults = S.faults source.old; taken = K.taken sink.old; write_faults = K.faults sink.old })
         (record { left = S.left source.new; read_faults = S.faults source.new; taken = K.taken sink.new; write_faults = K.faults sink.new })
         result.journals result.status }
-    ensures reads_nothing { AreOfNone words.now → source.new ≡ source.old }
+    ensures reads_nothing { ¬ AskToRead words.now → source.new ≡ source.old }
     ensures no_read_fault { S.never_fails source.old → S.faults source.new ≡ S.faults source.old }
     ensures no_write_fault { (room : ℕ) → K.never_fails sink.old room
         → ((text due : List ℕ) (journals : Journals Content) (status : Status) → Gave (S.left source.old) text (S.left source.new) → IsDue words.now text journals status due → length due ≤ room)
@@ -73,7 +80,7 @@ fn answer<S: Source, K: Sink>(
     let Some(command) = command_of(words) else {
         return without_journals(alloc, write(sink, Status::Usage, USAGE));
     };
-    match read_all(alloc, source, MOST_BYTES) {
+    match read_for(alloc, command, source) {
         Ok(text) => match form_due(alloc, seed, command, &text) {
             Ok(due) => Outcome {
                 status: write(sink, due.status, &due.text),
@@ -86,6 +93,27 @@ fn answer<S: Source, K: Sink>(
         }
         Err(InputFault::ReadFault) => without_journals(alloc, Status::ReadFault),
         Err(InputFault::NoMemory) => without_journals(alloc, Status::NoMemory),
+    }
+}
+
+// Reads the input of a command, if the command reads.
+fn read_for<S: Source>(
+    alloc: Global,
+    command: Command,
+    source: &mut S,
+) -> Result<Vec<u8>, InputFault>
+    ensures read { IfOk result (λ text. IsReadBy command text.items (S.left source.new)) }
+    ensures short { IfOk result (λ text. vec_len text ≤ most_bytes) }
+    ensures gave { IfOk result (λ text. Gave (S.left source.old) text.items (S.left source.new)) }
+    ensures too_long { IsErrOf result InputFault.TooLong
+        → Reads command × ((given : List ℕ) × (length given ≡ most_bytes + 1) × Gave (S.left source.old) given (S.left source.new)) }
+    ensures cause { IsErrOf result InputFault.ReadFault → Reads command × HasRisen (S.faults source.old) (S.faults source.new) }
+    ensures reads_nothing { ¬ Reads command → source.new ≡ source.old }
+    ensures no_fault { S.never_fails source.old → S.faults source.new ≡ S.faults source.old }
+{
+    match command {
+        Command::Ask(_) | Command::Run => read_all(alloc, source, MOST_BYTES),
+        Command::Generate { .. } => Ok(Vec::new(alloc)),
     }
 }
 
@@ -112,7 +140,34 @@ fn command_of(words: &[String]) -> Option<Command>
     } else if is_word(words, "run") {
         Some(Command::Run)
     } else {
+        let loads = loads_of(words)?;
+        Some(Command::Generate { loads })
+    }
+}
+
+// How many loads the words ask for, if they are those of a generated session.
+fn loads_of(words: &[String]) -> Option<u64>
+    ensures found { IfSome result (λ loads. AreOf (Generate loads) words.now) }
+    ensures none { IfNone result ((loads : ℕ) → AreOf (Generate loads) words.now → ⊥) }
+{
+    match words {
+        [word, number] => loads_in(word.as_str(), number.as_str()),
+        _ => None,
+    }
+}
+
+fn loads_in(word: &str, number: &str) -> Option<u64>
+    ensures found { IfSome result (λ loads. (word.now ≡ codes "gen") × (number.now ≡ decimal loads) × (1 ≤ loads) × (loads ≤ most_loads)) }
+    ensures none { IfNone result ((loads : ℕ) → word.now ≡ codes "gen" → number.now ≡ decimal loads → 1 ≤ loads → loads ≤ most_loads → ⊥) }
+{
+    if word != "gen" {
+        return None;
+    }
+    let loads = read_number(number.as_bytes())?;
+    if loads < 1 || loads > MOST_LOADS {
         None
+    } else {
+        Some(loads)
     }
 }
 

@@ -46,7 +46,7 @@ use Rattle.session_answers.proofs.Planned.{taken_graph, steps_planned, journal_t
 taken_canonical : (edits : List Edit) → IsCanonical (graph edits) (with_edits edits [])
 taken_canonical edits = record { in_order = ascends-with_edits edits [] tt; same = taken_graph edits }
 
-canonical_along : (content : Content) (edits : List Edit) → content.edits ≡ with_edits edits [] → IsCanonical (graph edits) content.edits
+pub canonical_along : (content : Content) (edits : List Edit) → content.edits ≡ with_edits edits [] → IsCanonical (graph edits) content.edits
 canonical_along content edits is = subst (IsCanonical (graph edits)) (sym is) (taken_canonical edits)
 
 -- the edges that a block opens with are those that are not Absent

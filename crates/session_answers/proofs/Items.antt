@@ -32,7 +32,7 @@ parted [] k x is = absurd cc
 parted (y ∷ xs) zero x is = let same : y ≡ x = cc in (xs, ap (λ z. z ∷ xs) same)
 parted (y ∷ xs) (suc k) x is = let rest = parted xs k x is in (rest.0, ap (λ zs. y ∷ zs) rest.1)
 
-of_item : {A : Type 0} (P : A → Type 0) (xs : List A) (k : ℕ) (x : A) → AllByRecursion P xs → slice_get xs k ≡ Some x → P x
+pub of_item : {A : Type 0} (P : A → Type 0) (xs : List A) (k : ℕ) (x : A) → AllByRecursion P xs → slice_get xs k ≡ Some x → P x
 of_item P [] k x all is = absurd cc
 of_item P (y ∷ xs) zero x all is = let same : y ≡ x = cc in subst P same all.0
 of_item P (y ∷ xs) (suc k) x all is = of_item P xs k x all.1 is

@@ -6,3 +6,8 @@ pub mod Planned
 pub mod Behind
 pub mod Items
 pub mod Steps
+pub mod Summed
+pub mod OneActor
+pub mod OneCourse
+pub mod GeneratedAlone
+pub mod OneSize

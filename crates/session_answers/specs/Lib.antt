@@ -1,2 +1,3 @@
 pub mod BlockJournals
 pub mod Running
+pub mod Summarizing

@@ -1,15 +1,19 @@
-//! Runs a session on replicas: its report, and the journals of its blocks. The journals are legal for the session, and the report
-//! is the one of the session and these journals.
+//! Runs a session on replicas: its report or its summary, and the journals of its blocks. The journals are legal for the session,
+//! and the report or the summary is the one of the session and these journals.
 #![tactic(auto)]
 
+mod laws;
 mod no_memory;
 mod ran;
 mod replicas;
 mod running;
 mod showing;
+mod summarizing;
 
+pub use laws::{one_summary_of_each_size, without_meetings_there_is_one_course};
 pub use no_memory::NoMemory;
 pub use ran::{Ran, run_session};
+pub use summarizing::summarize_session;
 
 #[cfg(test)]
 mod tests;

@@ -49,3 +49,9 @@ impl From<replica_core::NoMemory> for NoMemory {
         NoMemory
     }
 }
+
+impl From<grove_answers::NoMemory> for NoMemory {
+    fn from(_error: grove_answers::NoMemory) -> NoMemory {
+        NoMemory
+    }
+}

@@ -2,6 +2,7 @@ ghost use Rattle.std.specs.Prelude.{IfOk};
 ghost use Rattle.session_script.specs.Session.{IsSession};
 ghost use Rattle.session_report.specs.Legal.{AreLegal};
 ghost use Rattle.session_report.specs.Report.{IsReport};
+ghost use Rattle.session_answers.specs.Running.{IsBehind};
 
 use crate::no_memory::NoMemory;
 use crate::running::Running;
@@ -11,7 +12,7 @@ use session_report::JournalList;
 use session_script::Session;
 use std::alloc::Global;
 
-/// What a session that was run leaves: its report, and the journals of its blocks.
+/// What a session that was run leaves: its report or its summary, and the journals of its blocks.
 #[derive(Drop)]
 pub struct Ran {
     pub text: Vec<u8>,
@@ -25,10 +26,22 @@ pub fn run_session(alloc: Global, seed: HashSeed, session: &Session) -> Result<R
     ensures legal { IfOk result (λ ran. AreLegal session.now ran.journals) }
     ensures report { IfOk result (λ ran. IsReport session.now ran.journals ran.text.items) }
 {
+    let Running { journals, text, .. } = run_items(alloc, seed, session)?;
+    Ok(Ran { text, journals })
+}
+
+/// Runs the items of a session, one after the other.
+pub(crate) fn run_items(
+    alloc: Global,
+    seed: HashSeed,
+    session: &Session,
+) -> Result<Running, NoMemory>
+    requires { IsSession session.now }
+    ensures { IfOk result (IsBehind session.now session.now.items) }
+{
     let mut running = Running::new(alloc, seed, session)?;
     for (index, item) in session.items.as_slice().iter().enumerate() {
         running = running.run_item(alloc, session, index, item)?;
     }
-    let Running { journals, text, .. } = running;
-    Ok(Ran { text, journals })
+    Ok(running)
 }

@@ -3,3 +3,5 @@ pub mod Journal
 pub mod Taken
 pub mod Legal
 pub mod Report
+pub mod Alone
+pub mod Summary

@@ -11,6 +11,7 @@ ghost use Rattle.session_run.specs.Calls.{Stage, SendsHere};
 ghost use Rattle.session_report.specs.Journal.{Entries, IsLegal, asked, edits_of, entries_by};
 ghost use Rattle.session_report.specs.Taken.{Journals, taken};
 ghost use Rattle.session_report.specs.Report.{IsReport, IsSection};
+ghost use Rattle.session_report.specs.Summary.{IsSummary};
 
 use grove_edits::{Answer, Command, EditList};
 use shared_replica::Machine;
@@ -18,6 +19,11 @@ use shared_replica::Machine;
 /// Law: a session and its journals have one report.
 pub fn one_report<M: Machine<Command = Command, Effect = EditList, Reply = Answer>>()
     ensures { (session : Session) (journals : Journals M) (x y : List ℕ) → IsReport session journals x → IsReport session journals y → x ≡ y }
+{}
+
+/// Law: a session and its journals have one summary.
+pub fn one_summary<M: Machine<Command = Command, Effect = EditList, Reply = Answer>>()
+    ensures { (session : Session) (journals : Journals M) (x y : List ℕ) → IsSummary session journals x → IsSummary session journals y → x ≡ y }
 {}
 
 /// Law: replicas that took the same edits, by loads, by actions and by what was sent to them, in any order and with any repeats,

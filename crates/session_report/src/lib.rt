@@ -9,12 +9,17 @@ mod journal_list;
 mod laws;
 mod no_memory;
 mod report_writing;
+mod summary;
+mod summary_writing;
 
 pub use block_journal::BlockJournal;
 pub use entry_writing::append_entry;
 pub use journal_list::JournalList;
 pub use laws::{
-    a_journal_follows_from_its_calls, cuts_do_not_matter, one_report, same_edits_same_section,
+    a_journal_follows_from_its_calls, cuts_do_not_matter, one_report, one_summary,
+    same_edits_same_section,
 };
 pub use no_memory::NoMemory;
 pub use report_writing::{append_block, append_replica_heading, append_show_heading};
+pub use summary::Summary;
+pub use summary_writing::summary_text;

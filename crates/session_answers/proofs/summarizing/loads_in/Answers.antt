@@ -1,0 +1,12 @@
+use Rattle.std.proofs.Common.{rules, ◌∙◌, length, filter}
+use Rattle.std.proofs.lemmas.Iterator.{YieldsList-from_slice}
+use Rattle.std.proofs.lemmas.Iterator.Consumers.{count_from_yields_List, YieldsList-from_filter}
+use Rattle.std.proofs.lemmas.List.Sums.{length-filter}
+use borrow.Author.Tests.{tests}
+use Rattle.session_report.specs.Summary.{is_load}
+use Rattle.session_answers.proofs.summarizing.loads_in.Goals as goal
+
+pub returns : goal.returns
+returns c =
+    count_from_yields_List _ c.count.result c.count.ensures.ran (YieldsList-from_filter _ is_load (YieldsList-from_slice c.args.items.now cc) c.filter.ensures.closure (λ x b q k. search (rules, tests)))
+    ∙ length-filter is_load c.args.items.now

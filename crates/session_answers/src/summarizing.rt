@@ -1,0 +1,119 @@
+ghost use Rattle.std.specs.Prelude.{◌≡◌, ◌<◌, ◌↔◌, length, count_by, IsTrue, IfOk};
+ghost use Rattle.grove_edits.specs.Graph.{graph};
+ghost use Rattle.grove_answers.specs.Texts.{IsPrintText};
+ghost use Rattle.session_script.specs.Session.{IsSession};
+ghost use Rattle.session_report.specs.Legal.{AreLegal};
+ghost use Rattle.session_report.specs.Summary.{IsSummary, is_load, live_count, deleted_count};
+ghost use Rattle.session_answers.specs.Summarizing.{SummarizesReplicas, PrintAlike};
+
+use crate::no_memory::NoMemory;
+use crate::ran::{Ran, run_items};
+use crate::running::Running;
+use grove_answers::grove_counts;
+use grove_edits::{Edit, EditKind};
+use replica_core::Replica;
+use seeded_hash::HashSeed;
+use session_report::{Summary, summary_text};
+use session_script::{Item, Session};
+use std::alloc::Global;
+
+/// Runs a session as `run_session` does, and writes its summary in place of its report.
+pub fn summarize_session(
+    alloc: Global,
+    seed: HashSeed,
+    session: &Session,
+) -> Result<Ran, NoMemory>
+    requires { IsSession session.now }
+    ensures legal { IfOk result (λ ran. AreLegal session.now ran.journals) }
+    ensures summary { IfOk result (λ ran. IsSummary session.now ran.journals ran.text.items) }
+{
+    let running = run_items(alloc, seed, session)?;
+    let summary = summary_of(alloc, seed, session.items.as_slice(), &running.replicas)?;
+    let text = summary_text(alloc, &summary)?;
+    let Running { journals, .. } = running;
+    Ok(Ran { text, journals })
+}
+
+// The summary of a session with these items, at whose end these are its replicas.
+fn summary_of(
+    alloc: Global,
+    seed: HashSeed,
+    items: &[Item],
+    replicas: &[Replica],
+) -> Result<Summary, NoMemory>
+    requires { 0 < length replicas.now }
+    ensures { IfOk result (SummarizesReplicas items.now replicas.now) }
+{
+    let (first, others) = replicas.split_first().unwrap();
+    let edits = first.in_order(alloc)?;
+    let live = live_in(edits.as_slice()) as u64;
+    let deleted = deleted_in(edits.as_slice()) as u64;
+    Ok(Summary {
+        loads: loads_in(items) as u64,
+        live,
+        deleted,
+        counts: grove_counts(alloc, edits, seed)?,
+        equal: print_alike(alloc, first, others)?,
+    })
+}
+
+fn loads_in(items: &[Item]) -> usize
+    ensures { result ≡ count_by is_load items.now }
+{
+    items.iter().filter(|item| is_load(item)).count()
+}
+
+fn is_load(item: &Item) -> bool
+    ensures { result ≡ is_load item.now }
+{
+    match item {
+        Item::Load { .. } => true,
+        Item::Block(_) | Item::Show => false,
+    }
+}
+
+fn live_in(edits: &[Edit]) -> usize
+    ensures { result ≡ live_count edits.now }
+{
+    edits
+        .iter()
+        .filter(|edit| edit.kind() == EditKind::Insert)
+        .count()
+}
+
+fn deleted_in(edits: &[Edit]) -> usize
+    ensures { result ≡ deleted_count edits.now }
+{
+    edits
+        .iter()
+        .filter(|edit| edit.kind() == EditKind::Delete)
+        .count()
+}
+
+// Whether all replicas print what the first prints.
+fn print_alike(alloc: Global, first: &Replica, others: &[Replica]) -> Result<bool, NoMemory>
+    ensures { IfOk result (PrintAlike first.now others.now) }
+{
+    let text = printed(alloc, first)?;
+    for other in others {
+        if !prints(alloc, other, &text)? {
+            return Ok(false);
+        }
+    }
+    Ok(true)
+}
+
+fn prints(alloc: Global, replica: &Replica, text: &[u8]) -> Result<bool, NoMemory>
+    ensures { IfOk result (λ alike. IsTrue alike ↔ IsPrintText (graph replica.now.edits) text.now) }
+{
+    let own = printed(alloc, replica)?;
+    Ok(own.as_slice() == text)
+}
+
+fn printed(alloc: Global, replica: &Replica) -> Result<Vec<u8>, NoMemory>
+    ensures { IfOk result (λ text. IsPrintText (graph replica.now.edits) text.items) }
+{
+    let mut text = Vec::new(alloc);
+    replica.print(alloc, &mut text)?;
+    Ok(text)
+}
