@@ -1,6 +1,10 @@
 pub mod Each
+pub mod Grouped
+pub mod Joined
+pub mod Journals
 pub mod Listed
+pub mod Made
 pub mod OfSessions
+pub mod Planned
 pub mod SameCommands
-pub mod Sent
 pub mod Taken

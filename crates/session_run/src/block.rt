@@ -1,92 +1,156 @@
-//! Runs a block on one thread.
-ghost use Rattle.std.specs.Prelude.{◌≡◌, ℕ, ◌+◌, ◌^◌, ◌<◌, List, length, map, slice_get, Some, IfOk};
+//! Runs a block: its authors and its `send` lines are at work at once.
+ghost use Rattle.std.specs.Prelude.{◌≡◌, ℕ, ◌+◌, ◌^◌, ◌<◌, List, [], length, slice_get, Some, IfOk};
 ghost use Rattle.std.specs.List.{AllByRecursion};
 ghost use Rattle.grove_edits.specs.declared.command.Command.{Command};
 ghost use Rattle.grove_edits.specs.declared.answer.Answer.{Answer};
 ghost use Rattle.shared_replica.specs.declared.journal.Entry.{Entry};
-ghost use Rattle.shared_replica.specs.Solos.{Replays};
 ghost use Rattle.session_script.specs.declared.author.Declared.{Declared};
 ghost use Rattle.session_script.specs.Session.{AllDiffer, author_numbers};
-ghost use Rattle.session_run.specs.Calls.{sends_of};
-ghost use Rattle.session_run.specs.Requests.{request_of};
-ghost use Rattle.session_run.specs.Run.{IsPlaced, CanSend, CanRun, HasRun};
+ghost use Rattle.session_run.specs.Calls.{Stage, sends_of};
+ghost use Rattle.session_run.specs.Plans.{IsPlanOf, CanRunPlan, at_replica, EachHasRun};
+ghost use Rattle.session_run.specs.Run.{IsPlaced, CanRun, HasRun};
 
-use crate::listing::{append_actions, append_sends};
+use crate::author_lines::{AuthorLines, lines_by_author, sends_in};
+use crate::listing::{append_authors, append_sends};
 use crate::no_memory::NoMemory;
-use crate::request::Request;
+use crate::together::run_together;
 use grove_edits::{Answer, Command, EditList};
-use session_script::{AuthorList, Block, Line};
-use shared_replica::{Journal, Machine, Solo};
+use grove_io::Gate;
+use session_script::{AuthorList, Block, SendLine};
+use shared_replica::{Journal, Machine};
 use std::alloc::Global;
+use std::marker::PhantomData;
+use std::sync::Wait;
+use std::thread::{Threads, join};
 
-/// Runs a block on machines, of which each is a replica: what the block asks of the replica's authors, and then the pieces that are
-/// sent to it. The sources are the canonical lists of the replicas as the block opens, and the first `send` line of the block has the
-/// given number. The machines come back with their journals, in the order in which they were handed in; where memory runs out, none does.
-pub fn run_block<M: Machine<Command = Command, Reply = Answer>>(
+// What a block asks, of all replicas.
+#[derive(Clone, Copy)]
+pub struct Plan<'a> {
+    pub sources: &'a [EditList],
+    pub lines: &'a [AuthorLines],
+    pub sends: &'a [SendLine],
+    /// The number of the first `send` line.
+    pub first_send: u32,
+}
+
+/// Runs a block on machines, of which each is a replica: each author with lines and each `send` line is a worker of its own, and they
+/// are at work at once. The sources are the canonical lists of the replicas as the block opens, and the first `send` line of the block
+/// has the given number. `first_calls` has for each declared author, in order, the number of its first line in this block, or of its
+/// next line, among all its lines in the session, counted from 1. The gate says when an author's calls may start, and changes nothing
+/// else. The machines come back with their journals, in the order in which they were handed in; where memory runs out for a worker,
+/// the others go on to their ends, and none comes back.
+pub fn run_block<
+    R: Threads + Wait + Sync,
+    M: Machine<Command = Command, Reply = Answer>,
+    G: Gate,
+>(
+    rt: &R,
     alloc: Global,
     machines: Vec<M>,
     sources: &[EditList],
     authors: &AuthorList,
     block: &Block,
     first_send: u32,
+    first_calls: &[u64],
+    gate: &G,
 ) -> Result<(Vec<M>, Vec<Journal<M>>), NoMemory>
     requires sources { length sources.now ≡ length machines.items }
     requires authors { AllByRecursion (IsPlaced (length machines.items)) authors.now }
     requires once { AllDiffer (author_numbers authors.now) }
     requires lines { AllByRecursion (CanRun authors.now (length machines.items)) block.now.lines }
     requires numbers { first_send + length (sends_of block.now.lines) < 2 ^ 32 }
+    requires first_calls { length first_calls.now ≡ length authors.now }
+    requires calls { AllByRecursion (λ first. first + length block.now.lines < 2 ^ 64) first_calls.now }
     ensures machines { IfOk result (λ ran. length ran.0.items ≡ length machines.items) }
     ensures journals { IfOk result (λ ran. length ran.1.items ≡ length machines.items) }
     ensures each { IfOk result (λ ran. (replica : ℕ) (first last : M) (journal : List (Entry M Command M.Effect Answer))
         → slice_get machines.items replica ≡ Some first → slice_get ran.0.items replica ≡ Some last → slice_get ran.1.items replica ≡ Some journal
         → HasRun M.after M.effect M.reply (record { authors = authors.now; lines = block.now.lines; first_send = first_send; sources = sources.now; replica = replica }) first journal last) }
 {
-    let mut machines_after = Vec::with_capacity(alloc, machines.len())?;
-    let mut journals = Vec::with_capacity(alloc, machines.len())?;
-    for machine in machines {
-        let replica = journals.len() as u64;
-        let lines = block.lines.as_slice();
-        let (machine, journal) = run_at(
-            alloc, machine, sources, authors, lines, first_send, replica,
-        )?;
-        machines_after.push(machine)?;
-        journals.push(journal)?;
-    }
-    Ok((machines_after, journals))
+    let lines = block.lines.as_slice();
+    let by_author = lines_by_author(alloc, authors, first_calls, lines)?;
+    let sends = sends_in(alloc, lines)?;
+    let plan = Plan {
+        sources,
+        lines: &by_author,
+        sends: &sends,
+        first_send,
+    };
+    let journals = Vec::with_capacity(alloc, machines.len())?;
+    run_replicas(rt, alloc, machines, journals, &plan, gate)
 }
 
-// Runs the block's lines at one replica.
-fn run_at<M: Machine<Command = Command, Reply = Answer>>(
+// Runs a plan on replicas, each in a thread of its own, and fills an empty list with their journals.
+fn run_replicas<
+    R: Threads + Wait + Sync,
+    M: Machine<Command = Command>,
+    G: Gate,
+>(
+    rt: &R,
+    alloc: Global,
+    mut machines: Vec<M>,
+    journals: Vec<Journal<M>>,
+    plan: &Plan<'_>,
+    gate: &G,
+) -> Result<(Vec<M>, Vec<Journal<M>>), NoMemory>
+    requires plan { CanRunPlan plan.now }
+    requires no_journal { journals.items ≡ [] }
+    ensures machines { IfOk result (λ ran. length ran.0.items ≡ length machines.items) }
+    ensures journals { IfOk result (λ ran. length ran.1.items ≡ length machines.items) }
+    ensures each { IfOk result (λ ran. (stage : Stage) → IsPlanOf stage plan.now → EachHasRun M.after M.effect M.reply stage machines.items ran.0.items ran.1.items) }
+{
+    let Some(machine) = machines.pop() else {
+        return Ok((machines, journals));
+    };
+    let replica = machines.len() as u64;
+    // A thread's result may name only types that what it is given names.
+    let leaves = PhantomData::<Journal<M>>;
+    let (ran, others) = join(
+        rt,
+        move || -> Result<(M, Journal<M>), NoMemory>
+            requires { CanRunPlan plan.now }
+            ensures { IfOk result (λ ran. (stage : Stage) → IsPlanOf stage plan.entry.now → HasRun M.after M.effect M.reply (at_replica stage replica) machine ran.1 ran.0) }
+        {
+            let _leaves = leaves;
+            run_at(rt, alloc, machine, plan, replica, gate)
+        },
+        || -> Result<(Vec<M>, Vec<Journal<M>>), NoMemory>
+            requires { CanRunPlan plan.now × (journals.items ≡ []) }
+            ensures { IfOk result (λ ran. (length ran.0.items ≡ length machines.items) × (length ran.1.items ≡ length machines.items) × ((stage : Stage) → IsPlanOf stage plan.entry.now → EachHasRun M.after M.effect M.reply stage machines.items ran.0.items ran.1.items)) }
+        { run_replicas(rt, alloc, machines, journals, plan, gate) },
+    );
+    let (machine, journal) = ran?;
+    let (mut machines, mut journals) = others?;
+    machines.push(machine)?;
+    journals.push(journal)?;
+    Ok((machines, journals))
+}
+
+// Runs a plan on one replica.
+fn run_at<
+    R: Threads + Wait + Sync,
+    M: Machine<Command = Command>,
+    G: Gate,
+>(
+    rt: &R,
     alloc: Global,
     machine: M,
-    sources: &[EditList],
-    authors: &AuthorList,
-    lines: &[Line],
-    first_send: u32,
+    plan: &Plan<'_>,
     replica: u64,
+    gate: &G,
 ) -> Result<(M, Journal<M>), NoMemory>
-    requires sends { AllByRecursion (CanSend (length sources.now)) (sends_of lines.now) }
-    requires numbers { first_send + length (sends_of lines.now) < 2 ^ 32 }
-    ensures { IfOk result (λ ran. HasRun M.after M.effect M.reply (record { authors = authors.now; lines = lines.now; first_send = first_send; sources = sources.now; replica = replica }) machine ran.1 ran.0) }
+    requires { CanRunPlan plan.now }
+    ensures { IfOk result (λ ran. (stage : Stage) → IsPlanOf stage plan.now → HasRun M.after M.effect M.reply (at_replica stage replica) machine ran.1 ran.0) }
 {
-    let mut requests = Vec::new(alloc);
-    append_actions(authors, lines, replica, &mut requests)?;
-    append_sends(alloc, sources, lines, first_send, replica, &mut requests)?;
-    run_requests(alloc, machine, requests)
-}
-
-// Lets a machine take the requests in order.
-fn run_requests<M: Machine<Command = Command, Reply = Answer>>(
-    alloc: Global,
-    machine: M,
-    requests: Vec<Request>,
-) -> Result<(M, Journal<M>), NoMemory>
-    ensures { IfOk result (λ ran. (map request_of ran.1 ≡ requests.items) × Replays M.after M.effect M.reply machine ran.1 ran.0) }
-{
-    let mut solo = Solo::new(alloc, machine, requests.len() as u64)?;
-    for request in requests {
-        let Request { actor, command } = request;
-        solo.act(alloc, actor, command)?;
-    }
-    Ok(solo.close())
+    let mut workers = Vec::new(alloc);
+    append_authors(plan.lines, replica, &mut workers)?;
+    append_sends(
+        alloc,
+        plan.sources,
+        plan.sends,
+        plan.first_send,
+        replica,
+        &mut workers,
+    )?;
+    run_together(rt, alloc, machine, &workers, gate)
 }

@@ -1,12 +1,15 @@
 //! Blocks of sessions: what a block asks of each replica, namely the lines of the authors who act on it and the pieces that are sent to
-//! it, and how it is run.
+//! it, and how it is run: each author with lines and each `send` line in a thread of its own, on machines that the threads share.
 #![tactic(auto)]
 
+mod author_lines;
 mod block;
 mod laws;
 mod listing;
 mod no_memory;
-mod request;
+mod together;
+mod worker;
+mod working;
 
 pub use block::run_block;
 pub use laws::{blocks_of_sessions_can_run, calls_differ_in_order_alone};

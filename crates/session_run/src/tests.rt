@@ -4,11 +4,15 @@ ghost use Rattle.session_script.specs.Session.{IsSession};
 
 use super::*;
 use grove_edits::{Action, Actor, Answer, Command, EditList};
+use grove_io::{Gate, OpenGate};
 use session_script::{Item, Session, read_session};
 use shared_replica::{Journal, Machine, NoMemory as NoRoom};
 use std::alloc::Global;
+use std::sync::Wait;
+use std::sync::atomic::{AtomicU64, Ordering};
 use std::sync::ledger::Ledger;
 use std::test::Fail;
+use std::thread::Threads;
 use walks::Steps;
 
 /// Counts its steps, and tells before each how many there were.
@@ -61,36 +65,50 @@ fn loaded(alloc: Global, session: &Session) -> Result<EditList, Fail> {
 }
 
 // What machines that count journal of the session's first item, if it is a block.
-fn journals_of(
+fn journals_of<R: Threads + Wait + Sync, G: Gate>(
+    rt: &R,
     alloc: Global,
     session: &Session,
     sources: &[EditList],
+    gate: &G,
 ) -> Result<Vec<Journal<Counter>>, Fail>
     requires session { IsSession session.now }
     requires replicas { length session.now.replicas ≡ 2 }
+    requires authors { length session.now.authors ≡ 2 }
     requires sources { length sources.now ≡ 2 }
 {
     let Some(Item::Block(block)) = session.items.get(0) else {
         return Err(Fail::from("a block"));
     };
     let machines = vec![in alloc; Counter { steps: 0 }, Counter { steps: 0 }]?;
-    let (_, journals) = run_block(alloc, machines, sources, &session.authors, block, 1)?;
+    let first_calls = [1, 1];
+    let (_, journals) = run_block(
+        rt,
+        alloc,
+        machines,
+        sources,
+        &session.authors,
+        block,
+        1,
+        &first_calls,
+        gate,
+    )?;
     Ok(journals)
 }
 
-// An entry: who asks, the number of the edge that is cut or of the piece, the number of the piece's edits, and that of the steps before.
+// What an actor's call of this index among its own asks: the number of the edge that is cut or of the piece, and that of its edits.
 fn shown(
     journals: &[Journal<Counter>],
     replica: usize,
+    actor: Actor,
     index: usize,
-) -> Option<(Actor, u64, usize, u64)> {
-    let entry = journals.get(replica)?.get(index)?;
-    match &entry.command {
-        Command::Act(Action::Cut { edge }) => Some((entry.actor, edge.counter, 0, entry.effect)),
+) -> Option<(u64, usize)> {
+    let journal = journals.get(replica)?;
+    let mut calls = journal.as_slice().iter().filter(|entry| entry.actor == actor);
+    match &calls.nth(index)?.command {
+        Command::Act(Action::Cut { edge }) => Some((edge.counter, 0)),
         Command::Act(_) => None,
-        Command::Take { piece, edits, .. } => {
-            Some((entry.actor, *piece, edits.len(), entry.effect))
-        }
+        Command::Take { piece, edits, .. } => Some((*piece, edits.len())),
     }
 }
 
@@ -99,23 +117,77 @@ fn authors_act_and_pieces_come_where_they_belong(rt: HostRuntime) -> Result<(), 
     let Ok(session) = read_session(rt.alloc(), SESSION) else {
         return Err(Fail::from("a session"));
     };
-    if session.replicas.len() != 2 {
-        return Err(Fail::from("two replicas"));
+    if session.replicas.len() != 2 || session.authors.len() != 2 {
+        return Err(Fail::from("two replicas and two authors"));
     }
     let edits = loaded(rt.alloc(), &session)?;
     let sources = vec![in rt.alloc(); edits, EditList::new(rt.alloc())]?;
-    let journals = journals_of(rt.alloc(), &session, &sources)?;
+    let journals = journals_of(&rt, rt.alloc(), &session, &sources, &OpenGate)?;
     assert_eq!(rt; journals.len(), 2);
-    for (replica, index, want) in [
-        (0, 0, Some((Actor::Author(1), 2, 0, 0))),
-        (0, 1, Some((Actor::Author(1), 4, 0, 1))),
-        (0, 2, None),
-        (1, 0, Some((Actor::Author(2), 3, 0, 0))),
-        (1, 1, Some((Actor::Send(1), 1, 2, 1))),
-        (1, 2, Some((Actor::Send(1), 2, 1, 2))),
-        (1, 3, None),
+    for (replica, actor, index, want) in [
+        (0, Actor::Author(1), 0, Some((2, 0))),
+        (0, Actor::Author(1), 1, Some((4, 0))),
+        (0, Actor::Author(1), 2, None),
+        (0, Actor::Author(2), 0, None),
+        (0, Actor::Send(1), 0, None),
+        (1, Actor::Author(2), 0, Some((3, 0))),
+        (1, Actor::Author(2), 1, None),
+        (1, Actor::Send(1), 0, Some((1, 2))),
+        (1, Actor::Send(1), 1, Some((2, 1))),
+        (1, Actor::Send(1), 2, None),
     ] {
-        assert!(rt; shown(&journals, replica, index) == want);
+        assert!(rt; shown(&journals, replica, actor, index) == want);
+    }
+    Ok(())
+}
+
+// A block in which two authors act on one replica, twice each.
+const MEETING: &[u8] =
+    b"session\nreplica a\nreplica b\nauthor 1 a\nauthor 2 a\nblock\n1 cut 1.2\n1 cut 1.3\n2 cut 2.2\n2 cut 2.3\nend\n";
+
+/// Lets the second call of each of two authors start once that of the other was asked for. It counts how often it was asked for each.
+#[derive(Drop)]
+struct Meeting {
+    first: AtomicU64,
+    second: AtomicU64,
+}
+
+impl Gate for Meeting {
+    fn ready(&self, author: u32, call: u64) -> bool {
+        if call != 2 {
+            return true;
+        }
+        if author == 1 {
+            self.first.fetch_add(1, Ordering::SeqCst);
+            self.second.load(Ordering::SeqCst) > 0
+        } else {
+            self.second.fetch_add(1, Ordering::SeqCst);
+            self.first.load(Ordering::SeqCst) > 0
+        }
+    }
+}
+
+#[test]
+fn two_authors_meet(rt: HostRuntime) -> Result<(), Fail> {
+    let Ok(session) = read_session(rt.alloc(), MEETING) else {
+        return Err(Fail::from("a session"));
+    };
+    if session.replicas.len() != 2 || session.authors.len() != 2 {
+        return Err(Fail::from("two replicas and two authors"));
+    }
+    let sources = vec![in rt.alloc(); EditList::new(rt.alloc()), EditList::new(rt.alloc())]?;
+    let gate = Meeting {
+        first: AtomicU64::new(0),
+        second: AtomicU64::new(0),
+    };
+    let journals = journals_of(&rt, rt.alloc(), &session, &sources, &gate)?;
+    for author in [1u32, 2] {
+        assert!(rt; shown(&journals, 0, Actor::Author(author), 0) == Some((2, 0)));
+        assert!(rt; shown(&journals, 0, Actor::Author(author), 1) == Some((3, 0)));
+    }
+    for asked in [&gate.first, &gate.second] {
+        let asked = asked.load(Ordering::SeqCst);
+        assert!(rt; 0 < asked && asked < 1_000_000);
     }
     Ok(())
 }

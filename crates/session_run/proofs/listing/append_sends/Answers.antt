@@ -1,21 +1,20 @@
-use Rattle.session_run.specs.Calls.{sends_of}
-use Rattle.session_run.proofs.Sent.{none_sent, line_can_send, line_sent, all_sent}
+use Rattle.session_run.proofs.Listed.{none_sent, next_can_send, next_sent, all_sent}
 use Rattle.session_run.proofs.listing.append_sends.Goals as goal
 
-pub loop-line-init : goal.loop-line-init
-loop-line-init c = none_sent c.args.sources.now c.args.replica c.args.first_send (sends_of c.args.lines.now) c.args.requests.now.items c.requires.sends
+pub loop-send-init : goal.loop-send-init
+loop-send-init c = none_sent c.args.sources.now c.args.replica c.args.first_send c.args.sends.now c.args.workers.now.items c.requires.sends
 
-pub append_line-requires : goal.append_line-requires
-append_line-requires c =
-    line_can_send c.args.sources.now c.args.replica c.args.first_send (sends_of c.args.lines.now) c.args.requests.now.items c.args.lines.now c.loop-line.line-index c.loop-line.number
-    c.loop-line.requests.items c.loop-line.invariant c.line-item.result c.loop-line-test.true c.line-item.is c.requires.numbers
+pub append_send-requires : goal.append_send-requires
+append_send-requires c =
+    next_can_send c.args.sources.now c.args.replica c.args.first_send c.args.sends.now c.args.workers.now.items c.loop-send.send-index c.loop-send.number _ c.loop-send.workers.items
+    c.loop-send-test.true c.loop-send.invariant
 
-pub loop-line-preserved : goal.loop-line-preserved
-loop-line-preserved c =
-    line_sent c.args.sources.now c.args.replica c.args.first_send (sends_of c.args.lines.now) c.args.requests.now.items c.args.lines.now c.loop-line.line-index c.loop-line.number
-    c.loop-line.requests.items c.loop-line.invariant c.line-item.result _ c.append_line.new.requests.items c.loop-line-test.true c.line-item.is c.in_ok-number.ensures
+pub loop-send-preserved : goal.loop-send-preserved
+loop-send-preserved c =
+    next_sent c.args.sources.now c.args.replica c.args.first_send c.args.sends.now c.args.workers.now.items c.loop-send.send-index c.loop-send.number _ c.loop-send.workers.items
+    c.loop-send-test.true c.loop-send.invariant c.append_send.new.workers.items c.in_ok-append_send.ensures
 
 pub returns : goal.returns
 returns c =
-    all_sent c.args.sources.now c.args.replica c.args.first_send (sends_of c.args.lines.now) c.args.requests.now.items c.args.lines.now c.loop-line.line-index c.loop-line.number
-    c.loop-line.requests.items c.loop-line.invariant c.loop-line-test.false
+    all_sent c.args.sources.now c.args.replica c.args.first_send c.args.sends.now c.args.workers.now.items c.loop-send.send-index c.loop-send.number c.loop-send.workers.items
+    c.loop-send-test.false c.loop-send.invariant
