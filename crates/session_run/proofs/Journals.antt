@@ -223,8 +223,9 @@ module _ {R : Type 0} where
       elim idle.0 [
         | inl away ↦ absurd (away (ap (λ (x : AuthorLines). x.declared.replica) same ∙ here))
         | inr none ↦ inl (
-            not_named replica author all workers made idle.1 ran (subst (λ n. AllByRecursion (λ m. n ≡ m → ⊥) (authors_told all)) mine differ.0),
-            ap (λ (x : AuthorLines). map Act x.actions.items) (sym same) ∙ ap (map Act) none)
+          not_named replica author all workers made idle.1 ran (subst (λ n. AllByRecursion (λ m. n ≡ m → ⊥) (authors_told all)) mine differ.0),
+          ap (λ (x : AuthorLines). map Act x.actions.items) (sym same) ∙ ap (map Act) none,
+        )
       ]
   author_stands replica author (l ∷ all) zero lines workers made differ at is here (inr works) ran =
       let same : l ≡ lines = same_Some l lines at in
@@ -295,7 +296,7 @@ module _ {R : Type 0} where
         next.0,
         next.1,
         subst (Stands (actors.Send (first + suc index)) next.0) (sym b.whole)
-        (stands_other (actors.Send (first + suc index)) next.0 (actor_of one, b.calls) b.others other (subst (λ n. Stands (actors.Send n) next.0 b.others) number next.2)),
+            (stands_other (actors.Send (first + suc index)) next.0 (actor_of one, b.calls) b.others other (subst (λ n. Stands (actors.Send n) next.0 b.others) number next.2)),
       )
 
 -- ---- journals
@@ -354,11 +355,13 @@ module _ {M E R : Type 0} where
       (elim (same_actor e.actor actors.Host) as (λ b. same_actor e.actor actors.Host ≡ b
       → (if b then call_of e ∷ calls_by actors.Host es else calls_by actors.Host es) ≡ [] → MayCall stage e.actor × AllByRecursion (λ (e : Entry M Command E R). MayCall stage e.actor) es) [
         | true ↦ λ is some. cc
-        | false ↦ λ is rest.
-            (elim named.0 [
-              | inl host ↦ absurd (true_false (sym (ap (λ (a : Actor). same_actor a actors.Host) host) ∙ is))
-              | inr other ↦ may e.actor other
-            ], all_may stage es made named.1 rest may)
+        | false ↦ λ is rest. (
+          elim named.0 [
+            | inl host ↦ absurd (true_false (sym (ap (λ (a : Actor). same_actor a actors.Host) host) ∙ is))
+            | inr other ↦ may e.actor other
+          ],
+          all_may stage es made named.1 rest may,
+        )
       ]) refl none
     where
       true_false : true ≡ false → ⊥
@@ -417,6 +420,7 @@ module _ {M E R : Type 0} where
       where
         none_named : (IsNamed actors.Host made → ⊥)
         none_named is = may_call actors.Host is
+
         none_of_host : calls_by actors.Host journal ≡ []
         none_of_host = exact actors.Host [] (inl (refl, refl, none_named))
 

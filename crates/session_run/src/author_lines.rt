@@ -63,11 +63,7 @@ fn without_lines(
 }
 
 // Appends an action of an author, if it is one of these.
-fn append_action(
-    all: &mut Vec<AuthorLines>,
-    author: u32,
-    action: Action,
-) -> Result<(), NoMemory>
+fn append_action(all: &mut Vec<AuthorLines>, author: u32, action: Action) -> Result<(), NoMemory>
     requires { AllDiffer (authors_told all.old.items) }
     ensures added { OnOk result (map told all.new.items ≡ map (with_action author action) (map told all.old.items)) }
     ensures first_calls { OnOk result (first_calls_told all.new.items ≡ first_calls_told all.old.items) }

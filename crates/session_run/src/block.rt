@@ -39,11 +39,7 @@ pub struct Plan<'a> {
 /// next line, among all its lines in the session, counted from 1. The gate says when an author's calls may start, and changes nothing
 /// else. The machines come back with their journals, in the order in which they were handed in; where memory runs out for a worker,
 /// the others go on to their ends, and none comes back.
-pub fn run_block<
-    R: Threads + Wait + Sync,
-    M: Machine<Command = Command, Reply = Answer>,
-    G: Gate,
->(
+pub fn run_block<R: Threads + Wait + Sync, M: Machine<Command = Command, Reply = Answer>, G: Gate>(
     rt: &R,
     alloc: Global,
     machines: Vec<M>,
@@ -81,11 +77,7 @@ pub fn run_block<
 }
 
 // Runs a plan on replicas, each in a thread of its own, and fills an empty list with their journals.
-fn run_replicas<
-    R: Threads + Wait + Sync,
-    M: Machine<Command = Command>,
-    G: Gate,
->(
+fn run_replicas<R: Threads + Wait + Sync, M: Machine<Command = Command>, G: Gate>(
     rt: &R,
     alloc: Global,
     mut machines: Vec<M>,
@@ -127,11 +119,7 @@ fn run_replicas<
 }
 
 // Runs a plan on one replica.
-fn run_at<
-    R: Threads + Wait + Sync,
-    M: Machine<Command = Command>,
-    G: Gate,
->(
+fn run_at<R: Threads + Wait + Sync, M: Machine<Command = Command>, G: Gate>(
     rt: &R,
     alloc: Global,
     machine: M,

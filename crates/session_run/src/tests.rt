@@ -80,6 +80,9 @@ fn journals_of<R: Threads + Wait + Sync, G: Gate>(
     let Some(Item::Block(block)) = session.items.get(0) else {
         return Err(Fail::from("a block"));
     };
+    if block.lines.len() > 100 {
+        return Err(Fail::from("few lines"));
+    }
     let machines = vec![in alloc; Counter { steps: 0 }, Counter { steps: 0 }]?;
     let first_calls = [1, 1];
     let (_, journals) = run_block(
@@ -104,7 +107,10 @@ fn shown(
     index: usize,
 ) -> Option<(u64, usize)> {
     let journal = journals.get(replica)?;
-    let mut calls = journal.as_slice().iter().filter(|entry| entry.actor == actor);
+    let mut calls = journal
+        .as_slice()
+        .iter()
+        .filter(|entry| entry.actor == actor);
     match &calls.nth(index)?.command {
         Command::Act(Action::Cut { edge }) => Some((edge.counter, 0)),
         Command::Act(_) => None,

@@ -20,11 +20,7 @@ use std::sync::Wait;
 use std::thread::{Threads, join};
 
 /// Lets the workers call a machine at once, and gives it back with its journal.
-pub fn run_together<
-    R: Threads + Wait + Sync,
-    M: Machine<Command = Command>,
-    G: Gate,
->(
+pub fn run_together<R: Threads + Wait + Sync, M: Machine<Command = Command>, G: Gate>(
     rt: &R,
     alloc: Global,
     machine: M,
@@ -45,11 +41,7 @@ pub fn run_together<
 
 // Lets each worker make its calls in a thread of its own, and gives the pass back with what theirs had. Where memory runs out for one,
 // the others go on.
-fn run_workers<
-    R: Threads + Wait + Sync,
-    M: Machine<Command = Command>,
-    G: Gate,
->(
+fn run_workers<R: Threads + Wait + Sync, M: Machine<Command = Command>, G: Gate>(
     rt: &R,
     alloc: Global,
     shared: &Shared<M>,

@@ -17,14 +17,14 @@ loop-line-preserved c =
       | in-Author+in_ok-append_action-in-Author w ↦
           let added = w.in_ok-append_action-in-Author.ensures in (
             action_grouped c.args.lines.now c.args.authors.now c.loop-line.line-index c.line-item.result c.loop-line-test.true c.line-item.is w.in-Author.author w.in-Author.action
-            c.loop-line.all.items c.match-line.all.items w.in-Author.is c.loop-line.invariant.0 (ap (λ all. map told all.items) w.all-is ∙ added.added),
+                c.loop-line.all.items c.match-line.all.items w.in-Author.is c.loop-line.invariant.0 (ap (λ all. map told all.items) w.all-is ∙ added.added),
             ap (λ all. first_calls_told all.items) w.all-is ∙ added.first_calls ∙ c.loop-line.invariant.1,
           )
       | in-Send w ↦ (
-          send_grouped c.args.lines.now c.args.authors.now c.loop-line.line-index c.line-item.result c.loop-line-test.true c.line-item.is w.in-Send.field-0
-          c.loop-line.all.items c.match-line.all.items w.in-Send.is (ap (λ all. all.items) w.all-is) c.loop-line.invariant.0,
-          ap (λ all. first_calls_told all.items) w.all-is ∙ c.loop-line.invariant.1,
-        )
+        send_grouped c.args.lines.now c.args.authors.now c.loop-line.line-index c.line-item.result c.loop-line-test.true c.line-item.is w.in-Send.field-0
+            c.loop-line.all.items c.match-line.all.items w.in-Send.is (ap (λ all. all.items) w.all-is) c.loop-line.invariant.0,
+        ap (λ all. first_calls_told all.items) w.all-is ∙ c.loop-line.invariant.1,
+      )
     ]
 
 pub returns-clause-lines : goal.returns-clause-lines

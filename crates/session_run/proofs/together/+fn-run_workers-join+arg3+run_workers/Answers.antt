@@ -23,12 +23,31 @@ join-worker-requires-after_bounds g t c κs within =
     let kept = c.split-worker.ensures.kept in
     let mine = c.calls.ensures in
     let parts = c.requires.parts in
-    let calls = c.requires.calls in
-    (((ap (λ p. p.shared) given ∙ c.requires.shared, (let its = ap (λ p. p.calls) given in omega arith), work.1), search rules),
-      (search rules,
-        (search rules, (search rules, (search rules, (search rules, (search rules,
-          ((ap (λ p. p.shared) kept ∙ c.requires.shared, (let its = ap (λ p. p.parts) kept in omega arith), (let its = ap (λ p. p.calls) kept in omega arith), work.0),
-            search rules))))))))
+    let calls = c.requires.calls in (
+      ((ap (λ p. p.shared) given ∙ c.requires.shared, (let its = ap (λ p. p.calls) given in omega arith), work.1), search rules),
+      (
+        search rules,
+        (
+          search rules,
+          (
+            search rules,
+            (
+              search rules,
+              (
+                search rules,
+                (
+                  search rules,
+                  (
+                    (ap (λ p. p.shared) kept ∙ c.requires.shared, (let its = ap (λ p. p.parts) kept in omega arith), (let its = ap (λ p. p.calls) kept in omega arith), work.0),
+                    search rules,
+                  ),
+                ),
+              ),
+            ),
+          ),
+        ),
+      ),
+    )
 
 pub returns-clause-joined : goal.returns-clause-joined
 returns-clause-joined g t c =
@@ -43,7 +62,7 @@ returns-clause-joined g t c =
     (and_ok c.join-worker.result.0.1 c.join-worker.result.1.1 _ _ Out first.2 second.1 (λ are ran. (
       ran.0 ++ (c.actor.result, first.0) ∷ [],
       subst (λ (ws : List Worker). HaveRun ws (ran.0 ++ (c.actor.result, first.0) ∷ [])) (sym both)
-      (have_run_last front last ran.0 c.actor.result first.0 ran.1 c.actor.ensures are),
+          (have_run_last front last ran.0 c.actor.result first.0 ran.1 c.actor.ensures are),
       joined_last c.args.pass c.split-worker.new.pass c.join-worker.result.1.0 c.join.new.pass c.split-worker.result c.join-worker.result.0.0 c.actor.result c.calls.result first.0
-      c.split-worker.ensures.kept c.split-worker.ensures.given first.1 second.0 c.join.ensures.joined ran.0 ran.2,
+          c.split-worker.ensures.kept c.split-worker.ensures.given first.1 second.0 c.join.ensures.joined ran.0 ran.2,
     )))

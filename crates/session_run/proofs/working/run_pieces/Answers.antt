@@ -20,9 +20,9 @@ loop-index-preserved g c =
     let bytes : c.of.result ≡ c.in-Some.bytes.now = cc (c.of.ensures, c.in_ok-from_slice.ensures.items) in (
       commands ++ Take (c.loop-index.index + 1) c.of.result c.in_ok-edits.edits ∷ [],
       one_taken_more pieces c.loop-index.index c.loop-index.taker.stream c.take_good.new.taker.stream commands c.in-Some.bytes.now c.of.result c.in_ok-edits.edits
-      c.loop-index.invariant.1 here bytes c.in_ok-edits.ensures,
+          c.loop-index.invariant.1 here bytes c.in_ok-edits.ensures,
       one_made c.args.pass.now c.loop-index.pass c.act.new.pass commands (Take (c.loop-index.index + 1) c.of.result c.in_ok-edits.edits) c.in_ok-act.field-0 c.loop-index.invariant.2
-      c.in_ok-act.ensures.entered,
+          c.in_ok-act.ensures.entered,
     )
 
 pub returns : goal.returns

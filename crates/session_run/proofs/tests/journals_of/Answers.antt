@@ -1,0 +1,29 @@
+use Rattle.std.proofs.Common.{◌≡◌, List, [], ◌∷◌, Some, ℕ, drop, slice_get, length, sym, ap, subst, ◌∙◌, arith, rules}
+use Rattle.std.specs.List.{AllByRecursion}
+use Rattle.std.proofs.lemmas.Option.{same_Some, none-some}
+use Rattle.session_script.specs.declared.item.Item.{Item}
+use Rattle.session_script.specs.declared.item.Item.TheVariants.{Block}
+use Rattle.session_run.specs.Run.{CanRun}
+use Rattle.session_run.proofs.OfSessions.{few_numbers, block_can_run}
+use Rattle.session_run.proofs.tests.journals_of.Goals as goal
+
+first_item : (items : List Item) (one : Item) → slice_get items 0 ≡ Some one → items ≡ one ∷ drop 1 items
+first_item [] one is = absurd (none-some one is)
+first_item (i ∷ items) one is = ap (λ (j : Item). j ∷ items) (same_Some i one is)
+
+pub run_block-requires-clause-numbers : goal.run_block-requires-clause-numbers
+run_block-requires-clause-numbers g c κs within =
+    let items = c.args.session.now.items in
+    let block = c.in-Some-Block.block in
+    let first : slice_get items 0 ≡ Some (Block block) = search rules in
+    let few = few_numbers c.args.session.now [] (drop 1 items) block c.requires.session (first_item items (Block block) first) in
+    omega arith
+
+pub run_block-requires-clause-lines : goal.run_block-requires-clause-lines
+run_block-requires-clause-lines g c κs within =
+    let session = c.args.session.now in
+    let block = c.in-Some-Block.block in
+    let first : slice_get session.items 0 ≡ Some (Block block) = search rules in
+    let can = block_can_run session [] (drop 1 session.items) block c.requires.session (first_item session.items (Block block) first) in
+    let two : length session.replicas ≡ length c.in_ok-machines.machines.items = c.requires.replicas ∙ sym (ap length c.in_ok-machines.ensures.items) in
+    subst (λ (n : ℕ). AllByRecursion (CanRun session.authors n) block.lines) two can
