@@ -1,5 +1,4 @@
-ghost use Rattle.std.specs.Prelude.{◌≡◌, ◌≢◌, ◌⊎◌, ◌<◌, ◌≤◌, ◌↔◌, ℕ, List, [], ◌∷◌, Some, length, take, map, string_bytes, IsTrue, IfSome, IfNone};
-ghost use Rattle.std.specs.Prelude.{IsErrOf, IfOk, vec_len, codes, decimal};
+ghost use Rattle.std.specs.Prelude.{◌≡◌, ◌≢◌, ◌⊎◌, ◌+◌, ◌<◌, ◌≤◌, ◌↔◌, ℕ, List, [], ◌∷◌, Some, length, take, map, vec_len, string_bytes, codes, decimal, IsTrue, IfSome, IfNone, IfOk, IsErrOf};
 ghost use Rattle.grove_io.specs.Outside.{HasRisen, Gave, Took};
 ghost use Rattle.replica_core.specs.Content.{Content};
 ghost use Rattle.session_report.specs.Taken.{Journals};
@@ -112,7 +111,8 @@ fn read_for<S: Source>(
     ensures no_fault { S.never_fails source.old → S.faults source.new ≡ S.faults source.old }
 {
     match command {
-        Command::Ask(_) | Command::Run => read_all(alloc, source, MOST_BYTES),
+        Command::Ask(_) => read_all(alloc, source, MOST_BYTES),
+        Command::Run => read_all(alloc, source, MOST_BYTES),
         Command::Generate { .. } => Ok(Vec::new(alloc)),
     }
 }
@@ -164,7 +164,10 @@ fn loads_in(word: &str, number: &str) -> Option<u64>
         return None;
     }
     let loads = read_number(number.as_bytes())?;
-    if loads < 1 || loads > MOST_LOADS {
+    if loads < 1 {
+        return None;
+    }
+    if loads > MOST_LOADS {
         None
     } else {
         Some(loads)
