@@ -2,7 +2,6 @@ pub mod Counting
 pub mod OneDue
 pub mod OneGenerated
 pub mod Statuses
-pub mod Values
 pub mod WordsAre
 pub mod GenWords
 pub mod Answered

@@ -45,8 +45,8 @@ module _ {M : Type 0} (session : Session) (js ks : Journals M) (is : IsSession s
   one_sources before a b alike of_a of_b =
       lists_alike a b (of_a.all ∙ sym of_b.all)
       (λ number x y at_x at_y.
-          let within : number < length session.replicas = omega (arith, slice_get_within a number x at_x, of_a.all) in
-          canonical_once (graph (taken ks number before)) x y (subst (λ (es : List Edit). IsCanonical (graph es) x) (alike number within) (of_a.each number x at_x)) (of_b.each number y at_y))
+      let within : number < length session.replicas = omega (arith, slice_get_within a number x at_x, of_a.all) in
+      canonical_once (graph (taken ks number before)) x y (subst (λ (es : List Edit). IsCanonical (graph es) x) (alike number within) (of_a.each number x at_x)) (of_b.each number y at_y))
 
   -- a block has the same entries at each replica
   entries_alike : (before after : List Item) (block : Block) → session.items ≡ before ++ item.Block block ∷ after → Alike before

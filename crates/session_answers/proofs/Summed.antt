@@ -70,9 +70,9 @@ summarized session running summary behind sums =
         (λ all. sums.equal.alike.1
             (all_from_each (Prints text) sums.others
             (λ number other at.
-                let is_at : slice_get replicas (suc number) ≡ Some other = ap (λ (rs : List Content). slice_get rs (suc number)) sums.are ∙ at in
-                taken_prints other (taken running.journals (suc number) session.items) text (behind.replicas.each (suc number) other is_at)
-                (all (suc number) (omega (arith, behind.replicas.all, slice_get_within replicas (suc number) other is_at)))))),
+            let is_at : slice_get replicas (suc number) ≡ Some other = ap (λ (rs : List Content). slice_get rs (suc number)) sums.are ∙ at in
+            taken_prints other (taken running.journals (suc number) session.items) text (behind.replicas.each (suc number) other is_at)
+            (all (suc number) (omega (arith, behind.replicas.all, slice_get_within replicas (suc number) other is_at)))))),
       );
     }
 

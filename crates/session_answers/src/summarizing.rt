@@ -18,11 +18,7 @@ use session_script::{Item, Session};
 use std::alloc::Global;
 
 /// Runs a session as `run_session` does, and writes its summary in place of its report.
-pub fn summarize_session(
-    alloc: Global,
-    seed: HashSeed,
-    session: &Session,
-) -> Result<Ran, NoMemory>
+pub fn summarize_session(alloc: Global, seed: HashSeed, session: &Session) -> Result<Ran, NoMemory>
     requires { IsSession session.now }
     ensures legal { IfOk result (λ ran. AreLegal session.now ran.journals) }
     ensures summary { IfOk result (λ ran. IsSummary session.now ran.journals ran.text.items) }

@@ -87,7 +87,11 @@ fn append_journal<M: Machine<Command = Command, Effect = EditList, Reply = Answe
     Ok(())
 }
 
-pub(crate) fn append_number_line(word: &[u8], number: u64, out: &mut Vec<u8>) -> Result<(), NoMemory>
+pub(crate) fn append_number_line(
+    word: &[u8],
+    number: u64,
+    out: &mut Vec<u8>,
+) -> Result<(), NoMemory>
     ensures appended { OnOk result (out.new.items ≡ out.old.items ++ (word.now ++ (decimal number ++ 10 ∷ []))) }
     ensures in_part { OnErr result (Extends out.old.items out.new.items) }
 {
