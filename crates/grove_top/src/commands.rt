@@ -11,6 +11,7 @@ use crate::reading::read_edits;
 use edit_text::{TextFault, write_version};
 use grove_answers::{append_canonical_text, check_text, print_text};
 use grove_edits::EditList;
+use grove_io::Gate;
 use grove_sorts::Version;
 use replica_core::Replica;
 use seeded_hash::HashSeed;
@@ -19,6 +20,8 @@ use session_gen::generate;
 use session_report::JournalList;
 use session_script::{ScriptFault, read_session};
 use std::alloc::Global;
+use std::sync::Wait;
+use std::thread::Threads;
 use text_parts::write_number;
 
 /// A status, the whole text to write with it, and the journals to hand out.
@@ -30,11 +33,13 @@ pub(crate) struct Due {
 }
 
 /// What is due for a command on an input of at most `MOST_BYTES` bytes, which does not matter to a generated session.
-pub(crate) fn form_due(
+pub(crate) fn form_due<R: Threads + Wait + Sync, G: Gate>(
+    rt: &R,
     alloc: Global,
     seed: HashSeed,
     command: Command,
     text: &[u8],
+    gate: &G,
 ) -> Result<Due, NoMemory>
     requires short { length text.now ≤ most_bytes }
     requires within { IsWithinLimits command }
@@ -42,8 +47,8 @@ pub(crate) fn form_due(
 {
     match command {
         Command::Ask(question) => form_answer(alloc, seed, question, text),
-        Command::Run => form_report(alloc, seed, text),
-        Command::Generate { loads } => form_summary(alloc, seed, loads),
+        Command::Run => form_report(rt, alloc, seed, text, gate),
+        Command::Generate { loads } => form_summary(rt, alloc, seed, loads, gate),
     }
 }
 
@@ -71,13 +76,19 @@ fn form_answer(
     }
 }
 
-fn form_report(alloc: Global, seed: HashSeed, text: &[u8]) -> Result<Due, NoMemory>
+fn form_report<R: Threads + Wait + Sync, G: Gate>(
+    rt: &R,
+    alloc: Global,
+    seed: HashSeed,
+    text: &[u8],
+    gate: &G,
+) -> Result<Due, NoMemory>
     requires { length text.now ≤ most_bytes }
     ensures { IfOk result (λ due. IsCommandDue Run text.now due.journals due.status due.text.items) }
 {
     match read_session(alloc, text) {
         Ok(session) => {
-            let Ran { text, journals } = run_session(alloc, seed, &session)?;
+            let Ran { text, journals } = run_session(rt, alloc, seed, &session, gate)?;
             Ok(Due {
                 status: Status::Done,
                 text,
@@ -89,12 +100,18 @@ fn form_report(alloc: Global, seed: HashSeed, text: &[u8]) -> Result<Due, NoMemo
     }
 }
 
-fn form_summary(alloc: Global, seed: HashSeed, loads: u64) -> Result<Due, NoMemory>
+fn form_summary<R: Threads + Wait + Sync, G: Gate>(
+    rt: &R,
+    alloc: Global,
+    seed: HashSeed,
+    loads: u64,
+    gate: &G,
+) -> Result<Due, NoMemory>
     requires { loads ≤ most_loads }
     ensures { IfOk result (λ due. (text : List ℕ) → length text ≤ most_bytes → IsCommandDue (Generate loads) text due.journals due.status due.text.items) }
 {
     let session = generate(alloc, loads)?;
-    let Ran { text, journals } = summarize_session(alloc, seed, &session)?;
+    let Ran { text, journals } = summarize_session(rt, alloc, seed, &session, gate)?;
     Ok(Due {
         status: Status::Done,
         text,

@@ -12,10 +12,12 @@ use crate::command::{Command, Question};
 use crate::commands::form_due;
 use crate::limit::{MOST_BYTES, MOST_LOADS};
 use crate::outcome::{Outcome, Status};
-use grove_io::{InputFault, Sink, Source, read_all, write_out};
+use grove_io::{Gate, InputFault, Sink, Source, read_all, write_out};
 use seeded_hash::HashSeed;
 use session_report::JournalList;
 use std::alloc::Global;
+use std::sync::Wait;
+use std::thread::Threads;
 use text_parts::read_number;
 
 const USAGE: &[u8] = b"usage: grove merge | show | check | run | gen N\n";
@@ -27,12 +29,15 @@ const TOO_LONG: &[u8] = b"too long\n";
 /// The words are judged first, then the length of the input, then its text. A generated session reads nothing. The whole output is formed before anything
 /// is written. What is written is the same whatever the seed is: where nobody can choose the seed, nobody can write a text whose vertices,
 /// types and contexts are slow to look up. A read fault comes before `TooLong` and `Malformed`, and a write fault on their lines replaces them.
-pub fn run<S: Source, K: Sink>(
+/// The authors and the sends of a block are threads, and the gate says when the calls of authors may start.
+pub fn run<R: Threads + Wait + Sync, S: Source, K: Sink, G: Gate>(
+    rt: &R,
     alloc: Global,
     seed: HashSeed,
     words: &[String],
     source: &mut S,
     sink: &mut K,
+    gate: &G,
 ) -> Outcome
     ensures meets { Meets words.now
         (record { left = S.left source.old; read_faults = S.faults source.old; taken = K.taken sink.old; write_faults = K.faults sink.old })
@@ -56,15 +61,17 @@ pub fn run<S: Source, K: Sink>(
         → ((text due : List ℕ) (journals : Journals Content) (status : Status) → Gave (S.left source.old) text (S.left source.new) → IsDue words.now text journals status due → length due ≤ room)
         → K.faults sink.new ≡ K.faults sink.old }
 {
-    answer(alloc, seed, words, source, sink)
+    answer(rt, alloc, seed, words, source, sink, gate)
 }
 
-fn answer<S: Source, K: Sink>(
+fn answer<R: Threads + Wait + Sync, S: Source, K: Sink, G: Gate>(
+    rt: &R,
     alloc: Global,
     seed: HashSeed,
     words: &[String],
     source: &mut S,
     sink: &mut K,
+    gate: &G,
 ) -> Outcome
     ensures meets { Meets words.now
         (record { left = S.left source.old; read_faults = S.faults source.old; taken = K.taken sink.old; write_faults = K.faults sink.old })
@@ -80,7 +87,7 @@ fn answer<S: Source, K: Sink>(
         return without_journals(alloc, write(sink, Status::Usage, USAGE));
     };
     match read_for(alloc, command, source) {
-        Ok(text) => match form_due(alloc, seed, command, &text) {
+        Ok(text) => match form_due(rt, alloc, seed, command, &text, gate) {
             Ok(due) => Outcome {
                 status: write(sink, due.status, &due.text),
                 journals: due.journals,

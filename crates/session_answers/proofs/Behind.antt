@@ -293,8 +293,8 @@ no_item : (before after : List Item) (block : Block) → [] ≡ before ++ item.B
 no_item before after block is = omega (arith, ap length is, length-append before (item.Block block ∷ after))
 
 pub begin_behind : (session : Session) (running : Running) → running.replicas.items ≡ replicate (length session.replicas) no_edits → running.journals ≡ [] → running.text.items ≡ []
-    → running.blocks ≡ 0 → running.sends ≡ 0 → running.shows ≡ 0 → IsBehind session [] running
-begin_behind session running replicas journals text blocks sends shows = record {
+    → running.blocks ≡ 0 → running.sends ≡ 0 → running.shows ≡ 0 → length running.calls.items ≡ length session.authors → IsBehind session [] running
+begin_behind session running replicas journals text blocks sends shows calls = record {
   replicas = subst (λ js. HaveTaken session.replicas js [] running.replicas.items) (sym journals)
       (subst (HaveTaken session.replicas [] []) (sym replicas)
       (record { all = length-replicate (length session.replicas) no_edits; each = λ number replica is. ap (λ (c : Content). c.edits) (empty_ones (length session.replicas) number replica is) }));
@@ -303,6 +303,7 @@ begin_behind session running replicas journals text blocks sends shows = record 
   blocks = blocks;
   sends = sends;
   shows = shows;
+  calls = calls;
 }
 
 -- ---- an item more
@@ -327,6 +328,7 @@ module _ (session : Session) (before : List Item) (old new : Running) (behind : 
     blocks = counted (λ (x : Item). cond (is_block x) 1 0) before (item.Load number edit) old.blocks new.blocks behind.blocks (has.blocks ∙ omega arith);
     sends = counted send_count before (item.Load number edit) old.sends new.sends behind.sends (has.sends ∙ omega arith);
     shows = counted (λ (x : Item). cond (is_show x) 1 0) before (item.Load number edit) old.shows new.shows behind.shows (has.shows ∙ omega arith);
+    calls = ap (λ calls. length calls.items) has.calls ∙ behind.calls;
   }
 
   pub show_behind : HasShown session old new → IsBehind session (before ++ item.Show ∷ []) new
@@ -341,6 +343,7 @@ module _ (session : Session) (before : List Item) (old new : Running) (behind : 
     blocks = counted (λ (x : Item). cond (is_block x) 1 0) before item.Show old.blocks new.blocks behind.blocks (has.blocks ∙ omega arith);
     sends = counted send_count before item.Show old.sends new.sends behind.sends (has.sends ∙ omega arith);
     shows = counted (λ (x : Item). cond (is_show x) 1 0) before item.Show old.shows new.shows behind.shows has.shows;
+    calls = ap (λ calls. length calls.items) has.calls ∙ behind.calls;
   }
 
   pub block_behind : (block : Block) → IsSession session → AllByRecursion (IsLine session) block.lines → HasRunBlock session block old new → IsBehind session (before ++ item.Block block ∷ []) new
@@ -360,4 +363,5 @@ module _ (session : Session) (before : List Item) (old new : Running) (behind : 
         blocks = counted (λ (x : Item). cond (is_block x) 1 0) before (item.Block block) old.blocks new.blocks behind.blocks has.blocks;
         sends = counted send_count before (item.Block block) old.sends new.sends behind.sends has.sends;
         shows = counted (λ (x : Item). cond (is_show x) 1 0) before (item.Block block) old.shows new.shows behind.shows (has.shows ∙ omega arith);
+        calls = has.calls ∙ behind.calls;
       }

@@ -1,4 +1,5 @@
 pub mod Agreeing
+pub mod Numbers
 pub mod OwnEntries
 pub mod MoreItems
 pub mod Commands

@@ -32,6 +32,7 @@ pub record IsBehind (session : Session) (before : List Item) (running : Running)
   pub blocks : running.blocks ≡ count_by is_block before
   pub sends : running.sends ≡ sum_by send_count before
   pub shows : running.shows ≡ count_by is_show before
+  pub calls : length running.calls.items ≡ length session.authors
 
 -- a replica took an edit
 pub record HasLoaded (number : ℕ) (edit : Edit) (before after : Running) : Type 0 where
@@ -43,6 +44,7 @@ pub record HasLoaded (number : ℕ) (edit : Edit) (before after : Running) : Typ
   pub blocks : after.blocks ≡ before.blocks
   pub sends : after.sends ≡ before.sends
   pub shows : after.shows ≡ before.shows
+  pub calls : after.calls ≡ before.calls
 
 -- a block at one replica, with these canonical lists to send from
 abbrev pub stage_of : Session → Block → ℕ → List (List Edit) → ℕ → Stage
@@ -69,6 +71,7 @@ pub record HasRunBlock (session : Session) (block : Block) (before after : Runni
   pub blocks : after.blocks ≡ before.blocks + 1
   pub sends : after.sends ≡ before.sends + count_by is_send block.lines
   pub shows : after.shows ≡ before.shows
+  pub calls : length after.calls.items ≡ length before.calls.items
 
 -- the sections of replicas with their names, in order
 abbrev pub AreShown : List (Ident × Content) → List ℕ → Type 0
@@ -85,3 +88,4 @@ pub record HasShown (session : Session) (before after : Running) : Type 0 where
   pub blocks : after.blocks ≡ before.blocks
   pub sends : after.sends ≡ before.sends
   pub shows : after.shows ≡ before.shows + 1
+  pub calls : after.calls ≡ before.calls

@@ -2,6 +2,7 @@
 //! and the report or the summary is the one of the session and these journals.
 #![tactic(auto)]
 
+mod counting;
 mod laws;
 mod no_memory;
 mod ran;

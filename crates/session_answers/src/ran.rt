@@ -6,11 +6,14 @@ ghost use Rattle.session_answers.specs.Running.{IsBehind};
 
 use crate::no_memory::NoMemory;
 use crate::running::Running;
+use grove_io::Gate;
 use replica_core::Replica;
 use seeded_hash::HashSeed;
 use session_report::JournalList;
 use session_script::Session;
 use std::alloc::Global;
+use std::sync::Wait;
+use std::thread::Threads;
 
 /// What a session that was run leaves: its report or its summary, and the journals of its blocks.
 #[derive(Drop)]
@@ -20,28 +23,36 @@ pub struct Ran {
 }
 
 /// Runs a session: its items one after the other, on replicas that are empty as it begins. What they look up they find by hashes
-/// under a seed, and what the session leaves is the same whatever the seed is.
-pub fn run_session(alloc: Global, seed: HashSeed, session: &Session) -> Result<Ran, NoMemory>
+/// under a seed, and what the session leaves is the same whatever the seed is. The gate says when the calls of authors may start.
+pub fn run_session<R: Threads + Wait + Sync, G: Gate>(
+    rt: &R,
+    alloc: Global,
+    seed: HashSeed,
+    session: &Session,
+    gate: &G,
+) -> Result<Ran, NoMemory>
     requires { IsSession session.now }
     ensures legal { IfOk result (λ ran. AreLegal session.now ran.journals) }
     ensures report { IfOk result (λ ran. IsReport session.now ran.journals ran.text.items) }
 {
-    let Running { journals, text, .. } = run_items(alloc, seed, session)?;
+    let Running { journals, text, .. } = run_items(rt, alloc, seed, session, gate)?;
     Ok(Ran { text, journals })
 }
 
 /// Runs the items of a session, one after the other.
-pub(crate) fn run_items(
+pub(crate) fn run_items<R: Threads + Wait + Sync, G: Gate>(
+    rt: &R,
     alloc: Global,
     seed: HashSeed,
     session: &Session,
+    gate: &G,
 ) -> Result<Running, NoMemory>
     requires { IsSession session.now }
     ensures { IfOk result (IsBehind session.now session.now.items) }
 {
     let mut running = Running::new(alloc, seed, session)?;
     for (index, item) in session.items.as_slice().iter().enumerate() {
-        running = running.run_item(alloc, session, index, item)?;
+        running = running.run_item(rt, alloc, session, index, item, gate)?;
     }
     Ok(running)
 }

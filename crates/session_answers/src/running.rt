@@ -4,16 +4,20 @@ ghost use Rattle.session_script.specs.Session.{IsSession, is_send};
 ghost use Rattle.session_run.specs.Run.{CanRun};
 ghost use Rattle.session_answers.specs.Running.{IsBehind, HasLoaded, HasRunBlock, HasShown};
 
+use crate::counting::{can_number, count_lines, first_numbers};
 use crate::no_memory::NoMemory;
 use crate::replicas::{append_journals, apply, begin_block_on_each, empty_replicas, sources_of};
 use crate::showing::append_sections;
 use grove_edits::Edit;
+use grove_io::Gate;
 use replica_core::Replica;
 use seeded_hash::HashSeed;
 use session_report::{JournalList, append_block, append_show_heading};
 use session_run::run_block;
 use session_script::{Block, Item, Line, Session};
 use std::alloc::Global;
+use std::sync::Wait;
+use std::thread::Threads;
 
 /// A session some of whose items are over: what its replicas have taken, and what the items left.
 #[derive(Drop)]
@@ -28,6 +32,8 @@ pub(crate) struct Running {
     pub(crate) sends: u32,
     /// How many shows there were.
     pub(crate) shows: u64,
+    /// The number of each declared author's next line.
+    pub(crate) calls: Vec<u64>,
 }
 
 impl Running {
@@ -42,16 +48,19 @@ impl Running {
             blocks: 0,
             sends: 0,
             shows: 0,
+            calls: first_numbers(alloc, &session.authors)?,
         })
     }
 
     /// Runs the item at an index, once those before it are over.
-    pub(crate) fn run_item(
+    pub(crate) fn run_item<R: Threads + Wait + Sync, G: Gate>(
         self,
+        rt: &R,
         alloc: Global,
         session: &Session,
         index: usize,
         item: &Item,
+        gate: &G,
     ) -> Result<Running, NoMemory>
         requires session { IsSession session.now }
         requires item { slice_get session.now.items index ≡ Some item.now }
@@ -60,7 +69,7 @@ impl Running {
     {
         match item {
             Item::Load { replica, edit } => self.load(alloc, *replica, edit),
-            Item::Block(block) => self.run_block(alloc, session, block),
+            Item::Block(block) => self.run_block(rt, alloc, session, block, gate),
             Item::Show => self.show(alloc, session),
         }
     }
@@ -73,10 +82,18 @@ impl Running {
         Ok(self)
     }
 
-    fn run_block(self, alloc: Global, session: &Session, block: &Block) -> Result<Running, NoMemory>
+    fn run_block<R: Threads + Wait + Sync, G: Gate>(
+        self,
+        rt: &R,
+        alloc: Global,
+        session: &Session,
+        block: &Block,
+        gate: &G,
+    ) -> Result<Running, NoMemory>
         requires session { IsSession session.now }
         requires lines { AllByRecursion (CanRun session.now.authors (length session.now.replicas)) block.now.lines }
         requires replicas { length self.replicas.items ≡ length session.now.replicas }
+        requires calls { length self.calls.items ≡ length session.now.authors }
         requires few_blocks { self.blocks < 64 }
         requires few_sends { self.sends + 1 + count_by is_send block.now.lines < 2 ^ 32 }
         ensures { IfOk result (HasRunBlock session.now block.now self) }
@@ -88,18 +105,27 @@ impl Running {
             blocks,
             sends,
             shows,
+            mut calls,
         } = self;
+        // So many lines have no place in memory.
+        if !can_number(&calls, block.lines.len()) {
+            return Err(NoMemory);
+        }
         let replicas = begin_block_on_each(alloc, replicas)?;
         let sources = sources_of(alloc, &replicas)?;
         let number = blocks + 1;
         let (replicas, made) = run_block(
+            rt,
             alloc,
             replicas,
             &sources,
             &session.authors,
             block,
             sends + 1,
+            &calls,
+            gate,
         )?;
+        count_lines(&mut calls, session.authors.as_slice(), block.lines.as_slice());
         append_block(number, session.replicas.as_slice(), &made, &mut text)?;
         append_journals(number, made, &mut journals)?;
         Ok(Running {
@@ -109,6 +135,7 @@ impl Running {
             blocks: number,
             sends: sends + sends_in(block),
             shows,
+            calls,
         })
     }
 

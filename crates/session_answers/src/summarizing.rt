@@ -11,19 +11,28 @@ use crate::ran::{Ran, run_items};
 use crate::running::Running;
 use grove_answers::grove_counts;
 use grove_edits::{Edit, EditKind};
+use grove_io::Gate;
 use replica_core::Replica;
 use seeded_hash::HashSeed;
 use session_report::{Summary, summary_text};
 use session_script::{Item, Session};
 use std::alloc::Global;
+use std::sync::Wait;
+use std::thread::Threads;
 
 /// Runs a session as `run_session` does, and writes its summary in place of its report.
-pub fn summarize_session(alloc: Global, seed: HashSeed, session: &Session) -> Result<Ran, NoMemory>
+pub fn summarize_session<R: Threads + Wait + Sync, G: Gate>(
+    rt: &R,
+    alloc: Global,
+    seed: HashSeed,
+    session: &Session,
+    gate: &G,
+) -> Result<Ran, NoMemory>
     requires { IsSession session.now }
     ensures legal { IfOk result (λ ran. AreLegal session.now ran.journals) }
     ensures summary { IfOk result (λ ran. IsSummary session.now ran.journals ran.text.items) }
 {
-    let running = run_items(alloc, seed, session)?;
+    let running = run_items(rt, alloc, seed, session, gate)?;
     let summary = summary_of(alloc, seed, session.items.as_slice(), &running.replicas)?;
     let text = summary_text(alloc, &summary)?;
     let Running { journals, .. } = running;

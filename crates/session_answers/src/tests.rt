@@ -1,4 +1,5 @@
 use super::*;
+use grove_io::OpenGate;
 use seeded_hash::HashSeed;
 use session_script::read_session;
 use std::test::Fail;
@@ -21,7 +22,7 @@ fn a_session_is_run(rt: HostRuntime) -> Result<(), Fail> {
     let Ok(session) = read_session(rt.alloc(), AMBIGUOUS) else {
         return Err(Fail::from("a session"));
     };
-    let ran = run_session(rt.alloc(), HashSeed::FIXED, &session)?;
+    let ran = run_session(&rt, rt.alloc(), HashSeed::FIXED, &session, &OpenGate)?;
     assert_eq!(rt; ran.journals.len(), 1);
     assert_eq!(rt;
         ran.text.as_slice(),

@@ -6,4 +6,4 @@ use Rattle.session_answers.proofs.running.Running.new.Goals as goal
 
 pub returns : goal.returns
 returns c =
-    begin_behind c.args.session.now _ (c.in_ok-empty_replicas.ensures ∙ ap (λ n. replicate n no_edits) c.len.ensures) c.new.ensures.empty c.new-2.ensures.items refl refl refl
+    begin_behind c.args.session.now _ (c.in_ok-empty_replicas.ensures ∙ ap (λ n. replicate n no_edits) c.len.ensures) c.new.ensures.empty c.new-2.ensures.items refl refl refl c.in_ok-first_numbers.ensures

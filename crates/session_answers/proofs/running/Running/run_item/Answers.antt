@@ -6,38 +6,38 @@ use Rattle.session_answers.proofs.Items.{if_ok, load_within, block_within, show_
 use Rattle.session_answers.proofs.running.Running.run_item.Goals as goal
 
 pub load-requires : goal.load-requires
-load-requires c =
+load-requires g c =
     load_within c.args.session.now c.args.index c.args.self c.requires.session c.requires.behind c.in-Load.replica c.in-Load.edit (c.requires.item ∙ ap (λ (x : Item). Some x) c.in-Load.is)
 
 pub run_block-requires-clause-lines : goal.run_block-requires-clause-lines
-run_block-requires-clause-lines c =
+run_block-requires-clause-lines g c κs within =
     lines_can_run c.args.session.now c.args.index c.args.self c.requires.session c.requires.behind c.in-Block.block (c.requires.item ∙ ap (λ (x : Item). Some x) c.in-Block.is)
 
 pub run_block-requires-clause-few_blocks : goal.run_block-requires-clause-few_blocks
-run_block-requires-clause-few_blocks c =
+run_block-requires-clause-few_blocks g c κs within =
     block_within c.args.session.now c.args.index c.args.self c.requires.session c.requires.behind c.in-Block.block (c.requires.item ∙ ap (λ (x : Item). Some x) c.in-Block.is)
 
 pub run_block-requires-clause-few_sends : goal.run_block-requires-clause-few_sends
-run_block-requires-clause-few_sends c =
+run_block-requires-clause-few_sends g c κs within =
     few_sends c.args.session.now c.args.index c.args.self c.requires.session c.requires.behind c.in-Block.block (c.requires.item ∙ ap (λ (x : Item). Some x) c.in-Block.is)
 
 pub show-requires : goal.show-requires
-show-requires c = show_within c.args.session.now c.args.index c.args.self c.requires.session c.requires.behind (c.requires.item ∙ ap (λ (x : Item). Some x) c.in-Show.is)
+show-requires g c = show_within c.args.session.now c.args.index c.args.self c.requires.session c.requires.behind (c.requires.item ∙ ap (λ (x : Item). Some x) c.in-Show.is)
 
 pub returns-in-Load : goal.returns-in-Load
-returns-in-Load c =
+returns-in-Load g c =
     if_ok (HasLoaded c.in-Load.replica c.in-Load.edit c.args.self) (IsBehind c.args.session.now (take (c.args.index + 1) c.args.session.now.items)) c.load.result
     (λ new has. after_load c.args.session.now c.args.index c.args.self c.requires.session c.requires.behind c.in-Load.replica c.in-Load.edit new (c.requires.item ∙ ap (λ (x : Item). Some x) c.in-Load.is) has)
     c.load.ensures
 
 pub returns-in-Block : goal.returns-in-Block
-returns-in-Block c =
+returns-in-Block g c =
     if_ok (HasRunBlock c.args.session.now c.in-Block.block c.args.self) (IsBehind c.args.session.now (take (c.args.index + 1) c.args.session.now.items)) c.run_block.result
     (λ new has. after_block c.args.session.now c.args.index c.args.self c.requires.session c.requires.behind c.in-Block.block new (c.requires.item ∙ ap (λ (x : Item). Some x) c.in-Block.is) has)
     c.run_block.ensures
 
 pub returns-in-Show : goal.returns-in-Show
-returns-in-Show c =
+returns-in-Show g c =
     if_ok (HasShown c.args.session.now c.args.self) (IsBehind c.args.session.now (take (c.args.index + 1) c.args.session.now.items)) c.show.result
     (λ new has. after_show c.args.session.now c.args.index c.args.self c.requires.session c.requires.behind new (c.requires.item ∙ ap (λ (x : Item). Some x) c.in-Show.is) has)
     c.show.ensures
