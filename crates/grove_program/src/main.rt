@@ -1,7 +1,7 @@
 //! The program `grove`: the words of the command line, standard input and standard output around the top call.
 #![tactic(auto)]
 
-use grove_io::{ReaderSource, WriterSink};
+use grove_io::{OpenGate, ReaderSource, WriterSink};
 use grove_top::{exit_status, run};
 use seeded_hash::HashSeed;
 use std::alloc::Global;
@@ -15,7 +15,15 @@ fn main(rt: HostRuntime) -> ExitCode {
     let seed = HashSeed::random(&rt).unwrap_or(HashSeed::FIXED);
     let mut source = ReaderSource::new(rt.stdin());
     let mut sink = WriterSink::new(rt.stdout());
-    let outcome = run(rt.alloc(), seed, &words, &mut source, &mut sink);
+    let outcome = run(
+        &rt,
+        rt.alloc(),
+        seed,
+        &words,
+        &mut source,
+        &mut sink,
+        &OpenGate,
+    );
     ExitCode::from(exit_status(outcome.status))
 }
 

@@ -1,8 +1,10 @@
 use super::*;
-use grove_io::{MemorySink, MemorySource};
+use grove_io::{MemorySink, MemorySource, OpenGate};
 use seeded_hash::HashSeed;
 use std::alloc::Global;
+use std::sync::Wait;
 use std::test::Fail;
+use std::thread::Threads;
 use text_parts::write_number;
 
 const DELETED_WINS: &[u8] = b"-1.2 0.0 root main 1.1 num:7
@@ -12,7 +14,8 @@ const DELETED_WINS: &[u8] = b"-1.2 0.0 root main 1.1 num:7
 ";
 
 // Merges a text that comes a byte a read into a sink that takes four bytes a call; one read and one write may fail.
-fn merged(
+fn merged<R: Threads + Wait + Sync>(
+    rt: &R,
     alloc: Global,
     text: &[u8],
     failing_read: u64,
@@ -22,7 +25,7 @@ fn merged(
     words.push(String::from_str(alloc, "merge")?)?;
     let mut source = MemorySource::new(text.to_vec(alloc)?, 1, [failing_read].to_vec(alloc)?);
     let mut sink = MemorySink::new(alloc, 4096, 4, [failing_write].to_vec(alloc)?)?;
-    let outcome = run(alloc, HashSeed::FIXED, &words, &mut source, &mut sink);
+    let outcome = run(rt, alloc, HashSeed::FIXED, &words, &mut source, &mut sink, &OpenGate);
     Ok((outcome.status, sink.taken().to_vec(alloc)?))
 }
 
@@ -36,11 +39,11 @@ fn a_deletion_wins_in_each_order(rt: HostRuntime) -> Result<(), Fail> {
             text.extend_from_slice(start)?;
             text.extend_from_slice(line.get(1..).ok_or("a line")?)?;
         }
-        let (status, written) = merged(rt.alloc(), &text, 0, 0)?;
+        let (status, written) = merged(&rt, rt.alloc(), &text, 0, 0)?;
         assert_eq!(rt; status, Status::Done);
         assert_eq!(rt; written.as_slice(), line);
     }
-    let (status, written) = merged(rt.alloc(), b"", 0, 0)?;
+    let (status, written) = merged(&rt, rt.alloc(), b"", 0, 0)?;
     assert_eq!(rt; status, Status::Done);
     assert_eq!(rt; written.len(), 0);
     Ok(())
@@ -49,7 +52,7 @@ fn a_deletion_wins_in_each_order(rt: HostRuntime) -> Result<(), Fail> {
 #[test]
 fn each_failing_read_is_told(rt: HostRuntime) -> Result<(), Fail> {
     for call in 1..119u64 {
-        let (status, written) = merged(rt.alloc(), DELETED_WINS, call, 0)?;
+        let (status, written) = merged(&rt, rt.alloc(), DELETED_WINS, call, 0)?;
         let want = if call < 118 {
             Status::ReadFault
         } else {
@@ -65,7 +68,7 @@ fn each_failing_read_is_told(rt: HostRuntime) -> Result<(), Fail> {
 #[test]
 fn each_failing_write_leaves_a_front(rt: HostRuntime) -> Result<(), Fail> {
     for call in 1..10u64 {
-        let (status, written) = merged(rt.alloc(), DELETED_WINS, 0, call)?;
+        let (status, written) = merged(&rt, rt.alloc(), DELETED_WINS, 0, call)?;
         let want = if call < 9 {
             Status::WriteFault
         } else {
@@ -96,7 +99,7 @@ fn the_length_is_judged_before_the_text(rt: HostRuntime) -> Result<(), Fail> {
         let text = vec![in alloc; b'\n'; MOST_BYTES + more]?;
         let mut source = MemorySource::new(text, 65536, Vec::new(alloc));
         let mut sink = MemorySink::new(alloc, 64, 64, Vec::new(alloc))?;
-        let outcome = run(alloc, HashSeed::FIXED, &words, &mut source, &mut sink);
+        let outcome = run(&rt, alloc, HashSeed::FIXED, &words, &mut source, &mut sink, &OpenGate);
         if more == 0 {
             assert_eq!(rt;
                 outcome.status,
@@ -120,7 +123,15 @@ fn other_words_are_told_the_usage(rt: HostRuntime) -> Result<(), Fail> {
     let alloc = rt.alloc();
     let mut source = MemorySource::new(Vec::new(alloc), 1, Vec::new(alloc));
     let mut sink = MemorySink::new(alloc, 64, 64, Vec::new(alloc))?;
-    let outcome = run(alloc, HashSeed::FIXED, &[], &mut source, &mut sink);
+    let outcome = run(
+        &rt,
+        alloc,
+        HashSeed::FIXED,
+        &[],
+        &mut source,
+        &mut sink,
+        &OpenGate,
+    );
     assert_eq!(rt; outcome.status, Status::Usage);
     assert_eq!(rt; exit_status(outcome.status), 2);
     assert_eq!(rt;
@@ -131,12 +142,17 @@ fn other_words_are_told_the_usage(rt: HostRuntime) -> Result<(), Fail> {
 }
 
 // What a command writes for a text, into a sink that takes all at once.
-fn written(alloc: Global, word: &str, text: &[u8]) -> Result<Vec<u8>, Fail> {
+fn written<R: Threads + Wait + Sync>(
+    rt: &R,
+    alloc: Global,
+    word: &str,
+    text: &[u8],
+) -> Result<Vec<u8>, Fail> {
     let mut words = Vec::new(alloc);
     words.push(String::from_str(alloc, word)?)?;
     let mut source = MemorySource::new(text.to_vec(alloc)?, 65536, Vec::new(alloc));
     let mut sink = MemorySink::new(alloc, 4_194_304, 65536, Vec::new(alloc))?;
-    let outcome = run(alloc, HashSeed::FIXED, &words, &mut source, &mut sink);
+    let outcome = run(rt, alloc, HashSeed::FIXED, &words, &mut source, &mut sink, &OpenGate);
     match outcome.status {
         Status::Done => Ok(sink.taken().to_vec(alloc)?),
         _ => Err("the command is not done")?,
@@ -153,11 +169,11 @@ const BOUND: &[u8] = b"grove 2
 #[test]
 fn merge_writes_the_version_of_its_input(rt: HostRuntime) -> Result<(), Fail> {
     let alloc = rt.alloc();
-    let text = written(alloc, "merge", BOUND)?;
+    let text = written(&rt, alloc, "merge", BOUND)?;
     assert_eq!(rt; text.as_slice(), BOUND);
-    let text = written(alloc, "merge", b"grove 2\n")?;
+    let text = written(&rt, alloc, "merge", b"grove 2\n")?;
     assert_eq!(rt; text.as_slice(), b"grove 2\n".as_slice());
-    let shown = written(alloc, "show", BOUND)?;
+    let shown = written(&rt, alloc, "show", BOUND)?;
     assert_eq!(rt;
         shown.as_slice(),
         b"none 1
@@ -188,7 +204,7 @@ fn lines_are_counted_with_that_of_the_version(rt: HostRuntime) -> Result<(), Fai
         ),
         (b"+1.2 0.0 root def 1.1 true\n".as_slice(), 1, Fault::Syntax),
     ] {
-        let (status, _) = merged(rt.alloc(), text, 0, 0)?;
+        let (status, _) = merged(&rt, rt.alloc(), text, 0, 0)?;
         assert_eq!(rt; status, Status::Malformed { line, fault });
     }
     Ok(())
@@ -204,7 +220,7 @@ const APPLIED: &[u8] = b"+1.2 0.0 root main 1.1 ap
 
 #[test]
 fn a_grove_is_shown(rt: HostRuntime) -> Result<(), Fail> {
-    let shown = written(rt.alloc(), "show", APPLIED)?;
+    let shown = written(&rt, rt.alloc(), "show", APPLIED)?;
     assert_eq!(rt;
         shown.as_slice(),
         b"none 2
@@ -229,7 +245,7 @@ cycle 0
 
 #[test]
 fn a_grove_is_checked(rt: HostRuntime) -> Result<(), Fail> {
-    let checked = written(rt.alloc(), "check", APPLIED)?;
+    let checked = written(&rt, rt.alloc(), "check", APPLIED)?;
     assert_eq!(rt;
         checked.as_slice(),
         b"2 arg 1.8 1.7 true ana:num bool inconsistent
@@ -263,7 +279,7 @@ fn each_fault_of_a_line_is_told(rt: HostRuntime) -> Result<(), Fail> {
     for (line, want) in FAULTS {
         let mut text = Vec::from_slice(rt.alloc(), b"+2.1 0.0 root main 1.1 num:7\n")?;
         text.extend_from_slice(line)?;
-        let (status, told) = merged(rt.alloc(), &text, 0, 0)?;
+        let (status, told) = merged(&rt, rt.alloc(), &text, 0, 0)?;
         assert_eq!(rt; told.as_slice(), want);
         assert_eq!(rt; exit_status(status), 3);
     }
@@ -288,7 +304,7 @@ fn chain(alloc: Global, count: u64) -> Result<Vec<u8>, Fail> {
 #[test]
 fn a_deep_chain_is_shown(rt: HostRuntime) -> Result<(), Fail> {
     let text = chain(rt.alloc(), 50_000)?;
-    let shown = written(rt.alloc(), "show", &text)?;
+    let shown = written(&rt, rt.alloc(), "show", &text)?;
     assert!(rt; shown.ends_with(b"\n50001 of - - hole syn ? -\nmulti 0\ncycle 0\n"));
     Ok(())
 }
@@ -342,11 +358,11 @@ cycle 0
 #[test]
 fn a_session_is_reported(rt: HostRuntime) -> Result<(), Fail> {
     let alloc = rt.alloc();
-    let report = written(alloc, "run", SPENT)?;
+    let report = written(&rt, alloc, "run", SPENT)?;
     assert_eq!(rt; report.as_slice(), SPENT_REPORT);
     let mut in_two = Vec::from_slice(alloc, b"session 2\n")?;
     in_two.extend_from_slice(SPENT.get(8..).ok_or("the lines")?)?;
-    let report = written(alloc, "run", &in_two)?;
+    let report = written(&rt, alloc, "run", &in_two)?;
     assert_eq!(rt; report.as_slice(), SPENT_REPORT);
     Ok(())
 }
@@ -388,7 +404,7 @@ fn each_fault_of_a_session_is_told(rt: HostRuntime) -> Result<(), Fail> {
         text.extend_from_slice(line)?;
         let mut source = MemorySource::new(text, 7, Vec::new(alloc));
         let mut sink = MemorySink::new(alloc, 64, 64, Vec::new(alloc))?;
-        let outcome = run(alloc, HashSeed::FIXED, &words, &mut source, &mut sink);
+        let outcome = run(&rt, alloc, HashSeed::FIXED, &words, &mut source, &mut sink, &OpenGate);
         assert_eq!(rt; sink.taken(), want);
         assert_eq!(rt; exit_status(outcome.status), 3);
         assert_eq!(rt; outcome.journals.len(), 0);
@@ -397,7 +413,11 @@ fn each_fault_of_a_session_is_told(rt: HostRuntime) -> Result<(), Fail> {
 }
 
 // What a generated session with the words behind `gen` ends with, what it writes and how many journals it hands out.
-fn generated(alloc: Global, behind: &[&str]) -> Result<(Status, Vec<u8>, usize), Fail> {
+fn generated<R: Threads + Wait + Sync>(
+    rt: &R,
+    alloc: Global,
+    behind: &[&str],
+) -> Result<(Status, Vec<u8>, usize), Fail> {
     let mut words = Vec::new(alloc);
     words.push(String::from_str(alloc, "gen")?)?;
     for word in behind {
@@ -405,7 +425,7 @@ fn generated(alloc: Global, behind: &[&str]) -> Result<(Status, Vec<u8>, usize),
     }
     let mut source = MemorySource::new(Vec::new(alloc), 1, [1].to_vec(alloc)?);
     let mut sink = MemorySink::new(alloc, 4096, 64, Vec::new(alloc))?;
-    let outcome = run(alloc, HashSeed::FIXED, &words, &mut source, &mut sink);
+    let outcome = run(rt, alloc, HashSeed::FIXED, &words, &mut source, &mut sink, &OpenGate);
     let written = sink.taken().to_vec(alloc)?;
     Ok((outcome.status, written, outcome.journals.len()))
 }
@@ -435,7 +455,7 @@ equal yes
 #[test]
 fn a_generated_session_is_summarized(rt: HostRuntime) -> Result<(), Fail> {
     for (number, want) in [("10", SUMMARY_OF_TEN), ("1", SUMMARY_OF_ONE)] {
-        let (status, written, journals) = generated(rt.alloc(), &[number])?;
+        let (status, written, journals) = generated(&rt, rt.alloc(), &[number])?;
         assert_eq!(rt; status, Status::Done);
         assert_eq!(rt; written.as_slice(), want);
         assert_eq!(rt; journals, 9);
@@ -446,12 +466,12 @@ fn a_generated_session_is_summarized(rt: HostRuntime) -> Result<(), Fail> {
 #[test]
 fn other_numbers_are_no_words_of_gen(rt: HostRuntime) -> Result<(), Fail> {
     for number in ["200001", "0", "01", "1 ", ""] {
-        let (status, written, journals) = generated(rt.alloc(), &[number])?;
+        let (status, written, journals) = generated(&rt, rt.alloc(), &[number])?;
         assert_eq!(rt; exit_status(status), 2);
         assert!(rt; written.starts_with(b"usage: "));
         assert_eq!(rt; journals, 0);
     }
-    let (status, _, _) = generated(rt.alloc(), &[])?;
+    let (status, _, _) = generated(&rt, rt.alloc(), &[])?;
     assert_eq!(rt; exit_status(status), 2);
     Ok(())
 }
