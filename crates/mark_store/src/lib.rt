@@ -1,0 +1,17 @@
+//! What is kept of vertices: a map by vertex, in which room for a vertex stays once it is made, so that its value can be put, changed
+//! and taken away without memory; and the marks of vertices, kept in such a map. Contracts see a map as what it answers for each
+//! vertex, and which vertices have room. What keeps marks from edit to edit stands on this crate.
+#![tactic(auto)]
+
+mod mark_store;
+mod no_memory;
+mod record;
+mod vertex_map;
+
+pub use mark_store::MarkStore;
+pub use no_memory::NoMemory;
+pub use record::Record;
+pub use vertex_map::VertexMap;
+
+#[cfg(test)]
+mod tests;

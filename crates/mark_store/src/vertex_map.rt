@@ -1,0 +1,102 @@
+ghost use Rattle.std.specs.Prelude.{◌≡◌, None, Some, if◌then◌else◌, OnOk};
+ghost use Rattle.std.specs.List.{All};
+ghost use Rattle.std.specs.Option.{option_map};
+ghost use Rattle.grove_edits.specs.declared.vertex.Vertex.{Vertex};
+ghost use Rattle.grove_edits.specs.Vertex.{is_same_vertex};
+ghost use Rattle.mark_store.specs.Places.{place_at, value_at, HasRoom, KeepsRoom};
+
+use crate::no_memory::NoMemory;
+use grove_edits::Vertex;
+use indexmap::IndexMap;
+use seeded_hash::HashSeed;
+use std::alloc::Global;
+use std::marker::Model;
+
+/// A map by vertex in which a value is put without memory wherever the vertex has room.
+#[derive(Drop)]
+pub struct VertexMap<V: Copy> {
+    places: IndexMap<Vertex, Option<V>, HashSeed>,
+}
+
+impl<V: Copy> Model for VertexMap<V> {
+    ghost use Rattle.mark_store.specs.Places.{Places};
+
+    ghost Value = { Places V };
+
+    ghost view = { λ map. map.places.entries };
+}
+
+impl<V: Copy> VertexMap<V> {
+    /// A map of no values, for vertices that are trusted.
+    pub fn new(alloc: Global) -> VertexMap<V>
+        ensures empty { (v : Vertex) → place_at result v ≡ None }
+    {
+        VertexMap::with_seed(alloc, HashSeed::FIXED)
+    }
+
+    /// A map of no values, which finds vertices by their hash under a seed.
+    pub fn with_seed(alloc: Global, seed: HashSeed) -> VertexMap<V>
+        ensures empty { (v : Vertex) → place_at result v ≡ None }
+    {
+        VertexMap {
+            places: IndexMap::with_hasher(alloc, seed),
+        }
+    }
+
+    /// The value of a vertex, if it has one.
+    pub fn get(&self, vertex: &Vertex) -> Option<V>
+        ensures { result ≡ value_at self.now vertex.now }
+    {
+        self.places.get(vertex).copied().unwrap_or(None)
+    }
+
+    /// Makes room for each of these vertices. Room once made stays.
+    pub fn reserve_for(&mut self, vertices: &[Vertex]) -> Result<(), NoMemory>
+        ensures room { OnOk result (All (HasRoom self.new) vertices.now) }
+        ensures unchanged { (v : Vertex) → value_at self.new v ≡ value_at self.old v }
+        ensures room_stays { KeepsRoom self.old self.new }
+    {
+        for vertex in vertices {
+            self.make_room(vertex)?;
+        }
+        Ok(())
+    }
+
+    /// Puts the value of a vertex, for which there is room.
+    pub fn set(&mut self, vertex: &Vertex, value: V)
+        requires { HasRoom self.old vertex.now }
+        ensures put { (v : Vertex) → value_at self.new v ≡ (if is_same_vertex vertex.now v then Some value else value_at self.old v) }
+        ensures room_stays { KeepsRoom self.old self.new }
+    {
+        self.write(vertex, Some(value))
+    }
+
+    /// Takes away the value of a vertex, if it has one, and leaves the room for it.
+    pub fn clear(&mut self, vertex: &Vertex)
+        ensures cleared { (v : Vertex) → value_at self.new v ≡ (if is_same_vertex vertex.now v then None else value_at self.old v) }
+        ensures room_stays { KeepsRoom self.old self.new }
+    {
+        self.write(vertex, None)
+    }
+
+    fn make_room(&mut self, vertex: &Vertex) -> Result<(), NoMemory>
+        ensures room { OnOk result (HasRoom self.new vertex.now) }
+        ensures unchanged { (v : Vertex) → value_at self.new v ≡ value_at self.old v }
+        ensures room_stays { KeepsRoom self.old self.new }
+    {
+        if !self.places.contains_key(vertex) {
+            self.places.insert(*vertex, None)?;
+        }
+        Ok(())
+    }
+
+    // Writes what stands at the place of a vertex, if it has one.
+    fn write(&mut self, vertex: &Vertex, value: Option<V>)
+        ensures { (v : Vertex) → place_at self.new v ≡ (if is_same_vertex vertex.now v then option_map (λ _. value) (place_at self.old v) else place_at self.old v) }
+    {
+        let Some(place) = self.places.get_mut(vertex) else {
+            return;
+        };
+        *place = value;
+    }
+}
