@@ -1,0 +1,52 @@
+-- A walk up goes vertex by vertex.
+use Rattle.std.proofs.Common.{◌≡◌, Bool, true, false, List, [], ◌∷◌, ◌++◌, Option, Some, None, refl, sym, ap, subst, ◌∙◌, append_assoc, append-nil}
+use Rattle.std.specs.Prelude.{◌||◌}
+use Rattle.grove_edits.specs.declared.vertex.Vertex.{Vertex}
+use Rattle.grove_edits.specs.declared.edge.Edge.{Edge}
+use Rattle.grove_edits.specs.Vertex.{is_same_vertex, stands_in}
+use Rattle.walks.specs.Walk.{above, above_last, GoesOn, IsEnd, IsWalk, walk}
+use Rattle.walks.specs.Class.{is_vertex_of}
+use Rattle.walks.proofs.Endings.{walk_is_one}
+use Rattle.unicycle_roots.specs.Met.{is_on_cycle}
+use Rattle.mark_store.specs.Places.{Places}
+use Rattle.mark_incremental.specs.Looking.{holds}
+use Rattle.mark_incremental.specs.Passing.{IsUpTo}
+
+last_above : (live : List Edge) (front : List Vertex) (at : Vertex) → above_last live (front ++ at ∷ []) ≡ above live at
+last_above live [] at = refl
+last_above live (x ∷ []) at = refl
+last_above live (x ∷ y ∷ front) at = last_above live (y ∷ front) at
+
+module _ (live : List Edge) (start : Vertex) where
+  pub begun : (before passed : Places Bool) → ((v : Vertex) → holds before v ≡ false) → ((v : Vertex) → holds passed v ≡ (is_same_vertex start v || holds before v)) → IsUpTo live start start passed (start ∷ [])
+  begun before passed none_yet entered = record {
+    known = start ∷ [];
+    same = λ v. entered v ∙ ap (λ b. is_same_vertex start v || b) (none_yet v);
+    front = [];
+    last = refl;
+    goes_on = λ later goes. (refl, refl, goes);
+  }
+
+  pub next : (at x : Vertex) (passed grown : Places Bool) (vertices : List Vertex) → IsUpTo live start at passed vertices → above live at ≡ Some x → holds passed x ≡ false
+      → ((v : Vertex) → holds grown v ≡ (is_same_vertex x v || holds passed v)) → IsUpTo live start x grown (vertices ++ x ∷ [])
+  next at x passed grown vertices is up new entered = record {
+    known = x ∷ is.known;
+    same = λ v. entered v ∙ ap (λ b. is_same_vertex x v || b) (is.same v);
+    front = vertices;
+    last = refl;
+    goes_on = λ later goes. subst (IsWalk live start) (sym (append_assoc vertices (x ∷ []) later)) (is.goes_on (x ∷ later) (up, sym (is.same x) ∙ new, goes));
+  }
+
+  whole : (at : Vertex) (passed : Places Bool) (vertices : List Vertex) → IsUpTo live start at passed vertices → ((known : List Vertex) → ((v : Vertex) → holds passed v ≡ stands_in v known) → IsEnd known (above live at)) → vertices ≡ walk live start
+  whole at passed vertices is ends =
+      walk_is_one live start vertices (subst (IsWalk live start) (append-nil vertices) (is.goes_on [] (ends is.known is.same)))
+
+  pub ends_at_none : (at : Vertex) (passed : Places Bool) (vertices : List Vertex) → IsUpTo live start at passed vertices → above live at ≡ None → vertices ≡ walk live start
+  ends_at_none at passed vertices is up = whole at passed vertices is (λ known same. subst (IsEnd known) (sym up) tt)
+
+  pub ends_at_passed : (at x : Vertex) (passed : Places Bool) (vertices : List Vertex) → IsUpTo live start at passed vertices → above live at ≡ Some x → holds passed x ≡ true → vertices ≡ walk live start
+  ends_at_passed at x passed vertices is up there = whole at passed vertices is (λ known same. subst (IsEnd known) (sym up) (sym (same x) ∙ there))
+
+  pub comes_back : (at : Vertex) (passed : Places Bool) (vertices : List Vertex) (o : Option Vertex) → IsUpTo live start at passed vertices → vertices ≡ walk live start → above live at ≡ o → is_on_cycle live start ≡ is_vertex_of start o
+  comes_back at passed vertices o is all up =
+      ap (λ xs. is_vertex_of start (above_last live xs)) (sym all ∙ is.last) ∙ ap (is_vertex_of start) (last_above live is.front at ∙ up)

@@ -1,0 +1,25 @@
+-- An expression is judged again where its record does not say what is demanded of it.
+use Rattle.std.proofs.Common.{◌≡◌, true, false, refl, sym, ◌∙◌}
+use Rattle.std.specs.Prelude.{IsTrue}
+use Rattle.grove_sorts.specs.declared.sort.Sort.{Sort}
+use Rattle.grove_sorts.specs.declared.sort.Sort.TheVariants.{Top, Exp, Pat, Typ as TypeSort}
+use Rattle.grove_sorts.specs.contracts.sort.SortPartialEq.TheImpl as sort_eq
+use Rattle.mark_incremental.specs.Looking.{demanded}
+use Rattle.mark_incremental.proofs.Found.{record_is, other_demand}
+use Rattle.mark_incremental.proofs.looking.Walk.left.Goals as goal
+
+-- the test finds the sort of expressions
+exp_found : (s : Sort) → true ≡ sort_eq.eq-value.it s Exp → s ≡ Exp
+exp_found Exp e = refl
+exp_found Top e = absurd cc
+exp_found Pat e = absurd cc
+exp_found TypeSort e = absurd cc
+
+pub returns-then-not-is_demanded-clause-found : goal.returns-then-not-is_demanded-clause-found
+returns-then-not-is_demanded-clause-found c = (
+  c.requires.inner,
+  demanded c.in_ok-record.record (sym c.in_ok-record.ensures) (sym c.sort_of.ensures ∙ exp_found c.sort_of.result c.if-eq.ensures)
+      (other_demand c.args.types.now c.args._ctxs.now c.numbers_are_distinct.ensures c.numbers_are_distinct-2.ensures c.in_ok-record.record c.args.demand.now
+      (record_is c.args.types.now c.args._ctxs.now c.args.self.now.records.now c.args.edge.now.target c.in_ok-record.record c.requires.records (sym c.in_ok-record.ensures)) c.requires.demand
+      (λ same. let is : IsTrue c.is_demanded.result = c.is_demanded.ensures.1 same in let is_not : c.is_demanded.result ≡ false = c.if-not-is_demanded.true in absurd cc)),
+)

@@ -1,0 +1,58 @@
+-- The marks stand for the new graph.
+use Rattle.std.proofs.Common.{◌≡◌, Bool, ap, ◌∙◌}
+use Rattle.graph_store.specs.Store.{state_in}
+use Rattle.edge_index.specs.Lists.{live}
+use Rattle.mark_store.specs.Places.{Places}
+use Rattle.mark_incremental.specs.Looking.{holds}
+use Rattle.mark_incremental.proofs.Edited.{new_live, new_well_formed, walked, walk_on, cycles_kept, rooted_still, rooted_after, rooted_before, stands_after}
+use Rattle.mark_incremental.proofs.Outcomes.{on_ok_three}
+use Rattle.mark_incremental.proofs.marks.Marks.renew.Goals as goal
+
+pub renew_with_root-requires-clause-rooted : goal.renew_with_root-requires-clause-rooted
+renew_with_root-requires-clause-rooted g c =
+    rooted_after c.args.edge.now (state_in c.args.store.now) c.args.self.now c.args.before.now c.requires.before (live c.args.parents.now) c.requires.indexed.live_edges c.in_ok-after.after c.in_ok-after.ensures
+    c.in-Some.changed.0 c.in-Some.changed.1 c.in-Some.ensures
+
+pub renew_with_root-requires-clause-was : goal.renew_with_root-requires-clause-was
+renew_with_root-requires-clause-was g c =
+    rooted_before c.args.edge.now (state_in c.args.store.now) c.args.self.now c.args.before.now c.requires.before (live c.args.parents.now) c.requires.indexed.live_edges c.in_ok-after.after c.in_ok-after.ensures
+    c.in-Some.changed.0 c.in-Some.changed.1 c.in-Some.ensures
+
+pub renew_with_root-requires-clause-well_formed : goal.renew_with_root-requires-clause-well_formed
+renew_with_root-requires-clause-well_formed g c =
+    new_well_formed c.args.edge.now (state_in c.args.store.now) c.args.self.now c.args.before.now c.requires.before (live c.args.parents.now) c.requires.indexed.live_edges
+
+pub returns-in-Some-clause-stand : goal.returns-in-Some-clause-stand
+returns-in-Some-clause-stand g c =
+    let was = c.requires.before in
+    let new = live c.args.parents.now in
+    let are = c.requires.indexed.live_edges in
+    let now_live = new_live c.args.edge.now (state_in c.args.store.now) c.args.self.now c.args.before.now was new are in
+    on_ok_three c.renew_with_root.result
+    (λ kept rooted numbers. stands_after c.args.edge.now (state_in c.args.store.now) c.args.self.now c.args.before.now was new are c.renew_with_root.new.self kept rooted numbers)
+    (c.renew_with_root.ensures.renewed was.edits was.edit was.live was.made was.are_live now_live was.kept) c.renew_with_root.ensures.rooted c.renew_with_root.ensures.numbers
+
+pub renew_near-requires-clause-rooted : goal.renew_near-requires-clause-rooted
+renew_near-requires-clause-rooted g c =
+    rooted_still c.args.edge.now (state_in c.args.store.now) c.args.self.now c.args.before.now c.requires.before (live c.args.parents.now) c.requires.indexed.live_edges c.in_ok-after.after c.in_ok-after.ensures
+    c.in_default.ensures
+
+pub renew_near-requires-clause-well_formed : goal.renew_near-requires-clause-well_formed
+renew_near-requires-clause-well_formed g c =
+    new_well_formed c.args.edge.now (state_in c.args.store.now) c.args.self.now c.args.before.now c.requires.before (live c.args.parents.now) c.requires.indexed.live_edges
+
+pub returns-clause-stand : goal.returns-clause-stand
+returns-clause-stand g c =
+    let e = c.args.edge.now in
+    let h = state_in c.args.store.now in
+    let marks = c.args.self.now in
+    let ends = c.args.before.now in
+    let was = c.requires.before in
+    let new = live c.args.parents.now in
+    let are = c.requires.indexed.live_edges in
+    let late = c.in_ok-after.after in
+    let walks = c.in_ok-after.ensures in
+    stands_after e h marks ends was new are c.renew_near.new.self
+    (c.in_ok-records.ensures.renewed was.edits was.edit was.live was.are_live (new_live e h marks ends was new are) (cycles_kept e h marks ends was new are late walks c.in_default.ensures) was.kept
+    (walked e h marks ends was new are) (walk_on e h marks ends was new are late walks))
+    (λ v. ap (λ (places : Places Bool). holds places v) c.renew_near.ensures.roots ∙ rooted_still e h marks ends was new are late walks c.in_default.ensures v) c.in_ok-records.ensures.numbers

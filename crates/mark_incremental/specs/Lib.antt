@@ -1,0 +1,9 @@
+pub mod Reading
+pub mod Looking
+pub mod Walking
+pub mod Passing
+pub mod Raising
+pub mod Standing
+pub mod Applying
+pub mod Rooting
+pub mod Ticks

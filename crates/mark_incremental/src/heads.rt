@@ -1,0 +1,72 @@
+ghost use Rattle.std.specs.Prelude.{◌≡◌, ◌+◌, ◌*◌, ◌≤◌, length, not, filter, IfOk};
+ghost use Rattle.std.specs.List.{AllByRecursion};
+ghost use Rattle.walks.specs.declared.class.Class.TheVariants.{Inner};
+ghost use Rattle.walks.specs.Class.{class};
+ghost use Rattle.edge_index.specs.Lists.{live};
+ghost use Rattle.type_core.specs.TypeTable.{KeepsTypes};
+ghost use Rattle.ctx_table.specs.CtxTable.{KeepsContexts};
+ghost use Rattle.kept_records.specs.Local.{is_inner};
+ghost use Rattle.mark_incremental.specs.Reading.{AreRecordsOf};
+ghost use Rattle.mark_incremental.specs.Looking.{on, AreRoots};
+ghost use Rattle.mark_incremental.specs.Walking.{AreMadeOf, HasMadeTrees};
+ghost use Rattle.mark_incremental.specs.Ticks.{weight_of, AreTreesPaidFor};
+
+use crate::looking::{Walk, is_inner};
+use crate::no_memory::NoMemory;
+use ctx_table::CtxTable;
+use grove_edits::Vertex;
+use mark_store::{Record, VertexMap};
+use parent_index::ParentIndex;
+use std::alloc::Global;
+use std::sync::ledger::Ledger;
+use type_core::TypeTable;
+use walks::Steps;
+
+/// Those of some vertices that head trees. It ticks at most three times for each.
+pub(crate) fn heads_among<L: Ledger>(
+    alloc: Global,
+    vertices: &[Vertex],
+    parents: &ParentIndex,
+    roots: &VertexMap<bool>,
+    steps: &mut Steps<L>,
+) -> Result<Vec<Vertex>, NoMemory>
+    requires { AreRoots (live parents.now) roots.now }
+    ensures heads { IfOk result (λ heads. heads.items ≡ filter (λ v. not (is_inner (live parents.now) v)) vertices.now) }
+    ensures ticks { steps.new ≤ steps.old + 3 * length vertices.now }
+{
+    let mut heads = Vec::new(alloc);
+    for vertex in vertices {
+        if !is_inner(vertex, parents, roots, steps) {
+            heads.push(*vertex)?;
+        }
+    }
+    Ok(heads)
+}
+
+impl<'t> Walk<'t> {
+    /// The records that walks down the trees of some vertices make. It ticks at most five times for each of their vertices and for each
+    /// edge under it; where memory runs out, for each that it would have made. The numbers of both tables keep their meaning then too.
+    pub(crate) fn renew_trees<L: Ledger>(
+        &self,
+        alloc: Global,
+        types: &mut TypeTable,
+        ctxs: &mut CtxTable,
+        heads: &'t [Vertex],
+        steps: &mut Steps<L>,
+    ) -> Result<Vec<(Vertex, Record)>, NoMemory>
+        requires records { AreRecordsOf types.old ctxs.old self.now.records.now }
+        requires heads { AllByRecursion (λ v. class (live self.now.parents.now) v ≡ Inner → ⊥) heads.now }
+        ensures trees { IfOk result (λ made. HasMadeTrees (live self.now.parents.now) types.new ctxs.new self.now.records.now (on self.now.whole self.now.passed.now) heads.now made.items) }
+        ensures made { IfOk result (λ made. AreMadeOf types.new ctxs.new made.items) }
+        ensures ticks { IfOk result (λ made. steps.new ≤ steps.old + 5 * weight_of (live self.now.parents.now) made.items) }
+        ensures paid { AreTreesPaidFor (live self.now.parents.now) types.old ctxs.old self.now.records.now (on self.now.whole self.now.passed.now) heads.now steps.old steps.new }
+        ensures types { KeepsTypes types.old types.new }
+        ensures contexts { KeepsContexts ctxs.old ctxs.new }
+    {
+        let mut made = Vec::new(alloc);
+        for head in heads {
+            self.renew_tree(alloc, types, ctxs, head, &mut made, steps)?;
+        }
+        Ok(made)
+    }
+}

@@ -1,0 +1,24 @@
+//! The marks of a live graph, kept from edit to edit.
+#![tactic(auto)]
+
+mod applying;
+mod frame;
+mod given;
+mod heads;
+mod looking;
+mod marks;
+mod no_memory;
+mod passing;
+mod putting;
+mod raising;
+mod renewal;
+mod rooting;
+mod settling;
+mod walks_up;
+
+pub use applying::{Applied, OldRecords};
+pub use marks::Marks;
+pub use no_memory::NoMemory;
+
+#[cfg(test)]
+mod tests;

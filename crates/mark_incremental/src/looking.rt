@@ -1,0 +1,125 @@
+ghost use Rattle.std.specs.Prelude.{◌≡◌, ◌+◌, ◌≤◌, ◌↔◌, IsTrue, true, IfSome};
+ghost use Rattle.std.specs.List.{AllByRecursion};
+ghost use Rattle.std.proofs.Props.{props};
+ghost use Rattle.grove_edits.specs.Edge.{IsWellFormed};
+ghost use Rattle.walks.specs.declared.class.Class.TheVariants.{Inner};
+ghost use Rattle.walks.specs.Class.{class};
+ghost use Rattle.edge_index.specs.Lists.{live};
+ghost use Rattle.mark_step.specs.Node.{IsDemandOf};
+ghost use Rattle.judging.specs.Frames.{IsGivenOf};
+ghost use Rattle.kept_records.specs.Local.{is_inner};
+ghost use Rattle.mark_incremental.specs.Reading.{AreRecordsOf, demand_of};
+ghost use Rattle.mark_incremental.specs.Looking.{on, AreRoots, IsFound};
+
+use crate::given::given_by;
+use crate::walks_up::holds;
+use child_index::ChildIndex;
+use ctx_table::CtxTable;
+use grove_edits::{Edge, Vertex};
+use grove_sorts::{Sort, sort_of};
+use judging::{Given, nothing};
+use mark_step::{Demand, Mode};
+use mark_store::{MarkStore, Record, VertexMap};
+use parent_index::ParentIndex;
+use std::sync::ledger::Ledger;
+use type_core::TypeTable;
+use walks::{Few, ParentOf, Steps};
+
+/// What a walk down reads: the graph, the roots of its cycles, the records that were kept, and the vertices that are judged again
+/// whatever is demanded of them.
+#[derive(Drop)]
+pub(crate) struct Walk<'t> {
+    pub(crate) children: &'t ChildIndex,
+    pub(crate) parents: &'t ParentIndex,
+    pub(crate) roots: &'t VertexMap<bool>,
+    pub(crate) records: &'t MarkStore,
+    /// All vertices are judged again.
+    pub(crate) whole: bool,
+    /// These are, where not all are.
+    pub(crate) passed: &'t VertexMap<bool>,
+    ghost same: { live children.now ≡ live parents.now },
+    ghost rooted: { AreRoots (live parents.now) roots.now },
+    ghost well_formed: { AllByRecursion IsWellFormed (live parents.now) } by { Prim.hlevel props },
+}
+
+// Whether what is demanded of a vertex is what its record says.
+fn is_demanded(kept: &Record, demand: &Demand) -> bool
+    ensures { IsTrue result ↔ (demand_of kept.now ≡ demand.now) }
+{
+    kept.ctx == demand.ctx && kept.mode.unwrap_or(Mode::Syn) == demand.mode
+}
+
+/// Whether a vertex stands in the tree of another one. It ticks at most three times.
+pub(crate) fn is_inner<L: Ledger>(
+    vertex: &Vertex,
+    parents: &ParentIndex,
+    roots: &VertexMap<bool>,
+    steps: &mut Steps<L>,
+) -> bool
+    requires { AreRoots (live parents.now) roots.now }
+    ensures inner { result ≡ is_inner (live parents.now) vertex.now }
+    ensures ticks { steps.new ≤ steps.old + 3 }
+{
+    match parents.few(vertex, steps) {
+        Few::Zero | Few::More(_, _) => false,
+        Few::One(_) => !holds(roots, vertex),
+    }
+}
+
+impl<'t> Walk<'t> {
+    // Whether a vertex is judged again whatever is demanded of it.
+    fn is_judged(&self, vertex: &Vertex) -> bool
+        ensures { result ≡ on self.now.whole self.now.passed.now vertex.now }
+    {
+        self.whole || holds(self.passed, vertex)
+    }
+
+    // What a tree gives, of whose vertex this is demanded, where it is left as it is.
+    fn left(
+        &self,
+        types: &TypeTable,
+        _ctxs: &CtxTable,
+        demand: &Demand,
+        edge: &'t Edge,
+    ) -> Option<Given<'t>>
+        requires records { AreRecordsOf types.now _ctxs.now self.now.records.now }
+        requires demand { IsDemandOf types.now _ctxs.now demand.now }
+        requires inner { class (live self.now.parents.now) edge.now.target ≡ Inner }
+        ensures found { IsFound (live self.now.parents.now) types.now _ctxs.now self.now.records.now (on self.now.whole self.now.passed.now) demand.now edge.now result }
+        ensures number { IfSome result (IsGivenOf types.now) }
+    {
+        let vertex = &edge.target;
+        if self.is_judged(vertex) {
+            return None;
+        }
+        types.numbers_are_distinct();
+        _ctxs.numbers_are_distinct();
+        let record = self.records.get(vertex)?;
+        if sort_of(&vertex.ctor) == Sort::Exp && !is_demanded(&record, demand) {
+            return None;
+        }
+        Some(given_by(types, &vertex.ctor, &record))
+    }
+
+    /// What the child at the end of a live edge gives, of which this is demanded, if it does not have to be judged again. It ticks at
+    /// most three times.
+    pub(crate) fn look<L: Ledger>(
+        &self,
+        types: &TypeTable,
+        ctxs: &CtxTable,
+        demand: &Demand,
+        edge: &'t Edge,
+        steps: &mut Steps<L>,
+    ) -> Option<Given<'t>>
+        requires records { AreRecordsOf types.now ctxs.now self.now.records.now }
+        requires demand { IsDemandOf types.now ctxs.now demand.now }
+        ensures found { IsFound (live self.now.parents.now) types.now ctxs.now self.now.records.now (on self.now.whole self.now.passed.now) demand.now edge.now result }
+        ensures number { IfSome result (IsGivenOf types.now) }
+        ensures ticks { steps.new ≤ steps.old + 3 }
+    {
+        if !is_inner(&edge.target, self.parents, self.roots, steps) {
+            return Some(nothing(types));
+        }
+        self.left(types, ctxs, demand, edge)
+    }
+}

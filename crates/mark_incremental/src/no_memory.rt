@@ -1,0 +1,69 @@
+use std::alloc::{AllocError, AllocFailed};
+use std::error::Error;
+use std::fmt;
+
+/// Memory ran out.
+#[derive(Clone, Copy, Debug, PartialEq, Eq)]
+pub struct NoMemory;
+
+impl fmt::Display for NoMemory {
+    fn fmt<W: fmt::Write>(&self, f: &mut fmt::Formatter<W>) -> fmt::Result {
+        f.write_str("out of memory")
+    }
+}
+
+impl Error for NoMemory {}
+
+impl From<AllocError> for NoMemory {
+    fn from(_error: AllocError) -> NoMemory {
+        NoMemory
+    }
+}
+
+impl<T: Drop> From<AllocFailed<T>> for NoMemory {
+    fn from(_error: AllocFailed<T>) -> NoMemory {
+        NoMemory
+    }
+}
+
+impl From<graph_store::NoMemory> for NoMemory {
+    fn from(_error: graph_store::NoMemory) -> NoMemory {
+        NoMemory
+    }
+}
+
+impl From<parent_index::NoMemory> for NoMemory {
+    fn from(_error: parent_index::NoMemory) -> NoMemory {
+        NoMemory
+    }
+}
+
+impl From<child_index::NoMemory> for NoMemory {
+    fn from(_error: child_index::NoMemory) -> NoMemory {
+        NoMemory
+    }
+}
+
+impl From<type_core::NoMemory> for NoMemory {
+    fn from(_error: type_core::NoMemory) -> NoMemory {
+        NoMemory
+    }
+}
+
+impl From<ctx_table::NoMemory> for NoMemory {
+    fn from(_error: ctx_table::NoMemory) -> NoMemory {
+        NoMemory
+    }
+}
+
+impl From<judging::NoMemory> for NoMemory {
+    fn from(_error: judging::NoMemory) -> NoMemory {
+        NoMemory
+    }
+}
+
+impl From<mark_store::NoMemory> for NoMemory {
+    fn from(_error: mark_store::NoMemory) -> NoMemory {
+        NoMemory
+    }
+}

@@ -1,0 +1,88 @@
+ghost use Rattle.std.specs.Prelude.{◌≡◌, ◌||◌, IfOk, OnOk};
+ghost use Rattle.grove_edits.specs.declared.vertex.Vertex.{Vertex};
+ghost use Rattle.grove_edits.specs.Vertex.{is_same_vertex, stands_in};
+ghost use Rattle.mark_incremental.specs.Looking.{holds};
+ghost use Rattle.mark_incremental.specs.Passing.{AreWalks, HoldsThese};
+
+use crate::no_memory::NoMemory;
+use crate::walks_up::{WalkUp, enter, holds, walk_up};
+use grove_edits::{Edge, Vertex};
+use mark_store::VertexMap;
+use seeded_hash::HashSeed;
+use std::alloc::Global;
+use std::sync::ledger::Ledger;
+use walks::{ParentOf, Steps};
+
+/// The walks up from both ends of an edge.
+#[derive(Drop)]
+pub(crate) struct Ends {
+    pub(crate) source: WalkUp,
+    pub(crate) target: WalkUp,
+}
+
+pub(crate) fn walk_from_ends<P: ParentOf, L: Ledger>(
+    alloc: Global,
+    seed: HashSeed,
+    edge: &Edge,
+    parents: &P,
+    steps: &mut Steps<L>,
+) -> Result<Ends, NoMemory>
+    ensures { IfOk result (AreWalks (P.live parents.now) edge.now) }
+{
+    let source = walk_up(alloc, seed, &edge.source, parents, steps)?;
+    let target = walk_up(alloc, seed, &edge.target, parents, steps)?;
+    Ok(Ends { source, target })
+}
+
+/// Vertices, each once.
+#[derive(Drop)]
+pub(crate) struct Passed {
+    pub(crate) set: VertexMap<bool>,
+    pub(crate) vertices: Vec<Vertex>,
+}
+
+// Adds a vertex, which may be there already.
+fn add(passed: &mut Passed, vertex: &Vertex) -> Result<(), NoMemory>
+    requires { HoldsThese passed.old.set passed.old.vertices.items }
+    ensures added { OnOk result ((v : Vertex) → holds passed.new.set v ≡ (is_same_vertex vertex.now v || holds passed.old.set v)) }
+    ensures these { OnOk result (HoldsThese passed.new.set passed.new.vertices.items) }
+{
+    if holds(&passed.set, vertex) {
+        return Ok(());
+    }
+    passed.vertices.push(*vertex)?;
+    enter(&mut passed.set, vertex)
+}
+
+fn add_all(passed: &mut Passed, vertices: &[Vertex]) -> Result<(), NoMemory>
+    requires { HoldsThese passed.old.set passed.old.vertices.items }
+    ensures added { OnOk result ((v : Vertex) → holds passed.new.set v ≡ (stands_in v vertices.now || holds passed.old.set v)) }
+    ensures these { OnOk result (HoldsThese passed.new.set passed.new.vertices.items) }
+{
+    for vertex in vertices {
+        add(passed, vertex)?;
+    }
+    Ok(())
+}
+
+/// The vertices on the walks up from the ends of an edge in two graphs.
+pub(crate) fn passed_by(
+    alloc: Global,
+    seed: HashSeed,
+    before: &Ends,
+    after: &Ends,
+) -> Result<Passed, NoMemory>
+    ensures passed { IfOk result (λ it. (v : Vertex) → holds it.set v
+        ≡ ((stands_in v before.now.source.vertices.items || stands_in v before.now.target.vertices.items) || (stands_in v after.now.source.vertices.items || stands_in v after.now.target.vertices.items))) }
+    ensures these { IfOk result (λ it. HoldsThese it.set it.vertices.items) }
+{
+    let mut passed = Passed {
+        set: VertexMap::with_seed(alloc, seed),
+        vertices: Vec::new(alloc),
+    };
+    add_all(&mut passed, &before.source.vertices)?;
+    add_all(&mut passed, &before.target.vertices)?;
+    add_all(&mut passed, &after.source.vertices)?;
+    add_all(&mut passed, &after.target.vertices)?;
+    Ok(passed)
+}

@@ -1,0 +1,198 @@
+ghost use Rattle.std.specs.Prelude.{◌≡◌, ℕ, ◌+◌, ◌*◌, ◌≤◌, ◌∷◌, ◌<◌, [], List, Some, None, length, reverse, slice_get, IfOk, OnOk};
+ghost use Rattle.grove_sorts.specs.Ctor.{positions};
+ghost use Rattle.grove_edits.specs.declared.vertex.Vertex.{Vertex};
+ghost use Rattle.grove_edits.specs.declared.edge.Edge.{Edge};
+ghost use Rattle.walks.specs.declared.class.Class.TheVariants.{Inner};
+ghost use Rattle.walks.specs.Class.{class};
+ghost use Rattle.edge_index.specs.Lists.{live};
+ghost use Rattle.type_core.specs.TypeTable.{KeepsTypes};
+ghost use Rattle.ctx_table.specs.Context.{Context};
+ghost use Rattle.ctx_table.specs.CtxTable.{KeepsContexts};
+ghost use Rattle.judging.specs.Frames.{IsGivenOf};
+ghost use Rattle.kept_records.specs.Kept.{Kept};
+ghost use Rattle.mark_store.specs.declared.record.Record.{Record};
+ghost use Rattle.mark_incremental.specs.Reading.{AreRecordsOf};
+ghost use Rattle.mark_incremental.specs.Looking.{on, IsFound};
+ghost use Rattle.mark_incremental.specs.Walking.{AreFramesOf, AreMadeOf, IsFrameOf, IsHanded, IsAccepted, IsUnderWay, HasMadeTree};
+ghost use Rattle.mark_incremental.specs.Ticks.{weight_of, AreCounted, AreMoved, IsPaidFor, IsTreePaidFor};
+
+use crate::frame::{Frame, accept};
+use crate::looking::Walk;
+use crate::no_memory::NoMemory;
+use crate::settling::settle;
+use ctx_table::CtxTable;
+use grove_edits::{Edge, Vertex};
+use grove_sorts::position_count;
+use judging::{Given, demand_next};
+use mark_store::Record;
+use std::alloc::Global;
+use std::sync::ledger::Ledger;
+use type_core::TypeTable;
+use walks::Steps;
+
+// Gives something to the innermost vertex, if there is one: its first child that is left has given it.
+fn hand_on<'t>(
+    types: &TypeTable,
+    stack: &mut Vec<Frame<'t>>,
+    given: Given<'t>,
+) -> Result<(), NoMemory>
+    requires { IsGivenOf types.now given }
+    ensures handed { OnOk result (IsHanded types.now given.entry (reverse stack.old.items) (reverse stack.new.items)) }
+    ensures moved { (live : List Edge) → OnOk result (AreMoved live (reverse stack.old.items) (reverse stack.new.items)) }
+    ensures numbers { (ctxs : List Context) → AreFramesOf types.now ctxs (reverse stack.old.items) → OnOk result (AreFramesOf types.now ctxs (reverse stack.new.items)) }
+{
+    let Some(mut frame) = stack.pop() else {
+        return Ok(());
+    };
+    accept(types, &mut frame, given);
+    stack.push(frame)?;
+    Ok(())
+}
+
+impl<'t> Walk<'t> {
+    // Opens the child at the end of an edge of the innermost vertex.
+    fn descend<L: Ledger>(
+        &self,
+        alloc: Global,
+        types: &mut TypeTable,
+        ctxs: &mut CtxTable,
+        stack: &mut Vec<Frame<'t>>,
+        frame: &Frame<'t>,
+        edge: &'t Edge,
+        steps: &mut Steps<L>,
+    ) -> Result<(), NoMemory>
+        requires records { AreRecordsOf types.old ctxs.old self.now.records.now }
+        requires frames { AreFramesOf types.old ctxs.old (frame.now ∷ reverse stack.old.items) }
+        requires first { slice_get frame.now.left.now 0 ≡ Some edge.now }
+        requires found { IsFound (live self.now.parents.now) types.old ctxs.old self.now.records.now (on self.now.whole self.now.passed.now) frame.now.demand edge.now None }
+        ensures way { (head : Vertex) (before : List (Vertex × Kept)) (made : List (Vertex × Record)) → AreMadeOf types.old ctxs.old made
+            → IsUnderWay (live self.now.parents.now) types.old ctxs.old self.now.records.now (on self.now.whole self.now.passed.now) head before (frame.now ∷ reverse stack.old.items) made
+            → OnOk result (IsUnderWay (live self.now.parents.now) types.new ctxs.new self.now.records.now (on self.now.whole self.now.passed.now) head before (reverse stack.new.items) made) }
+        ensures frames { OnOk result (AreFramesOf types.new ctxs.new (reverse stack.new.items)) }
+        ensures counted { (start paid count : ℕ) (made : List (Vertex × Record)) → steps.old ≤ count + 3 → AreCounted (live self.now.parents.now) start paid count (frame.now ∷ reverse stack.old.items) made
+            → OnOk result (AreCounted (live self.now.parents.now) start paid steps.new (reverse stack.new.items) made) }
+        ensures paid { (head : Vertex) (before : List (Vertex × Kept)) (made : List (Vertex × Record)) (start paid count : ℕ) → steps.old ≤ count + 3
+            → IsUnderWay (live self.now.parents.now) types.old ctxs.old self.now.records.now (on self.now.whole self.now.passed.now) head before (frame.now ∷ reverse stack.old.items) made
+            → AreCounted (live self.now.parents.now) start paid count (frame.now ∷ reverse stack.old.items) made
+            → IsPaidFor (live self.now.parents.now) types.old ctxs.old self.now.records.now (on self.now.whole self.now.passed.now) head before start paid steps.new }
+        ensures types { KeepsTypes types.old types.new }
+        ensures contexts { KeepsContexts ctxs.old ctxs.new }
+    {
+        stack.push(*frame)?;
+        let child = self.begin(alloc, types, ctxs, &edge.target, frame.demand, steps)?;
+        stack.push(child)?;
+        Ok(())
+    }
+
+    // Takes the first child that is left of the innermost vertex.
+    fn take<L: Ledger>(
+        &self,
+        alloc: Global,
+        types: &mut TypeTable,
+        ctxs: &mut CtxTable,
+        stack: &mut Vec<Frame<'t>>,
+        frame: &Frame<'t>,
+        edge: &'t Edge,
+        steps: &mut Steps<L>,
+    ) -> Result<(), NoMemory>
+        requires records { AreRecordsOf types.old ctxs.old self.now.records.now }
+        requires frames { AreFramesOf types.old ctxs.old (frame.now ∷ reverse stack.old.items) }
+        requires first { slice_get frame.now.left.now 0 ≡ Some edge.now }
+        ensures way { (head : Vertex) (before : List (Vertex × Kept)) (made : List (Vertex × Record)) → AreMadeOf types.old ctxs.old made
+            → IsUnderWay (live self.now.parents.now) types.old ctxs.old self.now.records.now (on self.now.whole self.now.passed.now) head before (frame.now ∷ reverse stack.old.items) made
+            → OnOk result (IsUnderWay (live self.now.parents.now) types.new ctxs.new self.now.records.now (on self.now.whole self.now.passed.now) head before (reverse stack.new.items) made) }
+        ensures frames { OnOk result (AreFramesOf types.new ctxs.new (reverse stack.new.items)) }
+        ensures counted { (start paid : ℕ) (made : List (Vertex × Record)) → AreCounted (live self.now.parents.now) start paid steps.old (frame.now ∷ reverse stack.old.items) made
+            → OnOk result (AreCounted (live self.now.parents.now) start paid steps.new (reverse stack.new.items) made) }
+        ensures paid { (head : Vertex) (before : List (Vertex × Kept)) (made : List (Vertex × Record)) (start paid : ℕ)
+            → IsUnderWay (live self.now.parents.now) types.old ctxs.old self.now.records.now (on self.now.whole self.now.passed.now) head before (frame.now ∷ reverse stack.old.items) made
+            → AreCounted (live self.now.parents.now) start paid steps.old (frame.now ∷ reverse stack.old.items) made
+            → IsPaidFor (live self.now.parents.now) types.old ctxs.old self.now.records.now (on self.now.whole self.now.passed.now) head before start paid steps.new }
+        ensures types { KeepsTypes types.old types.new }
+        ensures contexts { KeepsContexts ctxs.old ctxs.new }
+    {
+        match self.look(types, ctxs, &frame.demand, edge, steps) {
+            Some(given) => {
+                stack.push(*frame)?;
+                hand_on(types, stack, given)
+            }
+            None => self.descend(alloc, types, ctxs, stack, frame, edge, steps),
+        }
+    }
+
+    // Takes the innermost vertex one step further: a child is taken, the next position is begun, or its record is made.
+    fn step<L: Ledger>(
+        &self,
+        alloc: Global,
+        types: &mut TypeTable,
+        ctxs: &mut CtxTable,
+        stack: &mut Vec<Frame<'t>>,
+        made: &mut Vec<(Vertex, Record)>,
+        steps: &mut Steps<L>,
+    ) -> Result<(), NoMemory>
+        requires records { AreRecordsOf types.old ctxs.old self.now.records.now }
+        requires frames { AreFramesOf types.old ctxs.old (reverse stack.old.items) }
+        requires made { AreMadeOf types.old ctxs.old made.old.items }
+        ensures way { (head : Vertex) (before : List (Vertex × Kept))
+            → IsUnderWay (live self.now.parents.now) types.old ctxs.old self.now.records.now (on self.now.whole self.now.passed.now) head before (reverse stack.old.items) made.old.items
+            → OnOk result (IsUnderWay (live self.now.parents.now) types.new ctxs.new self.now.records.now (on self.now.whole self.now.passed.now) head before (reverse stack.new.items) made.new.items) }
+        ensures made { OnOk result (AreMadeOf types.new ctxs.new made.new.items) }
+        ensures frames { OnOk result (AreFramesOf types.new ctxs.new (reverse stack.new.items)) }
+        ensures counted { (start paid : ℕ) → AreCounted (live self.now.parents.now) start paid steps.old (reverse stack.old.items) made.old.items
+            → OnOk result (AreCounted (live self.now.parents.now) start paid steps.new (reverse stack.new.items) made.new.items) }
+        ensures paid { (head : Vertex) (before : List (Vertex × Kept)) (start paid : ℕ)
+            → IsUnderWay (live self.now.parents.now) types.old ctxs.old self.now.records.now (on self.now.whole self.now.passed.now) head before (reverse stack.old.items) made.old.items
+            → AreCounted (live self.now.parents.now) start paid steps.old (reverse stack.old.items) made.old.items
+            → IsPaidFor (live self.now.parents.now) types.old ctxs.old self.now.records.now (on self.now.whole self.now.passed.now) head before start paid steps.new }
+        ensures types { KeepsTypes types.old types.new }
+        ensures contexts { KeepsContexts ctxs.old ctxs.new }
+    {
+        let Some(frame) = stack.pop() else {
+            return Ok(());
+        };
+        if let Some(edge) = frame.left.first() {
+            return self.take(alloc, types, ctxs, stack, &frame, edge, steps);
+        }
+        if frame.state.next < position_count(frame.state.ctor) {
+            stack.push(self.go_on(alloc, types, ctxs, &frame, steps)?)?;
+            return Ok(());
+        }
+        let given = settle(alloc, types, ctxs, &frame, made)?;
+        hand_on(types, stack, given)
+    }
+
+    /// Lists the records that a walk down the tree of a vertex makes. It ticks at most five times for each of their vertices
+    /// and for each edge under it; where memory runs out, for each that it would have made. The numbers of both tables keep their meaning
+    /// then too.
+    pub(crate) fn renew_tree<L: Ledger>(
+        &self,
+        alloc: Global,
+        types: &mut TypeTable,
+        ctxs: &mut CtxTable,
+        head: &'t Vertex,
+        made: &mut Vec<(Vertex, Record)>,
+        steps: &mut Steps<L>,
+    ) -> Result<(), NoMemory>
+        requires records { AreRecordsOf types.old ctxs.old self.now.records.now }
+        requires made { AreMadeOf types.old ctxs.old made.old.items }
+        requires heads { class (live self.now.parents.now) head.now ≡ Inner → ⊥ }
+        ensures tree { OnOk result (HasMadeTree (live self.now.parents.now) types.new ctxs.new self.now.records.now (on self.now.whole self.now.passed.now) head.now made.old.items made.new.items) }
+        ensures made { OnOk result (AreMadeOf types.new ctxs.new made.new.items) }
+        ensures ticks { OnOk result (steps.new + 5 * weight_of (live self.now.parents.now) made.old.items ≤ steps.old + 5 * weight_of (live self.now.parents.now) made.new.items) }
+        ensures paid { IsTreePaidFor (live self.now.parents.now) types.old ctxs.old self.now.records.now (on self.now.whole self.now.passed.now) head.now steps.old steps.new }
+        ensures types { KeepsTypes types.old types.new }
+        ensures contexts { KeepsContexts ctxs.old ctxs.new }
+    {
+        let demand = demand_next(alloc, types, ctxs, None)?;
+        let mut stack = Vec::new(alloc);
+        stack.push(self.begin(alloc, types, ctxs, head, demand, steps)?)?;
+        for _ in 0..u64::MAX {
+            if stack.is_empty() {
+                return Ok(());
+            }
+            self.step(alloc, types, ctxs, &mut stack, made, steps)?;
+        }
+        // A tree is no larger than memory.
+        Err(NoMemory)
+    }
+}

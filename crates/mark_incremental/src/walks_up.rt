@@ -1,0 +1,89 @@
+ghost use Rattle.std.specs.Prelude.{◌≡◌, ◌||◌, ◌++◌, ◌∷◌, [], Some, None, IfOk, OnOk};
+ghost use Rattle.grove_edits.specs.declared.vertex.Vertex.{Vertex};
+ghost use Rattle.grove_edits.specs.Vertex.{is_same_vertex};
+ghost use Rattle.walks.specs.Walk.{above, walk};
+ghost use Rattle.unicycle_roots.specs.Met.{is_on_cycle};
+ghost use Rattle.mark_incremental.specs.Looking.{holds};
+
+use crate::no_memory::NoMemory;
+use grove_edits::{Vertex, is_same_vertex};
+use mark_store::VertexMap;
+use seeded_hash::HashSeed;
+use std::alloc::Global;
+use std::sync::ledger::Ledger;
+use walks::{Few, ParentOf, Steps};
+
+/// The vertices on the walk up from a vertex.
+#[derive(Drop)]
+pub(crate) struct WalkUp {
+    /// In order.
+    pub(crate) vertices: Vec<Vertex>,
+    /// Whether the walk comes back to the vertex with which it began.
+    pub(crate) comes_back: bool,
+}
+
+pub(crate) fn holds(set: &VertexMap<bool>, vertex: &Vertex) -> bool
+    ensures { result ≡ holds set.now vertex.now }
+{
+    set.get(vertex).is_some()
+}
+
+/// Adds a vertex to a set, which may have it already.
+pub(crate) fn enter(set: &mut VertexMap<bool>, vertex: &Vertex) -> Result<(), NoMemory>
+    ensures { OnOk result ((v : Vertex) → holds set.new v ≡ (is_same_vertex vertex.now v || holds set.old v)) }
+{
+    set.reserve_for(&[*vertex])?;
+    set.set(vertex, true);
+    Ok(())
+}
+
+// The source of the one live parent edge, if there is exactly one.
+fn vertex_above<P: ParentOf, L: Ledger>(
+    vertex: &Vertex,
+    parents: &P,
+    steps: &mut Steps<L>,
+) -> Option<Vertex>
+    ensures above { result ≡ above (P.live parents.now) vertex.now }
+{
+    match parents.few(vertex, steps) {
+        Few::One(edge) => Some(edge.source),
+        Few::Zero | Few::More(_, _) => None,
+    }
+}
+
+/// The walk up from a vertex. The vertices that it passed are found by their hash under a seed.
+pub(crate) fn walk_up<P: ParentOf, L: Ledger>(
+    alloc: Global,
+    seed: HashSeed,
+    start: &Vertex,
+    parents: &P,
+    steps: &mut Steps<L>,
+) -> Result<WalkUp, NoMemory>
+    ensures vertices { IfOk result (λ it. it.vertices.items ≡ walk (P.live parents.now) start.now) }
+    ensures comes_back { IfOk result (λ it. it.comes_back ≡ is_on_cycle (P.live parents.now) start.now) }
+{
+    let mut vertices = Vec::new(alloc);
+    let mut passed = VertexMap::with_seed(alloc, seed);
+    let mut at = *start;
+    vertices.push(at)?;
+    enter(&mut passed, &at)?;
+    for _ in 0..u64::MAX {
+        let Some(next) = vertex_above(&at, parents, steps) else {
+            return Ok(WalkUp {
+                vertices,
+                comes_back: false,
+            });
+        };
+        if holds(&passed, &next) {
+            return Ok(WalkUp {
+                vertices,
+                comes_back: is_same_vertex(&next, start),
+            });
+        }
+        at = next;
+        vertices.push(at)?;
+        enter(&mut passed, &at)?;
+    }
+    // A walk is no longer than memory.
+    Err(NoMemory)
+}
