@@ -39,3 +39,9 @@ Reads (Generate loads) = ⊥
 -- the words are those of a command that reads
 abbrev pub AskToRead : List (String Global) → Type 0
 AskToRead words = (command : Command) × AreOf command words × Reads command
+
+-- the command starts no threads
+abbrev pub IsPlain : Command → Type 0
+IsPlain (Ask question) = Unit {0}
+IsPlain Run = ⊥
+IsPlain (Generate loads) = ⊥

@@ -1,7 +1,7 @@
 ghost use Rattle.std.specs.Prelude.{◌≡◌, ◌≤◌, ℕ, List, [], length, IfOk};
 ghost use Rattle.grove_edits.specs.Graph.{graph, Ascends};
 ghost use Rattle.grove_top.specs.declared.command.Command.TheVariants.{Ask, Run, Generate};
-ghost use Rattle.grove_top.specs.Words.{IsWithinLimits, most_loads};
+ghost use Rattle.grove_top.specs.Words.{IsPlain, IsWithinLimits, most_loads};
 ghost use Rattle.grove_top.specs.Due.{IsCommandDue, IsAnswerOf, IsMergeText, most_bytes, malformed_text, fault_word};
 
 use crate::command::{Command, Question};
@@ -49,6 +49,23 @@ pub(crate) fn form_due<R: Threads + Wait + Sync, G: Gate>(
         Command::Ask(question) => form_answer(alloc, seed, question, text),
         Command::Run => form_report(rt, alloc, seed, text, gate),
         Command::Generate { loads } => form_summary(rt, alloc, seed, loads, gate),
+    }
+}
+
+/// What is due for a command that starts no threads, on such an input.
+pub(crate) fn form_plain(
+    alloc: Global,
+    seed: HashSeed,
+    command: Command,
+    text: &[u8],
+) -> Result<Due, NoMemory>
+    requires short { length text.now ≤ most_bytes }
+    requires plain { IsPlain command }
+    ensures { IfOk result (λ due. IsCommandDue command text.now due.journals due.status due.text.items) }
+{
+    match command {
+        Command::Ask(question) => form_answer(alloc, seed, question, text),
+        Command::Run | Command::Generate { .. } => unreachable!(),
     }
 }
 

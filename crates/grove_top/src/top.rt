@@ -4,12 +4,12 @@ ghost use Rattle.replica_core.specs.Content.{Content};
 ghost use Rattle.session_report.specs.Taken.{Journals};
 ghost use Rattle.grove_top.specs.declared.command.Command.{Command};
 ghost use Rattle.grove_top.specs.declared.command.Command.TheVariants.{Generate};
-ghost use Rattle.grove_top.specs.Words.{AreOf, AreOfNone, AskToRead, Reads, most_loads};
+ghost use Rattle.grove_top.specs.Words.{AreOf, AreOfNone, AskToRead, IsPlain, Reads, most_loads};
 ghost use Rattle.grove_top.specs.Due.{IsDue, HasReading, most_bytes, usage_text, too_long_text};
 ghost use Rattle.grove_top.specs.Meets.{Meets, IsReadBy};
 
 use crate::command::{Command, Question};
-use crate::commands::form_due;
+use crate::commands::{form_due, form_plain};
 use crate::limit::{MOST_BYTES, MOST_LOADS};
 use crate::outcome::{Outcome, Status};
 use grove_io::{Gate, InputFault, Sink, Source, read_all, write_out};
@@ -61,7 +61,46 @@ pub fn run<R: Threads + Wait + Sync, S: Source, K: Sink, G: Gate>(
         → ((text due : List ℕ) (journals : Journals Content) (status : Status) → Gave (S.left source.old) text (S.left source.new) → IsDue words.now text journals status due → length due ≤ room)
         → K.faults sink.new ≡ K.faults sink.old }
 {
-    answer(rt, alloc, seed, words, source, sink, gate)
+    match command_of(words) {
+        Some(Command::Generate { .. }) | Some(Command::Run) => {
+            answer(rt, alloc, seed, words, source, sink, gate)
+        }
+        Some(Command::Ask(_)) | None => run_plain(alloc, seed, words, source, sink),
+    }
+}
+
+/// Runs a command that starts no threads, or tells the usage: `run` for all words but those of `run` and `gen`. It waits for nobody.
+pub fn run_plain<S: Source, K: Sink>(
+    alloc: Global,
+    seed: HashSeed,
+    words: &[String],
+    source: &mut S,
+    sink: &mut K,
+) -> Outcome
+    requires plain { (command : Command) → AreOf command words.now → IsPlain command }
+    ensures meets { Meets words.now
+        (record { left = S.left source.old; read_faults = S.faults source.old; taken = K.taken sink.old; write_faults = K.faults sink.old })
+        (record { left = S.left source.new; read_faults = S.faults source.new; taken = K.taken sink.new; write_faults = K.faults sink.new })
+        result.journals result.status }
+    ensures reads_nothing { ¬ AskToRead words.now → source.new ≡ source.old }
+
+    // A good input is answered, unless the outside fails or memory runs out.
+    ensures complete { (command : Command) (text : List ℕ) → AreOf command words.now
+        → S.left source.old ≡ Some text → HasReading command text → length text ≤ most_bytes
+        → ¬ HasRisen (S.faults source.old) (S.faults source.new) → ¬ HasRisen (K.faults sink.old) (K.faults sink.new)
+        → (result.status ≡ Status.Done) ⊎ (result.status ≡ Status.NoMemory) }
+
+    // A generated session is, whatever the source has.
+    ensures generated { (loads : ℕ) → AreOf (Generate loads) words.now → ¬ HasRisen (K.faults sink.old) (K.faults sink.new)
+        → (result.status ≡ Status.Done) ⊎ (result.status ≡ Status.NoMemory) }
+
+    // No count rises where the source never fails and the sink does not for as many bytes as may be due.
+    ensures no_read_fault { S.never_fails source.old → S.faults source.new ≡ S.faults source.old }
+    ensures no_write_fault { (room : ℕ) → K.never_fails sink.old room
+        → ((text due : List ℕ) (journals : Journals Content) (status : Status) → Gave (S.left source.old) text (S.left source.new) → IsDue words.now text journals status due → length due ≤ room)
+        → K.faults sink.new ≡ K.faults sink.old }
+{
+    answer_plain(alloc, seed, words, source, sink)
 }
 
 fn answer<R: Threads + Wait + Sync, S: Source, K: Sink, G: Gate>(
@@ -73,6 +112,44 @@ fn answer<R: Threads + Wait + Sync, S: Source, K: Sink, G: Gate>(
     sink: &mut K,
     gate: &G,
 ) -> Outcome
+    requires { (command : Command) × AreOf command words.now }
+    ensures meets { Meets words.now
+        (record { left = S.left source.old; read_faults = S.faults source.old; taken = K.taken sink.old; write_faults = K.faults sink.old })
+        (record { left = S.left source.new; read_faults = S.faults source.new; taken = K.taken sink.new; write_faults = K.faults sink.new })
+        result.journals result.status }
+    ensures reads_nothing { ¬ AskToRead words.now → source.new ≡ source.old }
+    ensures no_read_fault { S.never_fails source.old → S.faults source.new ≡ S.faults source.old }
+    ensures no_write_fault { (room : ℕ) → K.never_fails sink.old room
+        → ((text due : List ℕ) (journals : Journals Content) (status : Status) → Gave (S.left source.old) text (S.left source.new) → IsDue words.now text journals status due → length due ≤ room)
+        → K.faults sink.new ≡ K.faults sink.old }
+{
+    let Some(command) = command_of(words) else {
+        unreachable!()
+    };
+    match read_for(alloc, command, source) {
+        Ok(text) => match form_due(rt, alloc, seed, command, &text, gate) {
+            Ok(due) => Outcome {
+                status: write(sink, due.status, &due.text),
+                journals: due.journals,
+            },
+            Err(_) => without_journals(alloc, Status::NoMemory),
+        },
+        Err(InputFault::TooLong) => {
+            without_journals(alloc, write(sink, Status::TooLong, TOO_LONG))
+        }
+        Err(InputFault::ReadFault) => without_journals(alloc, Status::ReadFault),
+        Err(InputFault::NoMemory) => without_journals(alloc, Status::NoMemory),
+    }
+}
+
+fn answer_plain<S: Source, K: Sink>(
+    alloc: Global,
+    seed: HashSeed,
+    words: &[String],
+    source: &mut S,
+    sink: &mut K,
+) -> Outcome
+    requires plain { (command : Command) → AreOf command words.now → IsPlain command }
     ensures meets { Meets words.now
         (record { left = S.left source.old; read_faults = S.faults source.old; taken = K.taken sink.old; write_faults = K.faults sink.old })
         (record { left = S.left source.new; read_faults = S.faults source.new; taken = K.taken sink.new; write_faults = K.faults sink.new })
@@ -87,10 +164,10 @@ fn answer<R: Threads + Wait + Sync, S: Source, K: Sink, G: Gate>(
         return without_journals(alloc, write(sink, Status::Usage, USAGE));
     };
     match read_for(alloc, command, source) {
-        Ok(text) => match form_due(rt, alloc, seed, command, &text, gate) {
-            Ok(due) => Outcome {
-                status: write(sink, due.status, &due.text),
-                journals: due.journals,
+        Ok(text) => match form_plain(alloc, seed, command, &text) {
+            Ok(plain) => Outcome {
+                status: write(sink, plain.status, &plain.text),
+                journals: plain.journals,
             },
             Err(_) => without_journals(alloc, Status::NoMemory),
         },

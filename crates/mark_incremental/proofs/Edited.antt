@@ -179,9 +179,9 @@ grown_stands g h marks after stands same grown = record {
   live = stands.live;
   are_live = live_along g h stands.live (λ e. sym (same e)) stands.are_live;
   kept =
-    kept_along g h stands.live (records_in after) (λ e. sym (same e))
-    (kept_same g stands.live after.types after.contexts marks.records after.records grown.records
-    (kept_over g stands.live marks.types after.types marks.contexts after.contexts marks.records grown.types grown.contexts stands.numbers stands.kept));
+      kept_along g h stands.live (records_in after) (λ e. sym (same e))
+      (kept_same g stands.live after.types after.contexts marks.records after.records grown.records
+      (kept_over g stands.live marks.types after.types marks.contexts after.contexts marks.records grown.types grown.contexts stands.numbers stands.kept));
   rooted = λ v. grown.roots v ∙ stands.rooted v;
   numbers = λ v. subst (λ o. IfSome o (IsRecordOf after.types after.contexts)) (sym (grown.records v))
       (records_kept marks.types after.types marks.contexts after.contexts grown.types grown.contexts marks.records stands.numbers v);

@@ -96,8 +96,8 @@ module _ (old new : List Typ) (oldc newc : List Context) (keeps : KeepsTypes old
     stands = is.stands;
     agree = subst (λ d. Agree (sort_of_ctor l.vertex.ctor) d l.demanded) (sym demanded) is.agree;
     gave =
-      opened_at-kept old new oldc newc keeps keepsc fr.state of.state ∙ is.gave
-      ∙ ap (λ (d : Demanded). after l.vertex.ctor d (expression_of l.vertex l.forest l.demanded) l.forest (take fr.state.next (positions l.vertex.ctor))) (sym demanded);
+        opened_at-kept old new oldc newc keeps keepsc fr.state of.state ∙ is.gave
+        ∙ ap (λ (d : Demanded). after l.vertex.ctor d (expression_of l.vertex l.forest l.demanded) l.forest (take fr.state.next (positions l.vertex.ctor))) (sym demanded);
     tail = is.tail;
     edges = is.edges;
     place = place;

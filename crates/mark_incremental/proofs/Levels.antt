@@ -73,9 +73,9 @@ module _ (live : List Edge) (types : List Typ) (ctxs : List Context) (l : Level)
     stands = is.stands;
     agree = subst (λ (o : OpenVertex). Agree (sort_of_ctor l.vertex.ctor) (node.demanded_at types ctxs o.demand) l.demanded) (sym acc.state) is.agree;
     gave =
-      subst
-      (λ (o : OpenVertex). opened_at types ctxs o ≡ after l.vertex.ctor (node.demanded_at types ctxs o.demand) (expression_of l.vertex l.forest l.demanded) l.forest (take o.next (positions l.vertex.ctor)))
-      (sym acc.state) is.gave;
+        subst
+        (λ (o : OpenVertex). opened_at types ctxs o ≡ after l.vertex.ctor (node.demanded_at types ctxs o.demand) (expression_of l.vertex l.forest l.demanded) l.forest (take o.next (positions l.vertex.ctor)))
+        (sym acc.state) is.gave;
     tail = tail_behind l.left l.forest is.tail;
     edges = behind_first l.left first (rest ++ later) (is.edges ∙ ap (λ es. es ++ later) cut.2) ∙ ap (λ es. es ++ later) (sym left_now) ∙ later_same;
     place = place;
@@ -151,8 +151,8 @@ module _ (live : List Edge) (old new : List Typ) (oldc newc : List Context) (kee
     stands = between.stands;
     agree = subst (λ d. Agree (sort_of_ctor l.vertex.ctor) d l.demanded) (sym demanded) between.agree;
     gave =
-      opened_at-kept old new oldc newc keeps keepsc fr.state is_open ∙ between.gave
-      ∙ ap (λ (d : Demanded). after l.vertex.ctor d x l.forest (take fr.state.next (positions l.vertex.ctor))) (sym demanded);
+        opened_at-kept old new oldc newc keeps keepsc fr.state is_open ∙ between.gave
+        ∙ ap (λ (d : Demanded). after l.vertex.ctor d x l.forest (take fr.state.next (positions l.vertex.ctor))) (sym demanded);
     tail = between.tail;
     edges = edges (drop_cases fr.state.next (positions l.vertex.ctor));
     place = place;
@@ -241,9 +241,9 @@ fresh_between live types ctxs l d o stands all agree opened left = record {
   stands = stands;
   agree = subst (λ e. Agree (sort_of_ctor l.vertex.ctor) e l.demanded) (sym same) agree;
   gave =
-    opened
-    ∙ ap (λ (e : Demanded). let v : machine.Opened = record { ctor = l.vertex.ctor; demanded = e; given = [] } in v) (sym same)
-    ∙ ap (λ qs. after l.vertex.ctor (node.demanded_at types ctxs o.demand) (expression_of l.vertex l.forest l.demanded) l.forest qs) (sym (take_none (positions l.vertex.ctor) o.next row));
+      opened
+      ∙ ap (λ (e : Demanded). let v : machine.Opened = record { ctor = l.vertex.ctor; demanded = e; given = [] } in v) (sym same)
+      ∙ ap (λ qs. after l.vertex.ctor (node.demanded_at types ctxs o.demand) (expression_of l.vertex l.forest l.demanded) l.forest qs) (sym (take_none (positions l.vertex.ctor) o.next row));
   tail = subst (λ f. IsTail f l.forest) (sym all) (tail_itself l.forest);
   edges = ap child_edges all ∙ (stands_under live l.above l.vertex l.forest l.demanded stands).edges ∙ ap (edges_from live l.vertex) (sym row);
 } where
@@ -264,11 +264,11 @@ filled_between live types ctxs l fr p ps is_open ctor at none_here is = record {
   stands = is.stands;
   agree = is.agree;
   gave =
-    opened_filled types ctxs fr.given fr.state is_open some
-    ∙ ap (machine.filled (given_at types fr.given)) is.gave
-    ∙ ap (λ (g : machine.Given). let v : machine.Opened = record { ctor = l.vertex.ctor; demanded = d; given = places_give x l.forest done [] ++ g ∷ [] } in v) gives
-    ∙ ap (λ (gs : List machine.Given). let v : machine.Opened = record { ctor = l.vertex.ctor; demanded = d; given = gs } in v) (sym (places_give-append x l.forest done (p ∷ []) []))
-    ∙ ap (λ qs. after l.vertex.ctor d x l.forest qs) (sym more.0 ∙ ap (λ n. take n (positions l.vertex.ctor)) (sym next_one));
+      opened_filled types ctxs fr.given fr.state is_open some
+      ∙ ap (machine.filled (given_at types fr.given)) is.gave
+      ∙ ap (λ (g : machine.Given). let v : machine.Opened = record { ctor = l.vertex.ctor; demanded = d; given = places_give x l.forest done [] ++ g ∷ [] } in v) gives
+      ∙ ap (λ (gs : List machine.Given). let v : machine.Opened = record { ctor = l.vertex.ctor; demanded = d; given = gs } in v) (sym (places_give-append x l.forest done (p ∷ []) []))
+      ∙ ap (λ qs. after l.vertex.ctor d x l.forest qs) (sym more.0 ∙ ap (λ n. take n (positions l.vertex.ctor)) (sym next_one));
   tail = is.tail;
   edges = is.edges ∙ ap (λ es. es ++ edges_from live l.vertex (drop (suc fr.state.next) (positions l.vertex.ctor))) none_here ∙ ap (λ n. edges_from live l.vertex (drop n (positions l.vertex.ctor))) (sym next_one);
 } where

@@ -101,7 +101,7 @@ pub put_more : (made left fewer : List (Vertex × Record)) (m : Vertex × Record
 put_more made left fewer m before now then are split sets = (
   m ∷ are.0,
   sym (append_assoc fewer (m ∷ []) are.0) ∙ ap (λ ms. ms ++ are.0) (sym split) ∙ are.1,
-  λ v. sets v ∙ ap (cond (is_same_vertex m.0 v) (Some m.1)) (are.2 v)
+  λ v. sets v ∙ ap (cond (is_same_vertex m.0 v) (Some m.1)) (are.2 v),
 )
 
 pub room_fewer : (left fewer : List (Vertex × Record)) (m : Vertex × Record) (now then : Places Record) → left ≡ fewer ++ m ∷ [] → KeepsRoom now then → AllByRecursion (λ x. HasRoom now x.0) left

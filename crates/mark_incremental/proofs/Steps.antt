@@ -234,8 +234,7 @@ agree_expression s d e agree is = subst (λ t. Agree t d e) is agree
 relink : (l k : Level) (ls : List Level) → l.forest ≡ k.forest → l.vertex ≡ k.vertex → l.demanded ≡ k.demanded → AreLinked (l ∷ ls) → AreLinked (k ∷ ls)
 relink l k [] f v d linked = tt
 relink l k (m ∷ ms) f v d linked =
-    let below : IsBelow l m = linked.0 in
-    (
+    let below : IsBelow l m = linked.0 in (
       record {
         edge = below.edge;
         rest = below.rest;
@@ -297,8 +296,8 @@ module _ (live : List Edge) (well : AllByRecursion IsWellFormed live) (types : L
             let as_left : renewal.IsLeft judged records e.target (demands l e.position) = (
               left.off,
               λ exp. kept_demand_of types ctxs records e.target left.kept read ∙ left.still exp
-                ∙ agree_expression (sort_of_ctor e.target.ctor) (node.demanded_at types ctxs fr.demand) (demands l e.position)
-                (child_agrees live well types ctxs l fr is e rest first begins.below begins.rest begins.is) exp,
+                  ∙ agree_expression (sort_of_ctor e.target.ctor) (node.demanded_at types ctxs fr.demand) (demands l e.position)
+                  (child_agrees live well types ctxs l fr is e rest first begins.below begins.rest begins.is) exp,
             ) in
             let kept : kept_by types ctxs left.kept ≡ kept_of e.target begins.below (demands l e.position) =
             some_part (kept_by types ctxs left.kept) (kept_of e.target begins.below (demands l e.position))
@@ -370,9 +369,9 @@ module _ (live : List Edge) (well : AllByRecursion IsWellFormed live) (old new :
         waiting = (some_left live well old oldc l fr is e rest first, waiting);
         linked = (record { edge = e; rest = tree_is.rest; first = tree_is.is; target = refl; demanded = refl }, linked);
         goes_on =
-          subst (GoesOn judged records (HasMade live judged records head before) (c ∷ l ∷ ls)) (sym (meant-kept old new oldc newc keeps keepsc made of_made))
-          (down judged records (HasMade live judged records head before) l ls (meant old oldc made) e tree_is.below tree_is.rest c tree_is.is refl
-          (again e.target records (reads_as-kept old new oldc newc keeps keepsc places records of_tables reads) leaves l.vertex l.above tree_is.below (demands l e.position) fr.demand stands agrees found.1) goes);
+            subst (GoesOn judged records (HasMade live judged records head before) (c ∷ l ∷ ls)) (sym (meant-kept old new oldc newc keeps keepsc made of_made))
+            (down judged records (HasMade live judged records head before) l ls (meant old oldc made) e tree_is.below tree_is.rest c tree_is.is refl
+            (again e.target records (reads_as-kept old new oldc newc keeps keepsc places records of_tables reads) leaves l.vertex l.above tree_is.below (demands l e.position) fr.demand stands agrees found.1) goes);
       } where
         is : IsLevel live old oldc l fr
         is = are.0
@@ -404,7 +403,7 @@ module _ (live : List Edge) (well : AllByRecursion IsWellFormed live) (old new :
         levels = l ∷ ls;
         are = (
           begun live old new oldc newc keeps keepsc l now is_open (vertex ∙ is.vertex)
-            (subst (IsBetween live old oldc l) (sym filled) (between (drop_cases fr.state.next (positions l.vertex.ctor)))) begins,
+              (subst (IsBetween live old oldc l) (sym filled) (between (drop_cases fr.state.next (positions l.vertex.ctor)))) begins,
           levels_kept old new oldc newc keeps keepsc live ls frames of.1 are.1,
         );
         waiting = waiting;
@@ -500,8 +499,8 @@ module _ (live : List Edge) (well : AllByRecursion IsWellFormed live) (old new :
             record {
               levels = record k { left = behind k.left } ∷ ks;
               are =
-                subst (AreLevels live new newc (record k { left = behind k.left } ∷ ks)) (sym is_then)
-                (accepted live new newc k m now g is_now (accepts waiting.0) waiting.0 (gives_below k m is_now below waiting.0), levels_kept old new oldc newc keeps keepsc live ks frames of.1 are.1);
+                  subst (AreLevels live new newc (record k { left = behind k.left } ∷ ks)) (sym is_then)
+                  (accepted live new newc k m now g is_now (accepts waiting.0) waiting.0 (gives_below k m is_now below waiting.0), levels_kept old new oldc newc keeps keepsc live ks frames of.1 are.1);
               waiting = subst (λ (frs : List Frame). AreWaiting (drop 1 frs)) (sym is_then) waiting.1;
               linked = relink k (record k { left = behind k.left }) ks refl refl refl linked.1;
               goes_on = awaited;

@@ -33,11 +33,7 @@ fn least_of(first: &Vertex, others: &[Vertex]) -> Vertex
 
 /// The vertex that became the root of a cycle, or ceased to be one, by an edit of an edge to this target, and whether it is one now.
 /// It is told by the walks up from the target, of which one comes back.
-pub(crate) fn changed_root(
-    target: &Vertex,
-    before: &Ends,
-    after: &Ends,
-) -> Option<(Vertex, bool)>
+pub(crate) fn changed_root(target: &Vertex, before: &Ends, after: &Ends) -> Option<(Vertex, bool)>
     ensures { IsChangedRoot target.now before.now after.now result }
 {
     match (before.target.comes_back, after.target.comes_back) {

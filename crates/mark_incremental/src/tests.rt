@@ -15,7 +15,7 @@ use std::alloc::Global;
 use std::marker::Brand;
 use std::sync::ledger::{Blank, Ledger};
 use std::test::Fail;
-use type_core::TypeId;
+use type_core::{TypeId, TypeTable};
 use walks::Steps;
 
 // A graph with its indexes and its marks.
@@ -27,8 +27,26 @@ struct Live {
     marks: Marks,
 }
 
-// What is wanted of a vertex, its type and its mark, where it has a record.
-type Told = Option<(Option<Mode>, Option<TypeId>, Mark)>;
+// What is wanted of a vertex and its type, in words, and its mark, where it has a record.
+type Told = Option<(&'static str, &'static str, Mark)>;
+
+fn mode_word(types: &TypeTable, mode: Option<Mode>) -> &'static str {
+    match mode {
+        None => "-",
+        Some(Mode::Syn) => "syn",
+        Some(Mode::Ana(t)) if t == types.num() => "ana:num",
+        Some(Mode::Ana(_)) => "ana:other",
+    }
+}
+
+fn type_word(types: &TypeTable, typ: Option<TypeId>) -> &'static str {
+    match typ {
+        None => "-",
+        Some(t) if t == types.unknown() => "?",
+        Some(t) if t == types.num() => "num",
+        Some(_) => "other",
+    }
+}
 
 fn empty(alloc: Global) -> Result<Live, Fail>
     ensures indexed { IfOk result (λ live. AreIndexed live.store live.children live.parents) }
@@ -67,8 +85,12 @@ impl Live {
     // What is told of the vertex to which the edge of a line leads.
     fn told(&self, line: &str) -> Result<Told, Fail> {
         let edge = edit(line)?.edge();
-        let record = self.marks.kept(&edge.target);
-        Ok(record.map(|r| (r.mode, r.typ, r.mark)))
+        let types = self.marks.types();
+        let Some(record) = self.marks.kept(&edge.target) else {
+            return Ok(None);
+        };
+        let wanted = mode_word(types, record.mode);
+        Ok(Some((wanted, type_word(types, record.typ), record.mark)))
     }
 
     // The same while the edit of another line is applied, which is taken back.
@@ -139,69 +161,60 @@ fn told_while_counting<L: Ledger>(
     live.told_while(edited, line, &mut steps)
 }
 
-const USED: &str = "+1.6 1.1 lam body 1.5 var:x";
-
-fn a_function_of_two_parameters(alloc: Global) -> Result<Live, Fail>
-    ensures indexed { IfOk result (λ live. AreIndexed live.store live.children live.parents) }
-    ensures stand { IfOk result (λ live. StandFor (state_in live.store) live.marks) }
-{
-    after(
-        alloc,
-        &[
-            "+1.2 0.0 root main 1.1 lam",
-            "+1.4 1.1 lam param 1.3 pvar:x",
-            "+2.2 1.1 lam param 2.1 pvar:y",
-            USED,
-        ],
-    )
+fn told_after(alloc: Global, lines: &[&str], line: &str) -> Result<Told, Fail> {
+    let live = after(alloc, lines)?;
+    live.told(line)
 }
 
+// The same while the edit of one more line is applied.
+fn told_with(alloc: Global, lines: &[&str], edited: &str, line: &str) -> Result<Told, Fail> {
+    let mut live = after(alloc, lines)?;
+    told_while_counting::<Brand>(&mut live, edited, line, Blank::new(1))
+}
+
+const FUNCTION: [&str; 4] = [
+    "+1.2 0.0 root main 1.1 lam",
+    "+1.4 1.1 lam param 1.3 pvar:x",
+    "+2.2 1.1 lam param 2.1 pvar:y",
+    "+1.6 1.1 lam body 1.5 var:x",
+];
+
 #[test]
-fn a_use_is_bound_while_a_conflict_is_cut(rt: HostRuntime) -> Result<(), Fail> {
-    let mut live = a_function_of_two_parameters(rt.alloc())?;
-    let unknown = live.marks.types().unknown();
-    let cut = "-2.2 1.1 lam param 2.1 pvar:y";
-    let told = told_while_counting::<Brand>(&mut live, cut, USED, Blank::new(1))?;
-    assert!(rt; told == Some((Some(Mode::Syn), Some(unknown), Mark::None)));
-    let free = Some((Some(Mode::Syn), Some(unknown), Mark::Free));
-    assert!(rt; live.told(USED)? == free);
+fn a_use_is_free_under_a_conflict(rt: HostRuntime) -> Result<(), Fail> {
+    let told = told_after(rt.alloc(), &FUNCTION, FUNCTION[3])?;
+    assert_eq!(rt; told, Some(("syn", "?", Mark::Free)));
     Ok(())
 }
 
-const LEFT: &str = "+1.4 1.1 plus left 1.3 num:7";
+#[test]
+fn a_use_is_bound_while_the_conflict_is_cut(rt: HostRuntime) -> Result<(), Fail> {
+    let cut = "-2.2 1.1 lam param 2.1 pvar:y";
+    let told = told_with(rt.alloc(), &FUNCTION, cut, FUNCTION[3])?;
+    assert_eq!(rt; told, Some(("syn", "?", Mark::None)));
+    Ok(())
+}
 
 #[test]
 fn a_shared_vertex_is_judged_by_itself(rt: HostRuntime) -> Result<(), Fail> {
-    let mut live = after(rt.alloc(), &["+1.2 0.0 root main 1.1 plus", LEFT])?;
-    let num = live.marks.types().num();
+    let left = "+1.4 1.1 plus left 1.3 num:7";
     let shared = "+1.5 1.1 plus right 1.3 num:7";
-    let told = told_while_counting::<Brand>(&mut live, shared, LEFT, Blank::new(1))?;
-    assert!(rt; told == Some((Some(Mode::Syn), Some(num), Mark::None)));
-    let wanted = Some((Some(Mode::Ana(num)), Some(num), Mark::None));
-    assert!(rt; live.told(LEFT)? == wanted);
+    let lines = ["+1.2 0.0 root main 1.1 plus", left];
+    let told = told_with(rt.alloc(), &lines, shared, left)?;
+    assert_eq!(rt; told, Some(("syn", "num", Mark::None)));
     Ok(())
-}
-
-const FIRST: &str = "+2.1 1.5 snd of 1.3 fst";
-
-fn two_moves(alloc: Global) -> Result<Live, Fail> {
-    after(
-        alloc,
-        &[
-            "+1.2 0.0 root main 1.1 pair",
-            "-1.4 1.1 pair first 1.3 fst",
-            "-1.6 1.1 pair second 1.5 snd",
-            FIRST,
-            "+3.1 1.3 fst of 1.5 snd",
-        ],
-    )
 }
 
 #[test]
 fn two_moves_made_apart_leave_a_cycle(rt: HostRuntime) -> Result<(), Fail> {
-    let live = two_moves(rt.alloc())?;
-    let unknown = live.marks.types().unknown();
-    let told = live.told(FIRST)?;
-    assert!(rt; told == Some((Some(Mode::Syn), Some(unknown), Mark::None)));
+    let moved = "+2.1 1.5 snd of 1.3 fst";
+    let lines = [
+        "+1.2 0.0 root main 1.1 pair",
+        "-1.4 1.1 pair first 1.3 fst",
+        "-1.6 1.1 pair second 1.5 snd",
+        moved,
+        "+3.1 1.3 fst of 1.5 snd",
+    ];
+    let told = told_after(rt.alloc(), &lines, moved)?;
+    assert_eq!(rt; told, Some(("syn", "?", Mark::None)));
     Ok(())
 }

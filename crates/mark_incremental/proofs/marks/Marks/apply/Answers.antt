@@ -41,7 +41,7 @@ returns-in-Ok-clause-applied g c = record {
   raised = record {
     joined = λ e. c.raise-change.ensures.raised.joined e ∙ ap (λ s. state_join s (graph (c.args.edit.now ∷ []) e)) (c.reserve.ensures.graph e);
     change_is =
-      subst (λ s. IsChange s (state_of (edit_kind c.args.edit.now)) c.raise-change.result) (c.reserve.ensures.graph (edit_edge c.args.edit.now)) c.raise-change.ensures.raised.change_is;
+        subst (λ s. IsChange s (state_of (edit_kind c.args.edit.now)) c.raise-change.result) (c.reserve.ensures.graph (edit_edge c.args.edit.now)) c.raise-change.ensures.raised.change_is;
   };
   stood = c.requires.stand;
   renewed = c.in-Ok.ensures.old;

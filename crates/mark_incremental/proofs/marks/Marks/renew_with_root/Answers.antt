@@ -29,11 +29,11 @@ returns-in-Err-clause-grown g c =
     ∙ ap (cond (is_same_vertex c.args.root.now v) c.args.is_root) (ap is_some (c.reserve_for.ensures.unchanged v) ∙ ap (λ (marks : KeptMarks). holds marks.roots v) c.self.view_is) in
     record {
       types =
-        subst (λ (marks : KeptMarks). KeepsTypes c.args.self.now.types marks.types) (sym c.self-2.view_is)
-        (subst (λ (marks : KeptMarks). KeepsTypes marks.types c.renew_whole.new.self.types) c.self.view_is c.renew_whole.ensures.types);
+          subst (λ (marks : KeptMarks). KeepsTypes c.args.self.now.types marks.types) (sym c.self-2.view_is)
+          (subst (λ (marks : KeptMarks). KeepsTypes marks.types c.renew_whole.new.self.types) c.self.view_is c.renew_whole.ensures.types);
       contexts =
-        subst (λ (marks : KeptMarks). KeepsContexts c.args.self.now.contexts marks.contexts) (sym c.self-2.view_is)
-        (subst (λ (marks : KeptMarks). KeepsContexts marks.contexts c.renew_whole.new.self.contexts) c.self.view_is c.renew_whole.ensures.contexts);
+          subst (λ (marks : KeptMarks). KeepsContexts c.args.self.now.contexts marks.contexts) (sym c.self-2.view_is)
+          (subst (λ (marks : KeptMarks). KeepsContexts marks.contexts c.renew_whole.new.self.contexts) c.self.view_is c.renew_whole.ensures.contexts);
       records = λ v.
           ap (λ (marks : KeptMarks). value_at marks.records v) c.self-2.view_is ∙ c.in-Err.ensures.unchanged v ∙ ap (λ (marks : KeptMarks). value_at marks.records v) c.self.view_is;
       roots = λ v.
