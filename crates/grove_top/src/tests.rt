@@ -25,7 +25,15 @@ fn merged<R: Threads + Wait + Sync>(
     words.push(String::from_str(alloc, "merge")?)?;
     let mut source = MemorySource::new(text.to_vec(alloc)?, 1, [failing_read].to_vec(alloc)?);
     let mut sink = MemorySink::new(alloc, 4096, 4, [failing_write].to_vec(alloc)?)?;
-    let outcome = run(rt, alloc, HashSeed::FIXED, &words, &mut source, &mut sink, &OpenGate);
+    let outcome = run(
+        rt,
+        alloc,
+        HashSeed::FIXED,
+        &words,
+        &mut source,
+        &mut sink,
+        &OpenGate,
+    );
     Ok((outcome.status, sink.taken().to_vec(alloc)?))
 }
 
@@ -99,7 +107,15 @@ fn the_length_is_judged_before_the_text(rt: HostRuntime) -> Result<(), Fail> {
         let text = vec![in alloc; b'\n'; MOST_BYTES + more]?;
         let mut source = MemorySource::new(text, 65536, Vec::new(alloc));
         let mut sink = MemorySink::new(alloc, 64, 64, Vec::new(alloc))?;
-        let outcome = run(&rt, alloc, HashSeed::FIXED, &words, &mut source, &mut sink, &OpenGate);
+        let outcome = run(
+            &rt,
+            alloc,
+            HashSeed::FIXED,
+            &words,
+            &mut source,
+            &mut sink,
+            &OpenGate,
+        );
         if more == 0 {
             assert_eq!(rt;
                 outcome.status,
@@ -152,7 +168,15 @@ fn written<R: Threads + Wait + Sync>(
     words.push(String::from_str(alloc, word)?)?;
     let mut source = MemorySource::new(text.to_vec(alloc)?, 65536, Vec::new(alloc));
     let mut sink = MemorySink::new(alloc, 4_194_304, 65536, Vec::new(alloc))?;
-    let outcome = run(rt, alloc, HashSeed::FIXED, &words, &mut source, &mut sink, &OpenGate);
+    let outcome = run(
+        rt,
+        alloc,
+        HashSeed::FIXED,
+        &words,
+        &mut source,
+        &mut sink,
+        &OpenGate,
+    );
     match outcome.status {
         Status::Done => Ok(sink.taken().to_vec(alloc)?),
         _ => Err("the command is not done")?,
@@ -404,7 +428,15 @@ fn each_fault_of_a_session_is_told(rt: HostRuntime) -> Result<(), Fail> {
         text.extend_from_slice(line)?;
         let mut source = MemorySource::new(text, 7, Vec::new(alloc));
         let mut sink = MemorySink::new(alloc, 64, 64, Vec::new(alloc))?;
-        let outcome = run(&rt, alloc, HashSeed::FIXED, &words, &mut source, &mut sink, &OpenGate);
+        let outcome = run(
+            &rt,
+            alloc,
+            HashSeed::FIXED,
+            &words,
+            &mut source,
+            &mut sink,
+            &OpenGate,
+        );
         assert_eq!(rt; sink.taken(), want);
         assert_eq!(rt; exit_status(outcome.status), 3);
         assert_eq!(rt; outcome.journals.len(), 0);
@@ -425,7 +457,15 @@ fn generated<R: Threads + Wait + Sync>(
     }
     let mut source = MemorySource::new(Vec::new(alloc), 1, [1].to_vec(alloc)?);
     let mut sink = MemorySink::new(alloc, 4096, 64, Vec::new(alloc))?;
-    let outcome = run(rt, alloc, HashSeed::FIXED, &words, &mut source, &mut sink, &OpenGate);
+    let outcome = run(
+        rt,
+        alloc,
+        HashSeed::FIXED,
+        &words,
+        &mut source,
+        &mut sink,
+        &OpenGate,
+    );
     let written = sink.taken().to_vec(alloc)?;
     Ok((outcome.status, written, outcome.journals.len()))
 }

@@ -41,7 +41,10 @@ pub(crate) fn count_lines(calls: &mut Vec<u64>, authors: &[Declared], lines: &[L
 fn count_line(calls: &mut Vec<u64>, authors: &[Declared], author: u32)
     ensures { length calls.new.items ≡ length calls.old.items }
 {
-    let Some(index) = authors.iter().position(|declared| declared.author == author) else {
+    let Some(index) = authors
+        .iter()
+        .position(|declared| declared.author == author)
+    else {
         return;
     };
     if index < calls.len() {

@@ -125,7 +125,11 @@ impl Running {
             &calls,
             gate,
         )?;
-        count_lines(&mut calls, session.authors.as_slice(), block.lines.as_slice());
+        count_lines(
+            &mut calls,
+            session.authors.as_slice(),
+            block.lines.as_slice(),
+        );
         append_block(number, session.replicas.as_slice(), &made, &mut text)?;
         append_journals(number, made, &mut journals)?;
         Ok(Running {
