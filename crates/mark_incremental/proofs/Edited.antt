@@ -1,5 +1,5 @@
 -- Kept marks after an edit: what walks down made is put in place of the old records, over tables that have grown.
-use Rattle.std.proofs.Common.{◌≡◌, ◌⊎◌, inl, inr, Bool, true, false, cond, not, List, [], ◌∷◌, Option, Some, None, IfSome, refl, sym, ap, subst, ◌∙◌}
+use Rattle.std.proofs.Common.{◌≡◌, Bool, true, false, cond, not, List, [], ◌∷◌, IfSome, refl, sym, ap, subst, ◌∙◌}
 use Rattle.std.specs.Prelude.{◌||◌, filter}
 use Rattle.std.specs.List.{AllByRecursion}
 use Rattle.std.specs.Option.{option_map}
@@ -13,8 +13,7 @@ use Rattle.grove_edits.specs.Graph.{Graph, graph, graph_join, IsSame}
 use Rattle.walks.specs.declared.class.Class.TheVariants.{Inner}
 use Rattle.walks.specs.Class.{class, is_cycle_root}
 use Rattle.walks.specs.Walk.{walk}
-use Rattle.walks.specs.Whole.{AreLive, AreVertices, IsVertexOf}
-use Rattle.grove_terms.specs.Forest.{Forest}
+use Rattle.walks.specs.Whole.{AreLive}
 use Rattle.grove_terms.proofs.OneGrove.{one_live}
 use Rattle.grove_terms.proofs.WellSorted.{live_well_formed}
 use Rattle.type_core.specs.Typ.{Typ}
@@ -26,12 +25,11 @@ use Rattle.judging.proofs.Kept.{types-itself, contexts-itself}
 use Rattle.type_core.specs.TypeTable.{KeepsTypes}
 use Rattle.ctx_table.specs.Context.{Context}
 use Rattle.ctx_table.specs.CtxTable.{KeepsContexts}
-use Rattle.mark_step.specs.Expression.{Demanded}
-use Rattle.kept_records.specs.Kept.{Kept, Records, Stands, AreKept}
+use Rattle.kept_records.specs.Kept.{Kept, AreKept}
 use Rattle.kept_records.specs.Local.{is_inner}
 use Rattle.kept_records.specs.Change.{CyclesStay, is_on_walks}
-use Rattle.kept_records.specs.Renewal.{IsLeft, MakesTrees, AreAllInTrees, put}
-use Rattle.kept_records.proofs.OneSize.{same_graph, live_along, kept_along}
+use Rattle.kept_records.specs.Renewal.{MakesTrees, AreAllInTrees, put}
+use Rattle.kept_records.proofs.OneSize.{live_along, kept_along}
 use Rattle.mark_store.specs.declared.record.Record.{Record}
 use Rattle.mark_store.specs.Places.{Places, value_at}
 use Rattle.mark_incremental.specs.declared.passing.Ends.{Ends}
@@ -42,13 +40,13 @@ use Rattle.mark_incremental.specs.Passing.{AreWalks, HoldsThese}
 use Rattle.mark_incremental.specs.Raising.{AreIndexed}
 use Rattle.mark_incremental.specs.Standing.{KeptMarks, StandFor, records_in, put_in}
 use Rattle.mark_incremental.specs.Applying.{HaveGrown, WasBefore}
-use Rattle.mark_incremental.specs.Rooting.{IsChangedTo}
+use Rattle.mark_incremental.specs.Rooting.{IsChangedTo, IsOnlyRoot}
 use Rattle.mark_incremental.proofs.Growth.{records_kept, records_at-kept}
 use Rattle.mark_incremental.proofs.Raised.{raised_graph}
 use Rattle.mark_incremental.proofs.NearRenewed.{put_read, near_renewed}
-use Rattle.mark_incremental.proofs.Renewed.{not_inner, not_true}
-use Rattle.mark_incremental.proofs.WholeTrees.{all_trees_keep}
-use Rattle.mark_incremental.proofs.Roots.{changed_roots, was_root, roots_kept}
+use Rattle.mark_incremental.proofs.Renewed.{not_inner}
+use Rattle.mark_incremental.proofs.WholeTrees.{their_trees_keep}
+use Rattle.mark_incremental.proofs.Roots.{changed_roots, was_root, changed_alone, roots_kept}
 
 -- the heads among some vertices are no trees of others
 pub outer_among : (live : List Edge) (vs : List Vertex) → AllByRecursion (λ v. class live v ≡ Inner → ⊥) (filter (λ v. not (is_inner live v)) vs)
@@ -74,15 +72,36 @@ kept_same g live types ctxs places after same_values kept = subst (AreKept g liv
   same_records : records_at types ctxs places ≡ records_at types ctxs after
   same_records = λ j v. ap (option_map (kept_by types ctxs)) (sym (same_values v)) j
 
+-- the vertices on the walk up from the source, the target and one more
+pub these_with : (new : List Edge) (e : Edge) (target r : Vertex) → e.target ≡ target → (source : List Vertex) → source ≡ walk new e.source → (passed : Places Bool) (vertices : List Vertex) → ((v : Vertex) → holds passed v ≡ stands_in v vertices)
+    → ((v : Vertex) → holds passed v ≡ (is_same_vertex r v || (is_same_vertex target v || stands_in v source))) → (v : Vertex)
+    → stands_in v vertices ≡ (is_same_vertex r v || (is_same_vertex e.target v || stands_in v (walk new e.source)))
+these_with new e target r to source walked passed vertices these passes v =
+    sym (these v) ∙ passes v ∙ ap (λ t. is_same_vertex r v || (is_same_vertex t v || stands_in v source)) (sym to)
+    ∙ ap (λ vs. is_same_vertex r v || (is_same_vertex e.target v || stands_in v vs)) walked
+
+-- the vertices of the four walks are those on the walks
+pub on_four : (old new : List Edge) (e : Edge) (before late : Ends) → AreWalks old e before → AreWalks new e late → (passed : Places Bool)
+    → ((v : Vertex) → holds passed v
+    ≡ ((stands_in v before.source.vertices.items || stands_in v before.target.vertices.items) || (stands_in v late.source.vertices.items || stands_in v late.target.vertices.items)))
+    → (v : Vertex) → holds passed v ≡ is_on_walks e old new v
+on_four old new e before late walked walks passed passes v =
+    passes v
+    ∙ ap (λ vs. (stands_in v vs || stands_in v before.target.vertices.items) || (stands_in v late.source.vertices.items || stands_in v late.target.vertices.items)) walked.source
+    ∙ ap (λ vs. (stands_in v (walk old e.source) || stands_in v vs) || (stands_in v late.source.vertices.items || stands_in v late.target.vertices.items)) walked.target
+    ∙ ap (λ vs. (stands_in v (walk old e.source) || stands_in v (walk old e.target)) || (stands_in v vs || stands_in v late.target.vertices.items)) walks.source
+    ∙ ap (λ vs. (stands_in v (walk old e.source) || stands_in v (walk old e.target)) || (stands_in v (walk new e.source) || stands_in v vs)) walks.target
+
 module _ (edits : List Edit) (edit : Edit) (old new : List Edge) (are_old : AreLive (graph edits) old) (are_new : AreLive (graph (edit ∷ edits)) new)
     (types : List Typ) (ctxs : List Context) (places after : Places Record) (made : List (Vertex × Record)) (kept : AreKept (graph edits) old (records_at types ctxs places))
     (puts : (v : Vertex) → value_at after v ≡ put_in made (value_at places) v) where
   -- after an edit that makes or ends the root of a cycle
-  pub whole_renewed : ((heads : List Vertex) (all : List (Vertex × Kept)) → MakesTrees (λ v. true) new (records_at types ctxs places) heads all → AreAllInTrees new heads all) → (vertices : List Vertex) → AreVertices (graph (edit ∷ edits)) vertices → (passed : Places Bool) → HasMadeTrees new types ctxs places (on true passed) (filter (λ v. not (is_inner new v)) vertices) made
-      → AreKept (graph (edit ∷ edits)) new (records_at types ctxs after)
-  whole_renewed all_made vertices all passed trees =
+  pub whole_renewed : (r : Vertex) → IsOnlyRoot old new r → ((heads : List Vertex) (all : List (Vertex × Kept)) → MakesTrees (λ v. true) new (records_at types ctxs places) heads all → AreAllInTrees new heads all) → (vertices : List Vertex)
+      → ((v : Vertex) → stands_in v vertices ≡ (is_same_vertex r v || (is_same_vertex (edit_edge edit).target v || stands_in v (walk new (edit_edge edit).source)))) → (passed : Places Bool)
+      → HasMadeTrees new types ctxs places (on true passed) (filter (λ v. not (is_inner new v)) vertices) made → AreKept (graph (edit ∷ edits)) new (records_at types ctxs after)
+  whole_renewed r only all_made vertices are passed trees =
       subst (AreKept (graph (edit ∷ edits)) new) same_records
-      (all_trees_keep edits edit old new are_old are_new vertices all.each all.no_other (records_at types ctxs places) kept (meant types ctxs made)
+      (their_trees_keep edits edit old new are_old are_new r only vertices are (records_at types ctxs places) kept (meant types ctxs made)
       (all_made (filter (λ v. not (is_inner new v)) vertices) (meant types ctxs made) (trees (records_at types ctxs places) (λ v. refl) leaves))) where
         leaves : LeavesRight new (on true passed) (records_at types ctxs places)
         leaves u us v f d stands left = let clash : true ≡ false = left.0 in absurd cc
@@ -96,14 +115,8 @@ module _ (edits : List Edit) (edit : Edit) (old new : List Edge) (are_old : AreL
       ≡ ((stands_in v before.source.vertices.items || stands_in v before.target.vertices.items) || (stands_in v late.source.vertices.items || stands_in v late.target.vertices.items)))
       → HasMadeTrees new types ctxs places (on false passed) (filter (λ v. not (is_inner new v)) vertices) made → AreKept (graph (edit ∷ edits)) new (records_at types ctxs after)
   near_renewed_by before late stay walked walks passed vertices these passes trees =
-      near_renewed edits edit old new are_old are_new stay types ctxs places after passed vertices made kept these on_walks trees puts where
-        on_walks : (v : Vertex) → holds passed v ≡ is_on_walks (edit_edge edit) old new v
-        on_walks v =
-            passes v
-            ∙ ap (λ vs. (stands_in v vs || stands_in v before.target.vertices.items) || (stands_in v late.source.vertices.items || stands_in v late.target.vertices.items)) walked.source
-            ∙ ap (λ vs. (stands_in v (walk old (edit_edge edit).source) || stands_in v vs) || (stands_in v late.source.vertices.items || stands_in v late.target.vertices.items)) walked.target
-            ∙ ap (λ vs. (stands_in v (walk old (edit_edge edit).source) || stands_in v (walk old (edit_edge edit).target)) || (stands_in v vs || stands_in v late.target.vertices.items)) walks.source
-            ∙ ap (λ vs. (stands_in v (walk old (edit_edge edit).source) || stands_in v (walk old (edit_edge edit).target)) || (stands_in v (walk new (edit_edge edit).source) || stands_in v vs)) walks.target
+      near_renewed edits edit old new are_old are_new stay types ctxs places after passed vertices made kept these
+      (on_four old new (edit_edge edit) before late walked walks passed passes) trees puts
 
 -- ---- from before an edit to after it
 
@@ -137,6 +150,9 @@ module _ (e : Edge) (g : Graph) (marks : KeptMarks) (ends : Ends) (was : WasBefo
     pub rooted_before : (r : Vertex) (b : Bool) → IsChangedTo e.target ends late r b → holds marks.roots r ≡ not b
     rooted_before r b is = was.rooted r ∙ was_root was.edits was.edit was.live new was.are_live new_live ends late walked walk_on r b (changed_to r b is)
 
+    pub only_root : (r : Vertex) (b : Bool) → IsChangedTo e.target ends late r b → IsOnlyRoot was.live new r
+    only_root r b is = changed_alone was.edits was.edit was.live new was.are_live new_live ends late walked walk_on r b (changed_to r b is)
+
   pub stands_after : (after : KeptMarks) → AreKept (graph (was.edit ∷ was.edits)) new (records_in after) → AreRoots new after.roots → AreRecordsOf after.types after.contexts after.records → StandFor g after
   stands_after after kept rooted numbers = record {
     edits = was.edit ∷ was.edits;
@@ -149,12 +165,12 @@ module _ (e : Edge) (g : Graph) (marks : KeptMarks) (ends : Ends) (was : WasBefo
   }
 
 -- marks that stand for a graph stand for the one before an edit that is raised in it
-pub stands_before : (edit : Edit) (g same_as h : Graph) (live : List Edge) (marks : KeptMarks) (ends : Ends) → StandFor g marks → IsSame same_as g → AreLive same_as live → IsSame h (graph_join same_as (graph (edit ∷ [])))
-    → AreWalks live (edit_edge edit) ends → WasBefore (edit_edge edit) h marks ends
-stands_before edit g same_as h live marks ends stands same are joined walks = record {
+abbrev pub stands_before : (edit : Edit) (e : Edge) → edit_edge edit ≡ e → (g same_as h : Graph) (live : List Edge) (marks : KeptMarks) (ends : Ends) → StandFor g marks → IsSame same_as g → AreLive same_as live
+    → IsSame h (graph_join same_as (graph (edit ∷ []))) → AreWalks live e ends → WasBefore e h marks ends
+stands_before edit e of_edge g same_as h live marks ends stands same are joined walks = record {
   edits = stands.edits;
   edit = edit;
-  of_edge = refl;
+  of_edge = of_edge;
   made = raised_graph stands.edits edit same_as h (λ e. same e ∙ stands.made e) joined;
   live = live;
   are_live = live_along g (graph stands.edits) live stands.made (live_along same_as g live same are);

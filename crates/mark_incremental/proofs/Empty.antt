@@ -1,15 +1,14 @@
 -- The marks of the empty graph: the record of its root.
-use Rattle.std.proofs.Common.{◌≡◌, ◌⊎◌, inl, inr, ◌<◌, ℕ, Bool, true, false, cond, List, [], ◌∷◌, map, length, Option, Some, None, IfSome, is_some, refl, sym, ap, subst, ◌∙◌, arith}
+use Rattle.std.proofs.Common.{◌≡◌, inl, inr, Bool, true, false, cond, List, [], Some, None, IfSome, is_some, refl, sym, ap, subst, ◌∙◌, arith}
 use Rattle.std.specs.Option.{option_map}
 use Rattle.edge_lattice.specs.declared.state.State.TheVariants.{Absent, Live}
 use Rattle.grove_edits.specs.declared.vertex.Vertex.{Vertex}
-use Rattle.grove_edits.specs.declared.edge.Edge.{Edge}
 use Rattle.grove_edits.specs.Vertex.{is_same_vertex, root}
 use Rattle.grove_edits.specs.Graph.{Graph}
 use Rattle.grove_edits.proofs.Vertices.{same_vertex_exact, same_vertex_itself}
 use Rattle.walks.specs.declared.class.Class.TheVariants.{NoParent, Inner}
 use Rattle.walks.specs.Class.{class}
-use Rattle.walks.specs.Whole.{AreLive, IsVertexOf}
+use Rattle.walks.specs.Whole.{IsVertexOf}
 use Rattle.grove_terms.specs.Forest.{none}
 use Rattle.type_core.specs.Typ.{Typ}
 use Rattle.ctx_table.specs.declared.ctx_id.CtxId.{CtxId}
@@ -17,12 +16,11 @@ use Rattle.ctx_table.specs.Context.{Context}
 use Rattle.ctx_table.specs.CtxTable.{context_at, IsContextOf}
 use Rattle.mark_step.specs.declared.node.Mark.TheVariants as mark
 use Rattle.mark_step.specs.Scope.{scope_of, IsTyped}
-use Rattle.kept_records.specs.Kept.{Kept, AreKept, IsKeptOf, alone, kept_plain}
+use Rattle.kept_records.specs.Kept.{Kept, IsKeptOf, alone, kept_plain}
 use Rattle.mark_store.specs.declared.record.Record.{Record}
 use Rattle.mark_store.specs.Places.{Places, value_at}
 use Rattle.mark_incremental.specs.Reading.{kept_by, IsRecordOf, records_at, AreRecordsOf}
-use Rattle.mark_incremental.specs.Looking.{holds, AreRoots}
-use Rattle.mark_incremental.specs.Standing.{KeptMarks, StandFor}
+use Rattle.mark_incremental.specs.Standing.{StandFor}
 
 abbrev nothing_there : Graph
 nothing_there e = Absent

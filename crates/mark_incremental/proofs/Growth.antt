@@ -1,28 +1,21 @@
 -- What is open and what is made stands for the same over tables that keep the meaning of their numbers.
-use Rattle.std.proofs.Common.{◌≡◌, ℕ, List, [], ◌∷◌, ◌++◌, take, drop, length, map, Option, Some, None, IfSome, refl, sym, ap, subst, ◌∙◌, arith}
+use Rattle.std.proofs.Common.{◌≡◌, List, [], ◌∷◌, take, drop, Option, Some, None, IfSome, refl, sym, ap, subst, ◌∙◌}
 use Rattle.std.specs.Option.{option_map}
 use Rattle.grove_sorts.specs.declared.position.Position.{Position}
 use Rattle.grove_sorts.specs.declared.sort.Sort.{Sort}
 use Rattle.grove_sorts.specs.Ctor.{positions, sort_of_ctor}
 use Rattle.grove_edits.specs.declared.vertex.Vertex.{Vertex}
 use Rattle.grove_edits.specs.declared.edge.Edge.{Edge}
-use Rattle.type_core.specs.declared.type_id.TypeId.{TypeId}
 use Rattle.type_core.specs.Typ.{Typ}
 use Rattle.type_core.specs.TypeTable.{IsTypeOf, type_at, KeepsTypes}
-use Rattle.ctx_table.specs.declared.ctx_id.CtxId.{CtxId}
 use Rattle.ctx_table.specs.Context.{Context}
 use Rattle.ctx_table.specs.CtxTable.{KeepsContexts}
-use Rattle.mark_step.specs.declared.node.Mode.{Mode}
-use Rattle.mark_step.specs.declared.node.Mark.{Mark}
 use Rattle.mark_step.specs.Scope.{Scope, scope_at}
 use Rattle.mark_step.specs.Expression.{Wanted, Demanded}
 use Rattle.mark_step.specs.Node.{wanted_at, demanded_at, IsModeOf}
-use Rattle.judging.specs.Machine as machine
-use Rattle.judging.specs.Frames.{given_at, opened_at}
 use Rattle.judging.proofs.Kept.{number_kept, mode_kept, wanted_kept, scope_kept, scope_at-kept, demand_kept, demanded_at-kept, open_kept, opened_at-kept, given_kept}
 use Rattle.judging.proofs.Running.{Agree, after}
 use Rattle.kept_records.specs.Kept.{Kept, Records, expression_of}
-use Rattle.kept_records.specs.Numbers.{kept_at}
 use Rattle.mark_store.specs.declared.record.Record.{Record}
 use Rattle.mark_store.specs.Places.{Places, value_at}
 use Rattle.mark_incremental.specs.declared.frame.Frame.{Frame}

@@ -1,7 +1,6 @@
 -- An open vertex as its frame keeps it, from step to step.
-use Rattle.std.proofs.Common.{◌≡◌, ◌⊎◌, inl, inr, ℕ, zero, suc, ◌+◌, ◌<◌, Bool, true, false, cond, List, [], ◌∷◌, ◌++◌, take, drop, length, map, refl, sym, ap, subst, ◌∙◌, append_assoc, append-nil, length-append, arith}
+use Rattle.std.proofs.Common.{◌≡◌, ◌⊎◌, inl, inr, ℕ, zero, suc, ◌+◌, ◌<◌, Bool, true, false, cond, List, [], ◌∷◌, ◌++◌, take, drop, length, refl, sym, ap, subst, ◌∙◌, append_assoc, length-append, arith}
 use Rattle.std.specs.Prelude.{if◌then◌else◌}
-use Rattle.grove_sorts.specs.declared.ctor.Ctor.{Ctor}
 use Rattle.grove_sorts.specs.declared.position.Position.{Position}
 use Rattle.grove_sorts.specs.declared.sort.Sort.{Sort}
 use Rattle.grove_sorts.specs.declared.sort.Sort.TheVariants.{Top, Exp, Pat, Typ as TypeSort}
@@ -9,7 +8,7 @@ use Rattle.grove_sorts.specs.Ctor.{positions, sort_of_ctor}
 use Rattle.grove_edits.specs.declared.vertex.Vertex.{Vertex}
 use Rattle.grove_edits.specs.declared.edge.Edge.{Edge}
 use Rattle.walks.specs.Live.{children_of}
-use Rattle.grove_terms.specs.Forest.{Forest, child_edges, edges_from, edges_under, StandsUnder}
+use Rattle.grove_terms.specs.Forest.{Forest, child_edges, edges_from}
 use Rattle.grove_terms.specs.Nodes.{count_at}
 use Rattle.type_core.specs.Typ.{Typ}
 use Rattle.type_core.specs.TypeTable.{KeepsTypes}
@@ -21,17 +20,17 @@ use Rattle.mark_step.specs.declared.node.Demand.{Demand}
 use Rattle.mark_step.specs.Node as node
 use Rattle.mark_step.specs.Node.{IsDemandOf}
 use Rattle.marking.specs.Types.{tree_type}
-use Rattle.marking.specs.Marking.{types_at, judged_in, children_types, synthesised_in}
+use Rattle.marking.specs.Marking.{judged_in, children_types}
 use Rattle.mark_step.specs.Step.{settled}
 use Rattle.judging.specs.declared.frame.Given.{Given}
 use Rattle.judging.specs.declared.frame.OpenVertex.{OpenVertex}
 use Rattle.judging.specs.Machine as machine
-use Rattle.judging.specs.Frames.{given_at, opened_at, left_of, filled_with, IsOpenOf, IsGivenOf}
+use Rattle.judging.specs.Frames.{given_at, opened_at, left_of, filled_with, IsOpenOf}
 use Rattle.judging.proofs.Kept.{demanded_at-kept, opened_at-kept}
 use Rattle.judging.proofs.Filling.{opened_filled}
 use Rattle.judging.proofs.Running as running
 use Rattle.judging.proofs.Running.{Agree, after, places_give, places_give-append, one_more, all_taken, all_demand, settled_whole, made_known}
-use Rattle.kept_records.specs.Kept.{Kept, kept_of, kept_as, kept_expression, kept_type, expression_of, demanded_at, demanded_among, types_before, Stands}
+use Rattle.kept_records.specs.Kept.{Kept, kept_of, kept_as, kept_expression, kept_type, expression_of, demanded_among, types_before, Stands}
 use Rattle.kept_records.proofs.Standing.{stands_under}
 use Rattle.kept_records.proofs.Before.{types_before_row, count_at_position}
 use Rattle.mark_incremental.specs.declared.frame.Frame.{Frame}

@@ -23,3 +23,7 @@ pub mod Empty
 pub mod Room
 pub mod Least
 pub mod Outcomes
+pub mod OneHead
+pub mod Concerned
+pub mod WholeCost
+pub mod SizeBound

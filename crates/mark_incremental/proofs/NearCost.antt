@@ -1,14 +1,12 @@
 -- What a walk down counts after an edit is within the size of the edit.
-use Rattle.std.proofs.Common.{◌≡◌, ◌⊎◌, inl, ℕ, ◌+◌, ◌*◌, ◌≤◌, Bool, true, false, not, List, [], ◌∷◌, length, refl, sym, subst, ◌∙◌, arith}
+use Rattle.std.proofs.Common.{◌≡◌, inl, ℕ, ◌+◌, ◌*◌, ◌≤◌, Bool, true, false, not, List, [], ◌∷◌, length, refl, sym, ap, subst, ◌∙◌, arith}
 use Rattle.std.specs.Prelude.{filter}
 use Rattle.std.specs.List.{sum_by}
-use Rattle.std.proofs.lemmas.Bool.{or_left, or_right}
 use Rattle.std.proofs.lemmas.List.Sums.{sum_by-cons}
 use Rattle.grove_edits.specs.declared.vertex.Vertex.{Vertex}
 use Rattle.grove_edits.specs.declared.edge.Edge.{Edge}
 use Rattle.grove_edits.specs.declared.edit.Edit.{Edit}
 use Rattle.grove_edits.specs.Edit.{edit_edge}
-use Rattle.grove_edits.specs.Vertex.{is_same_vertex, stands_in}
 use Rattle.grove_edits.specs.Graph.{graph}
 use Rattle.walks.specs.Whole.{AreLive}
 use Rattle.grove_terms.specs.declared.node.Node.{Node}
@@ -78,6 +76,17 @@ module _ (edits : List Edit) (edit : Edit) (old new : List Edge) (are_old : AreL
             let rest = one_each vs in
             let here = sum_by-cons (change.weight old new) v vs in
             omega (arith, rest, here)
+
+    -- both, with three for each vertex on the walks
+    pub near_ticked : CyclesStay old new → AreKept (graph edits) old (records_at types ctxs places) → (listed : List Vertex) → listed ≡ vertices → (start end : ℕ)
+        → ((most : ℕ) → ((before after : ℕ) → AreTreesPaidFor new types ctxs places (on false passed) (filter (λ v. not (is_inner new v)) listed) before after → after ≤ before + most) → end ≤ start + 3 * length listed + most)
+        → end ≤ start + 8 * near_size old new near
+    near_ticked stay kept listed same start end ticked =
+        let few = few_walked in
+        let long : length listed ≡ length vertices = ap length same in
+        let all = ticked (5 * near_size old new near)
+        (λ before after paid. near_counted stay kept before after (subst (λ vs. AreTreesPaidFor new types ctxs places (on false passed) (filter (λ v. not (is_inner new v)) vs) before after) same paid)) in
+        omega (arith, few, long, all)
 
 -- walks down whole trees, which make the records of all that stands in them
 pub whole_counted : ((new : List Edge) (records : Records) (heads : List Vertex) (made : List (Vertex × Kept)) → MakesTrees (λ v. true) new records heads made → AreAllInTrees new heads made) → (edits : List Edit) (live : List Edge) → AreLive (graph edits) live → (types : List Typ) (ctxs : List Context) (places : Places Record) (passed : Places Bool) (heads : List Vertex) (before after : ℕ)

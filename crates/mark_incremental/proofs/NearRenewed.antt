@@ -1,17 +1,17 @@
 -- The records that are kept after an edit.
-use Rattle.std.proofs.Common.{◌≡◌, Bool, true, false, cond, not, List, [], ◌∷◌, Option, Some, None, refl, sym, ap, subst, ◌∙◌}
-use Rattle.std.specs.Prelude.{◌||◌, filter}
+use Rattle.std.proofs.Common.{◌≡◌, Bool, true, false, cond, not, List, [], ◌∷◌, Option, Some, refl, sym, ap, subst, ◌∙◌}
+use Rattle.std.specs.Prelude.{filter}
 use Rattle.std.specs.Option.{option_map}
 use Rattle.grove_edits.specs.declared.vertex.Vertex.{Vertex}
 use Rattle.grove_edits.specs.declared.edge.Edge.{Edge}
 use Rattle.grove_edits.specs.declared.edit.Edit.{Edit}
 use Rattle.grove_edits.specs.Edit.{edit_edge}
-use Rattle.grove_edits.specs.Vertex.{is_same_vertex, stands_in}
+use Rattle.grove_edits.specs.Vertex.{is_same_vertex}
 use Rattle.grove_edits.specs.Graph.{graph}
 use Rattle.walks.specs.Whole.{AreLive}
 use Rattle.type_core.specs.Typ.{Typ}
 use Rattle.ctx_table.specs.Context.{Context}
-use Rattle.kept_records.specs.Kept.{Kept, Records, AreKept}
+use Rattle.kept_records.specs.Kept.{AreKept}
 use Rattle.kept_records.specs.Local.{is_inner}
 use Rattle.kept_records.specs.Change.{CyclesStay, is_on_walks}
 use Rattle.kept_records.specs.Renewal.{MakesTrees, put}

@@ -12,9 +12,8 @@ use Rattle.grove_edits.specs.Edit.{edit_edge, edit_kind}
 use Rattle.grove_edits.specs.Graph.{Graph, graph, graph_join, is_same_edge, IsSame, state_of}
 use Rattle.grove_edits.proofs.Orders.{one_edge}
 use Rattle.grove_terms.proofs.InLive.{same_edge_itself}
-use Rattle.walks.specs.Live.{IsInEdgeOrder, holds_edge}
+use Rattle.walks.specs.Live.{holds_edge}
 use Rattle.walks.specs.Whole.{AreLive}
-use Rattle.graph_store.specs.declared.change.Change.{Change}
 use Rattle.graph_store.specs.declared.change.Change.TheVariants.{Same, Raised}
 use Rattle.graph_store.specs.Change.{IsChange}
 use Rattle.graph_store.specs.Store.{with_state}

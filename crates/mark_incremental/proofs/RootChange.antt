@@ -1,5 +1,5 @@
 -- Which vertices are the roots of cycles after an edit that makes or ends one.
-use Rattle.std.proofs.Common.{◌≡◌, Bool, true, false, cond, List, ◌∷◌, refl, sym, ap, subst, ◌∙◌}
+use Rattle.std.proofs.Common.{◌≡◌, Bool, true, false, cond, List, ◌∷◌, refl, sym, ap, ◌∙◌}
 use Rattle.grove_edits.specs.declared.vertex.Vertex.{Vertex}
 use Rattle.grove_edits.specs.declared.edge.Edge.{Edge}
 use Rattle.grove_edits.specs.declared.edit.Edit.{Edit}
@@ -11,7 +11,6 @@ use Rattle.walks.specs.Class.{is_cycle_root}
 use Rattle.walks.specs.Whole.{AreLive}
 use Rattle.unicycle_roots.specs.Met.{is_on_cycle, leads_to}
 use Rattle.unicycle_roots.proofs.Cycles.{one_root, reaches_from_leads}
-use Rattle.kept_records.specs.Change.{CyclesStay}
 use Rattle.kept_records.proofs.Edited.{root_ends, root_begins, root_ended, root_begun}
 
 two_ways : (b : Bool) → b ≡ true → b ≡ false → ⊥

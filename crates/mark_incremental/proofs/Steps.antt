@@ -1,16 +1,15 @@
 -- The steps of a walk down a tree.
-use Rattle.std.proofs.Common.{◌≡◌, ◌⊎◌, inl, inr, ℕ, zero, suc, ◌+◌, ◌<◌, Bool, true, false, cond, List, [], ◌∷◌, ◌++◌, take, drop, length, map, Option, Some, None, refl, sym, ap, subst, ◌∙◌, append_assoc, length-append, arith}
+use Rattle.std.proofs.Common.{◌≡◌, ◌⊎◌, inl, inr, ℕ, zero, suc, ◌<◌, Bool, true, false, cond, List, [], ◌∷◌, ◌++◌, take, drop, length, Option, Some, None, refl, sym, ap, subst, ◌∙◌, append_assoc, length-append, arith}
 use Rattle.std.specs.Prelude.{◌||◌, ◌&&◌, slice_get, unwrap_or, filter, reverse}
 use Rattle.std.specs.Option.{option_map}
 use Rattle.std.specs.List.{AllByRecursion}
 use Rattle.std.proofs.lemmas.List.{map-append, reverse-append}
-use Rattle.grove_sorts.specs.declared.ctor.Ctor.{Ctor}
 use Rattle.grove_sorts.specs.declared.position.Position.{Position}
 use Rattle.grove_sorts.specs.declared.sort.Sort.{Sort}
 use Rattle.grove_sorts.specs.declared.sort.Sort.TheVariants.{Top, Exp, Pat, Typ as TypeSort}
 use Rattle.grove_sorts.specs.Ctor.{positions, sort_of_ctor, sort_at}
 use Rattle.grove_sorts.specs.Position.{is_same_position}
-use Rattle.grove_sorts.proofs.Orders.{one_position, same_position_laws}
+use Rattle.grove_sorts.proofs.Orders.{one_position}
 use Rattle.grove_sorts.proofs.Rows.{places_found}
 use Rattle.grove_edits.specs.declared.vertex.Vertex.{Vertex}
 use Rattle.grove_edits.specs.declared.edge.Edge.{Edge}
@@ -22,7 +21,7 @@ use Rattle.grove_edits.proofs.Orders.{one_edge}
 use Rattle.walks.specs.declared.class.Class.TheVariants.{Inner}
 use Rattle.walks.specs.Class.{class}
 use Rattle.walks.specs.Live.{children_of, holds_edge}
-use Rattle.grove_terms.specs.Forest.{Forest, none, tree, child_edges, edges_from, edges_under, AreChildren, StandsUnder}
+use Rattle.grove_terms.specs.Forest.{Forest, none, tree, child_edges, edges_from, AreChildren, StandsUnder}
 use Rattle.grove_terms.specs.Nodes.{count_at}
 use Rattle.grove_terms.proofs.InLive.{IsFromPlace, children_lead}
 use Rattle.type_core.specs.Typ.{Typ, Unknown}
@@ -31,24 +30,21 @@ use Rattle.ctx_table.specs.Context.{Context}
 use Rattle.ctx_table.specs.CtxTable.{KeepsContexts}
 use Rattle.mark_step.specs.declared.node.Demand.{Demand}
 use Rattle.mark_step.specs.declared.node.Mode.{Mode}
-use Rattle.mark_step.specs.declared.node.Mode.TheVariants.{Syn, Ana}
-use Rattle.mark_step.specs.declared.node.Mark.{Mark}
-use Rattle.mark_step.specs.Scope.{Scope, scope_at}
-use Rattle.mark_step.specs.Expression.{Wanted, Synthesise, Expression, Demanded, Marked}
+use Rattle.mark_step.specs.declared.node.Mode.TheVariants.{Syn}
+use Rattle.mark_step.specs.Scope.{scope_at}
+use Rattle.mark_step.specs.Expression.{Wanted, Synthesise, Demanded}
 use Rattle.mark_step.specs.Step.{demand, settled}
 use Rattle.mark_step.specs.Node as node
 use Rattle.mark_step.specs.Node.{wanted_at}
-use Rattle.marking.specs.Types.{if_sole, child_type, child_name, tree_type, pattern_name}
-use Rattle.marking.specs.Marking.{judged_child, judged_in, types_at, children_types}
+use Rattle.marking.specs.Types.{if_sole, child_type, tree_type}
+use Rattle.marking.specs.Marking.{judged_child, judged_in, children_types}
 use Rattle.judging.specs.declared.frame.Given.{Given}
-use Rattle.judging.specs.declared.frame.OpenVertex.{OpenVertex}
 use Rattle.judging.specs.Machine as machine
-use Rattle.judging.specs.Frames.{given_at, opened_at, left_of, filled_with, IsOpenOf, IsGivenOf}
-use Rattle.judging.proofs.Kept.{demanded_at-kept, opened_at-kept}
+use Rattle.judging.specs.Frames.{given_at, opened_at, left_of, filled_with, IsOpenOf}
 use Rattle.judging.proofs.Running as running
 use Rattle.judging.proofs.Running.{Agree, after, given_tree, all_taken, gives_whole}
 use Rattle.kept_records.specs.Renewal.{MakesUnder}
-use Rattle.kept_records.specs.Kept.{Kept, Records, alone, kept_of, kept_as, expression_of, demanded_at, demanded_among, types_before, IsTreeIn, Stands}
+use Rattle.kept_records.specs.Kept.{Kept, Records, alone, kept_of, kept_as, expression_of, demanded_among, types_before, IsTreeIn, Stands}
 use Rattle.kept_records.specs.Local.{kept_demand}
 use Rattle.kept_records.specs.Renewal as renewal
 use Rattle.kept_records.proofs.Children.{IsTreeOf, children_are_of, tree_inner}
@@ -58,12 +54,12 @@ use Rattle.kept_records.proofs.Sole.{judged_sole, type_sole, child_name_sole, ju
 use Rattle.kept_records.proofs.Decided.{demanded_or}
 use Rattle.kept_records.proofs.Decided as decided
 use Rattle.mark_store.specs.declared.record.Record.{Record}
-use Rattle.mark_store.specs.Places.{Places, value_at}
+use Rattle.mark_store.specs.Places.{Places}
 use Rattle.mark_incremental.specs.declared.frame.Frame.{Frame}
-use Rattle.mark_incremental.specs.Reading.{kept_by, records_at, AreRecordsOf, demand_of}
-use Rattle.mark_incremental.specs.Looking.{IsFound, IsLeftAs, given_in, given_by_kept, HasToBeJudged, in_set, unknown, demanded}
-use Rattle.mark_incremental.specs.Walking.{Level, demands, made_of, behind, IsTail, IsBelow, AreLinked, Awaits, GoesOn, asked, given_there, GivesFirst, IsAtPlace, IsFrameOf, AreFramesOf, IsLevel, AreWaiting, AreLevels, IsAccepted, IsBetween, IsBegun, IsHanded, IsSettled, kept_closed, meant, AreMadeOf, ReadsAs, LeavesRight, HasMade, IsOnWay, IsUnderWay}
-use Rattle.mark_incremental.proofs.Tails.{tail_itself, tail_tree, tail_children, first_reference, first_tree, BeginsWithTree, none_left, past, past_left, down, up}
+use Rattle.mark_incremental.specs.Reading.{kept_by, AreRecordsOf, demand_of}
+use Rattle.mark_incremental.specs.Looking.{IsFound, given_in, given_by_kept, HasToBeJudged, in_set, unknown, demanded}
+use Rattle.mark_incremental.specs.Walking.{Level, demands, made_of, behind, IsTail, IsBelow, AreLinked, Awaits, GoesOn, asked, GivesFirst, IsAtPlace, AreFramesOf, IsLevel, AreWaiting, AreLevels, IsAccepted, IsBetween, IsBegun, IsHanded, IsSettled, kept_closed, meant, AreMadeOf, ReadsAs, LeavesRight, HasMade, IsOnWay, IsUnderWay}
+use Rattle.mark_incremental.proofs.Tails.{tail_tree, tail_children, first_reference, first_tree, BeginsWithTree, none_left, past, past_left, down, up}
 use Rattle.mark_incremental.proofs.Growth.{reads_as-kept, meant-kept, levels_kept, level_kept}
 use Rattle.mark_incremental.proofs.Levels.{drop_cases, accepted, begun, fresh_between, filled_between, closed_is}
 

@@ -1,5 +1,5 @@
 -- The children that are left of a vertex, and what is made for them.
-use Rattle.std.proofs.Common.{◌≡◌, ◌⊎◌, inl, inr, ℕ, Bool, List, [], ◌∷◌, ◌++◌, refl, sym, ap, subst, ◌∙◌, append_assoc, append-nil}
+use Rattle.std.proofs.Common.{◌≡◌, inl, inr, Bool, List, [], ◌∷◌, ◌++◌, refl, sym, ap, subst, ◌∙◌, append_assoc, append-nil}
 use Rattle.grove_sorts.specs.declared.position.Position.{Position}
 use Rattle.grove_edits.specs.declared.vertex.Vertex.{Vertex}
 use Rattle.grove_edits.specs.declared.edge.Edge.{Edge}
@@ -10,7 +10,7 @@ use Rattle.grove_terms.specs.Forest.{Forest, none, multi_ref, cycle_ref, tree, c
 use Rattle.mark_step.specs.Expression.{Demanded}
 use Rattle.kept_records.specs.Kept.{Kept, Records, IsTreeIn}
 use Rattle.kept_records.specs.Renewal.{HasToBeJudged, IsLeft, MakesUnder}
-use Rattle.mark_incremental.specs.Walking.{Level, demands, made_of, behind, IsTail, IsBelow, Awaits, GoesOn}
+use Rattle.mark_incremental.specs.Walking.{Level, demands, made_of, behind, IsTail, Awaits, GoesOn}
 
 -- ---- tails of children
 

@@ -1,5 +1,5 @@
 -- Inner model, which no public contract cites: a walk up from a vertex, as far as it has gone.
-use Rattle.std.specs.Prelude.{◌≡◌, Bool, List, [], ◌∷◌, ◌++◌, Some}
+use Rattle.std.specs.Prelude.{◌≡◌, Bool, List, [], ◌∷◌, ◌++◌}
 use Rattle.grove_edits.specs.declared.vertex.Vertex.{Vertex}
 use Rattle.grove_edits.specs.declared.edge.Edge.{Edge}
 use Rattle.grove_edits.specs.Vertex.{stands_in}
@@ -10,13 +10,16 @@ use Rattle.kept_records.specs.Change.{StandOnce}
 use Rattle.mark_store.specs.Places.{Places}
 use Rattle.mark_incremental.specs.Looking.{holds}
 
--- These vertices, which the set holds, are the first of the walk, and this is the last of them.
+-- These vertices, which the set holds, are the first of the walk, and this is the last of them. Others are left.
 pub record IsUpTo (live : List Edge) (start at : Vertex) (passed : Places Bool) (vertices : List Vertex) : Type 0 where
   pub known : List Vertex
   pub same : (v : Vertex) → holds passed v ≡ stands_in v known
   pub front : List Vertex
   pub last : vertices ≡ front ++ at ∷ []
   pub goes_on : (later : List Vertex) → GoesOn live known (above live at) later → IsWalk live start (vertices ++ later)
+  pub left : List Vertex
+  pub whole : walk live start ≡ vertices ++ left
+  pub ends : GoesOn live known (above live at) left
 
 -- the set has these vertices, each once
 pub record HoldsThese (passed : Places Bool) (vertices : List Vertex) : Type 0 where

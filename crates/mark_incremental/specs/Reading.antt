@@ -1,5 +1,5 @@
 -- What the records of a store stand for over the tables of types and of contexts.
-use Rattle.std.specs.Prelude.{List, Option, None, Some, IfSome, unwrap_or}
+use Rattle.std.specs.Prelude.{List, IfSome, unwrap_or}
 use Rattle.std.specs.Option.{option_map}
 use Rattle.grove_edits.specs.declared.vertex.Vertex.{Vertex}
 use Rattle.type_core.specs.Typ.{Typ}

@@ -2,7 +2,9 @@
 use Rattle.std.specs.Prelude.{◌≡◌, ◌⊎◌, Bool, true, false, List, Option, None, Some}
 use Rattle.std.specs.Ordering.{is_gt}
 use Rattle.grove_edits.specs.declared.vertex.Vertex.{Vertex}
+use Rattle.grove_edits.specs.declared.edge.Edge.{Edge}
 use Rattle.grove_edits.specs.Vertex.{vertex_cmp, stands_in}
+use Rattle.walks.specs.Class.{is_cycle_root}
 use Rattle.mark_incremental.specs.declared.passing.Ends.{Ends}
 
 -- the vertex is the least of another one and some further ones
@@ -19,3 +21,8 @@ IsChangedTo target before after root false = (before.target.comes_back ≡ true)
 abbrev pub IsChangedRoot : Vertex → Ends → Ends → Option (Vertex × Bool) → Type 0
 IsChangedRoot target before after None = before.target.comes_back ≡ after.target.comes_back
 IsChangedRoot target before after (Some m) = IsChangedTo target before after m.0 m.1
+
+-- one vertex alone is the root of a cycle in one of two graphs and not in the other
+pub record IsOnlyRoot (old new : List Edge) (r : Vertex) : Type 0 where
+  pub moves : is_cycle_root old r ≡ is_cycle_root new r → ⊥
+  pub alone : (v : Vertex) → (is_cycle_root old v ≡ is_cycle_root new v → ⊥) → v ≡ r

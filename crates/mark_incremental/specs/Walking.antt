@@ -1,5 +1,5 @@
 -- Inner model, which no public contract cites: a walk down a tree, by the vertices that are open.
-use Rattle.std.specs.Prelude.{◌≡◌, ◌⊎◌, ◌↔◌, ◌<◌, ℕ, suc, Bool, IsTrue, Some, List, [], ◌∷◌, ◌++◌, length, take, drop, map, true, if◌then◌else◌}
+use Rattle.std.specs.Prelude.{◌≡◌, ◌⊎◌, ◌↔◌, ◌<◌, ℕ, suc, Bool, IsTrue, Some, List, [], ◌∷◌, ◌++◌, length, take, drop, map, if◌then◌else◌}
 use Rattle.grove_sorts.specs.declared.position.Position.{Position}
 use Rattle.grove_sorts.specs.declared.sort.Sort.{Sort}
 use Rattle.grove_sorts.specs.Ctor.{positions, sort_of_ctor}
@@ -9,10 +9,9 @@ use Rattle.walks.specs.Live.{children_of}
 use Rattle.grove_terms.specs.Forest.{Forest, none, multi_ref, cycle_ref, tree, child_edges, edges_from}
 use Rattle.type_core.specs.Typ.{Typ}
 use Rattle.ctx_table.specs.Context.{Context}
-use Rattle.mark_step.specs.Expression.{Expression, Demanded}
+use Rattle.mark_step.specs.Expression.{Demanded}
 use Rattle.mark_step.specs.Step.{demand}
 use Rattle.mark_step.specs.Rows.{is_exp}
-use Rattle.mark_step.specs.declared.node.Demand.{Demand}
 use Rattle.mark_step.specs.Node as node
 use Rattle.mark_step.specs.Node.{IsDemandOf}
 use Rattle.marking.specs.Marking.{types_at, judged_in}

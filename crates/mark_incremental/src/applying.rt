@@ -1,4 +1,4 @@
-ghost use Rattle.std.specs.Prelude.{◌≡◌, ◌≤◌, ◌∷◌, [], List, not, filter, if◌then◌else◌, IfOk, OnOk, OnErr};
+ghost use Rattle.std.specs.Prelude.{◌≡◌, ◌+◌, ◌*◌, ◌≤◌, ◌∷◌, [], ℕ, List, length, not, filter, if◌then◌else◌, IfOk, OnOk, OnErr};
 ghost use Rattle.std.specs.List.{AllByRecursion};
 ghost use Rattle.grove_sorts.specs.declared.position.Position.{Position};
 ghost use Rattle.grove_edits.specs.declared.vertex.Vertex.{Vertex};
@@ -8,6 +8,7 @@ ghost use Rattle.grove_edits.specs.Edge.{IsWellFormed};
 ghost use Rattle.grove_edits.specs.Edit.{edit_edge, edit_kind};
 ghost use Rattle.grove_edits.specs.Graph.{IsSame, graph, graph_join};
 ghost use Rattle.grove_edits.specs.Vertex.{is_same_vertex};
+ghost use Rattle.walks.specs.Walk.{walk};
 ghost use Rattle.walks.specs.Class.{is_cycle_root};
 ghost use Rattle.walks.specs.Whole.{AreLive};
 ghost use Rattle.edge_index.specs.Lists.{live};
@@ -18,10 +19,13 @@ ghost use Rattle.type_core.specs.TypeTable.{KeepsTypes};
 ghost use Rattle.ctx_table.specs.CtxTable.{KeepsContexts};
 ghost use Rattle.kept_records.specs.Kept.{AreKept};
 ghost use Rattle.kept_records.specs.Local.{is_inner};
-ghost use Rattle.kept_records.specs.Change.{CyclesStay};
+ghost use Rattle.kept_records.specs.Change.{CyclesStay, AreNear, near_size};
+ghost use Rattle.kept_records.specs.Size.{IsSize};
 ghost use Rattle.mark_incremental.specs.Reading.{AreRecordsOf};
+ghost use Rattle.mark_incremental.specs.Rooting.{IsOnlyRoot};
 ghost use Rattle.mark_incremental.specs.Looking.{holds, on, AreRoots};
 ghost use Rattle.mark_incremental.specs.Walking.{AreMadeOf, HasMadeTrees};
+ghost use Rattle.mark_incremental.specs.Ticks.{AreTreesPaidFor};
 ghost use Rattle.mark_incremental.specs.Passing.{AreWalks};
 ghost use Rattle.mark_incremental.specs.Raising.{AreIndexed, HaveRoom, LeavesRoom, MovesRoom, brought_by, taken_by};
 ghost use Rattle.mark_incremental.specs.Standing.{StandFor, KeptMarks, kept_in, records_in, put_in};
@@ -31,10 +35,11 @@ use crate::heads::heads_among;
 use crate::looking::Walk;
 use crate::marks::Marks;
 use crate::no_memory::NoMemory;
-use crate::passing::{Ends, passed_by, walk_from_ends};
+use crate::passing::{Ends, passed_by, passed_with, walk_from_ends};
 use crate::putting::{make_room, old_records, put, restore};
 use crate::raising::{put_back, raise};
 use crate::rooting::{changed_root, set_root};
+use crate::walks_up::WalkUp;
 use child_index::ChildIndex;
 use graph_store::{Change, GraphStore};
 use grove_edits::{Edge, Edit, Vertex};
@@ -83,7 +88,8 @@ fn reserve(
 }
 
 impl Marks {
-    // The records that walks down make of the trees of some vertices: of all that stands in them, or where vertices of a set stand.
+    // The records that walks down make of the trees of some vertices: of all that stands in them, or where vertices of a set stand. It
+    // ticks at most three times for each vertex, besides what the walks down count.
     fn make<L: Ledger>(
         &mut self,
         whole: bool,
@@ -99,6 +105,8 @@ impl Marks {
         ensures trees { IfOk result (λ made. HasMadeTrees (live parents.now) self.new.types self.new.contexts self.old.records (on whole passed.now)
             (filter (λ v. not (is_inner (live parents.now) v)) vertices.now) made.items) }
         ensures numbers { IfOk result (λ made. AreMadeOf self.new.types self.new.contexts made.items) }
+        ensures ticks { (most : ℕ) → ((before after : ℕ) → AreTreesPaidFor (live parents.now) self.old.types self.old.contexts self.old.records (on whole passed.now)
+            (filter (λ v. not (is_inner (live parents.now) v)) vertices.now) before after → after ≤ before + most) → steps.new ≤ steps.old + 3 * length vertices.now + most }
         ensures types { KeepsTypes self.old.types self.new.types }
         ensures contexts { KeepsContexts self.old.contexts self.new.contexts }
         ensures records { self.new.records ≡ self.old.records }
@@ -142,7 +150,7 @@ impl Marks {
         Ok(old)
     }
 
-    // Renews the records after an edit that leaves the roots of cycles as they were.
+    // Renews the records after an edit that leaves the roots of cycles as they were. It ticks at most eight times the size of the edit.
     fn renew_near<L: Ledger>(
         &mut self,
         before: &Ends,
@@ -158,6 +166,10 @@ impl Marks {
             → CyclesStay old (live parents.now) → AreKept (graph edits) old (records_in self.old)
             → AreWalks old (edit_edge edit) before.now → AreWalks (live parents.now) (edit_edge edit) after.now
             → OnOk result (AreKept (graph (edit ∷ edits)) (live parents.now) (records_in self.new)) }
+        ensures ticks { (edits : List Edit) (edit : Edit) (old : List Edge) → AreLive (graph edits) old → AreLive (graph (edit ∷ edits)) (live parents.now)
+            → CyclesStay old (live parents.now) → AreKept (graph edits) old (records_in self.old)
+            → AreWalks old (edit_edge edit) before.now → AreWalks (live parents.now) (edit_edge edit) after.now
+            → (near : List Vertex) → AreNear (edit_edge edit) old (live parents.now) near → steps.new ≤ steps.old + 8 * near_size old (live parents.now) near }
         ensures old { IfOk result (λ old. AreOld self.new.types self.new.contexts old.items self.old.records self.new.records) }
         ensures numbers { OnOk result (AreRecordsOf self.new.types self.new.contexts self.new.records) }
         ensures unchanged { OnErr result ((v : Vertex) → kept_in self.new v ≡ kept_in self.old v) }
@@ -177,11 +189,14 @@ impl Marks {
         self.replace(made)
     }
 
-    // Renews the records after an edit that makes or ends the root of a cycle. The trees in which that root stands or is referred to can
-    // be any of the grove, so all of them are judged again. The set of roots is that of the new graph already.
+    // Renews the records after an edit of an edge to this target that makes or ends this root of a cycle: those of the trees of the root,
+    // of the target and of the source, from which this is the walk up. The set of roots is that of the new graph already. It ticks at most
+    // sixteen times the size of the edit, and a few times more.
     fn renew_whole<L: Ledger>(
         &mut self,
-        store: &GraphStore,
+        target: &Vertex,
+        root: &Vertex,
+        source: &WalkUp,
         children: &ChildIndex,
         parents: &ParentIndex,
         steps: &mut Steps<L>,
@@ -189,9 +204,14 @@ impl Marks {
         requires same { live children.now ≡ live parents.now }
         requires rooted { AreRoots (live parents.now) self.old.roots }
         requires well_formed { AllByRecursion IsWellFormed (live parents.now) }
-        ensures renewed { (edits : List Edit) (edit : Edit) (old : List Edge) → IsSame (state_in store.now) (graph (edit ∷ edits)) → AreLive (graph edits) old
-            → AreLive (graph (edit ∷ edits)) (live parents.now) → AreKept (graph edits) old (records_in self.old)
+        ensures renewed { (edits : List Edit) (edit : Edit) (old : List Edge) → AreLive (graph edits) old → AreLive (graph (edit ∷ edits)) (live parents.now)
+            → (edit_edge edit).target ≡ target.now → source.now.vertices.items ≡ walk (live parents.now) (edit_edge edit).source
+            → IsOnlyRoot old (live parents.now) root.now → AreKept (graph edits) old (records_in self.old)
             → OnOk result (AreKept (graph (edit ∷ edits)) (live parents.now) (records_in self.new)) }
+        ensures ticks { (edits : List Edit) (edit : Edit) (old : List Edge) → AreLive (graph edits) old → AreLive (graph (edit ∷ edits)) (live parents.now)
+            → (edit_edge edit).target ≡ target.now → source.now.vertices.items ≡ walk (live parents.now) (edit_edge edit).source
+            → IsOnlyRoot old (live parents.now) root.now
+            → (size : ℕ) → IsSize (edit_edge edit) (graph edits) (graph (edit ∷ edits)) size → steps.new ≤ steps.old + 16 * size + 9 }
         ensures old { IfOk result (λ old. AreOld self.new.types self.new.contexts old.items self.old.records self.new.records) }
         ensures numbers { OnOk result (AreRecordsOf self.new.types self.new.contexts self.new.records) }
         ensures unchanged { OnErr result ((v : Vertex) → kept_in self.new v ≡ kept_in self.old v) }
@@ -199,19 +219,26 @@ impl Marks {
         ensures contexts { KeepsContexts self.old.contexts self.new.contexts }
         ensures roots { self.new.roots ≡ self.old.roots }
     {
-        let vertices = store.vertices(self.alloc)?;
-        let passed = VertexMap::with_seed(self.alloc, self.seed);
-        let made = self.make(true, &vertices, &passed, children, parents, steps)?;
+        let passed = passed_with(self.alloc, self.seed, source, target, root)?;
         whole_trees_renew_the_records();
+        let made = self.make(
+            true,
+            &passed.vertices,
+            &passed.set,
+            children,
+            parents,
+            steps,
+        )?;
         self.replace(made)
     }
 
-    // Renews the records after an edit that makes or ends this root of a cycle.
+    // Renews the records after an edit of an edge to this target that makes or ends this root of a cycle.
     fn renew_with_root<L: Ledger>(
         &mut self,
+        target: &Vertex,
         root: &Vertex,
         is_root: bool,
-        store: &GraphStore,
+        source: &WalkUp,
         children: &ChildIndex,
         parents: &ParentIndex,
         steps: &mut Steps<L>,
@@ -220,9 +247,14 @@ impl Marks {
         requires rooted { (v : Vertex) → is_cycle_root (live parents.now) v ≡ (if is_same_vertex root.now v then is_root else holds self.old.roots v) }
         requires was { holds self.old.roots root.now ≡ not is_root }
         requires well_formed { AllByRecursion IsWellFormed (live parents.now) }
-        ensures renewed { (edits : List Edit) (edit : Edit) (old : List Edge) → IsSame (state_in store.now) (graph (edit ∷ edits)) → AreLive (graph edits) old
-            → AreLive (graph (edit ∷ edits)) (live parents.now) → AreKept (graph edits) old (records_in self.old)
+        ensures renewed { (edits : List Edit) (edit : Edit) (old : List Edge) → AreLive (graph edits) old → AreLive (graph (edit ∷ edits)) (live parents.now)
+            → (edit_edge edit).target ≡ target.now → source.now.vertices.items ≡ walk (live parents.now) (edit_edge edit).source
+            → IsOnlyRoot old (live parents.now) root.now → AreKept (graph edits) old (records_in self.old)
             → OnOk result (AreKept (graph (edit ∷ edits)) (live parents.now) (records_in self.new)) }
+        ensures ticks { (edits : List Edit) (edit : Edit) (old : List Edge) → AreLive (graph edits) old → AreLive (graph (edit ∷ edits)) (live parents.now)
+            → (edit_edge edit).target ≡ target.now → source.now.vertices.items ≡ walk (live parents.now) (edit_edge edit).source
+            → IsOnlyRoot old (live parents.now) root.now
+            → (size : ℕ) → IsSize (edit_edge edit) (graph edits) (graph (edit ∷ edits)) size → steps.new ≤ steps.old + 16 * size + 9 }
         ensures rooted { OnOk result (AreRoots (live parents.now) self.new.roots) }
         ensures old { IfOk result (λ old. WasRenewed old self.old self.new) }
         ensures can_put_back { IfOk result (λ old. CanRenewBack old self.new) }
@@ -231,7 +263,7 @@ impl Marks {
     {
         self.roots.reserve_for(&[*root])?;
         set_root(&mut self.roots, root, is_root);
-        match self.renew_whole(store, children, parents, steps) {
+        match self.renew_whole(target, root, source, children, parents, steps) {
             Ok(records) => Ok(OldRecords {
                 records,
                 root: Some((*root, !is_root)),
@@ -258,6 +290,8 @@ impl Marks {
         requires indexed { AreIndexed store.now children.now parents.now }
         requires before { WasBefore edge.now (state_in store.now) self.old before.now }
         ensures stand { OnOk result (StandFor (state_in store.now) self.new) }
+        ensures ticks { (was : WasBefore edge.now (state_in store.now) self.old before.now) → (size : ℕ) → IsSize edge.now (graph was.edits) (graph (was.edit ∷ was.edits)) size
+            → steps.new ≤ steps.old + 28 * size + 15 }
         ensures old { IfOk result (λ old. WasRenewed old self.old self.new) }
         ensures can_put_back { IfOk result (λ old. CanRenewBack old self.new) }
         ensures grown { OnErr result (HaveGrown self.old self.new) }
@@ -265,7 +299,15 @@ impl Marks {
         let after = walk_from_ends(self.alloc, self.seed, edge, parents, steps)?;
         if let Some(changed) = changed_root(&edge.target, before, &after) {
             let (root, is_root) = changed;
-            return self.renew_with_root(&root, is_root, store, children, parents, steps);
+            return self.renew_with_root(
+                &edge.target,
+                &root,
+                is_root,
+                &after.source,
+                children,
+                parents,
+                steps,
+            );
         }
         let records = self.renew_near(before, &after, children, parents, steps)?;
         Ok(OldRecords {
@@ -275,7 +317,8 @@ impl Marks {
     }
 
     /// Raises an edit in the store of the graph and in its indexes, and renews the records. Where memory runs out, the graph, the
-    /// records and the roots of cycles stay; the tables may have grown, and what room was made stays.
+    /// records and the roots of cycles stay; the tables may have grown, and what room was made stays. It ticks at most 64 times for each
+    /// unit of the size of the edit, and 64 times more.
     pub fn apply<L: Ledger>(
         &mut self,
         edit: &Edit,
@@ -297,6 +340,7 @@ impl Marks {
         ensures index_room { IfOk result (λ applied. LeavesRoom (edit_edge edit.now) (brought_by (edit_kind edit.now) applied.change) (taken_by (edit_kind edit.now) applied.change)
             children.old children.new parents.old parents.new) }
         ensures index_room_stays { OnErr result (LeavesRoom (edit_edge edit.now) 0 0 children.old children.new parents.old parents.new) }
+        ensures ticks { (size : ℕ) → IsSize (edit_edge edit.now) (state_in store.old) (graph_join (state_in store.old) (graph (edit.now ∷ []))) size → steps.new ≤ steps.old + 64 * size + 64 }
     {
         let edge = edit.edge();
         reserve(&edge, store, children, parents)?;

@@ -1,6 +1,7 @@
-ghost use Rattle.std.specs.Prelude.{◌≡◌, ◌||◌, IfOk, OnOk};
+ghost use Rattle.std.specs.Prelude.{◌≡◌, ◌+◌, ◌*◌, ◌≤◌, ◌||◌, length, IfOk, OnOk};
 ghost use Rattle.grove_edits.specs.declared.vertex.Vertex.{Vertex};
 ghost use Rattle.grove_edits.specs.Vertex.{is_same_vertex, stands_in};
+ghost use Rattle.walks.specs.Walk.{walk};
 ghost use Rattle.mark_incremental.specs.Looking.{holds};
 ghost use Rattle.mark_incremental.specs.Passing.{AreWalks, HoldsThese};
 
@@ -20,6 +21,7 @@ pub(crate) struct Ends {
     pub(crate) target: WalkUp,
 }
 
+/// The walks up from the ends of an edge. It ticks at most three times for each vertex of a walk.
 pub(crate) fn walk_from_ends<P: ParentOf, L: Ledger>(
     alloc: Global,
     seed: HashSeed,
@@ -27,7 +29,8 @@ pub(crate) fn walk_from_ends<P: ParentOf, L: Ledger>(
     parents: &P,
     steps: &mut Steps<L>,
 ) -> Result<Ends, NoMemory>
-    ensures { IfOk result (AreWalks (P.live parents.now) edge.now) }
+    ensures walks { IfOk result (AreWalks (P.live parents.now) edge.now) }
+    ensures ticks { steps.new ≤ steps.old + 3 * (length (walk (P.live parents.now) edge.now.source) + length (walk (P.live parents.now) edge.now.target)) }
 {
     let source = walk_up(alloc, seed, &edge.source, parents, steps)?;
     let target = walk_up(alloc, seed, &edge.target, parents, steps)?;
@@ -84,5 +87,27 @@ pub(crate) fn passed_by(
     add_all(&mut passed, &before.target.vertices)?;
     add_all(&mut passed, &after.source.vertices)?;
     add_all(&mut passed, &after.target.vertices)?;
+    Ok(passed)
+}
+
+/// The vertices on the walk up from the source of an edge, its target, and one further vertex.
+pub(crate) fn passed_with(
+    alloc: Global,
+    seed: HashSeed,
+    source: &WalkUp,
+    target: &Vertex,
+    further: &Vertex,
+) -> Result<Passed, NoMemory>
+    ensures passed { IfOk result (λ it. (v : Vertex) → holds it.set v
+        ≡ (is_same_vertex further.now v || (is_same_vertex target.now v || stands_in v source.now.vertices.items))) }
+    ensures these { IfOk result (λ it. HoldsThese it.set it.vertices.items) }
+{
+    let mut passed = Passed {
+        set: VertexMap::with_seed(alloc, seed),
+        vertices: Vec::new(alloc),
+    };
+    add_all(&mut passed, &source.vertices)?;
+    add(&mut passed, target)?;
+    add(&mut passed, further)?;
     Ok(passed)
 }

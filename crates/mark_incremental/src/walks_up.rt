@@ -1,4 +1,4 @@
-ghost use Rattle.std.specs.Prelude.{◌≡◌, ◌||◌, ◌++◌, ◌∷◌, [], Some, None, IfOk, OnOk};
+ghost use Rattle.std.specs.Prelude.{◌≡◌, ◌+◌, ◌*◌, ◌≤◌, ◌||◌, ◌++◌, ◌∷◌, [], length, Some, None, IfOk, OnOk};
 ghost use Rattle.grove_edits.specs.declared.vertex.Vertex.{Vertex};
 ghost use Rattle.grove_edits.specs.Vertex.{is_same_vertex};
 ghost use Rattle.walks.specs.Walk.{above, walk};
@@ -37,13 +37,14 @@ pub(crate) fn enter(set: &mut VertexMap<bool>, vertex: &Vertex) -> Result<(), No
     Ok(())
 }
 
-// The source of the one live parent edge, if there is exactly one.
+// The source of the one live parent edge, if there is exactly one. It ticks at most three times.
 fn vertex_above<P: ParentOf, L: Ledger>(
     vertex: &Vertex,
     parents: &P,
     steps: &mut Steps<L>,
 ) -> Option<Vertex>
     ensures above { result ≡ above (P.live parents.now) vertex.now }
+    ensures ticks { steps.new ≤ steps.old + 3 }
 {
     match parents.few(vertex, steps) {
         Few::One(edge) => Some(edge.source),
@@ -51,7 +52,8 @@ fn vertex_above<P: ParentOf, L: Ledger>(
     }
 }
 
-/// The walk up from a vertex. The vertices that it passed are found by their hash under a seed.
+/// The walk up from a vertex. The vertices that it passed are found by their hash under a seed. It ticks at most three times for each
+/// vertex of the walk.
 pub(crate) fn walk_up<P: ParentOf, L: Ledger>(
     alloc: Global,
     seed: HashSeed,
@@ -61,6 +63,7 @@ pub(crate) fn walk_up<P: ParentOf, L: Ledger>(
 ) -> Result<WalkUp, NoMemory>
     ensures vertices { IfOk result (λ it. it.vertices.items ≡ walk (P.live parents.now) start.now) }
     ensures comes_back { IfOk result (λ it. it.comes_back ≡ is_on_cycle (P.live parents.now) start.now) }
+    ensures ticks { steps.new ≤ steps.old + 3 * length (walk (P.live parents.now) start.now) }
 {
     let mut vertices = Vec::new(alloc);
     let mut passed = VertexMap::with_seed(alloc, seed);

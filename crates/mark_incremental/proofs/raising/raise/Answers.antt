@@ -1,13 +1,10 @@
 -- The indexes hold the live edges of the raised graph, and the rise can be undone.
 use Rattle.std.proofs.Common.{◌≡◌, ◌<◌, sym, ap, subst, ◌∙◌}
-use Rattle.edge_lattice.specs.declared.state.State.{State}
 use Rattle.edge_lattice.specs.State.{rank}
 use Rattle.grove_edits.specs.declared.edge.Edge.{Edge}
 use Rattle.grove_edits.specs.Edit.{edit_edge, edit_kind}
 use Rattle.grove_edits.specs.Graph.{state_of}
 use Rattle.walks.specs.Whole.{AreLive}
-use Rattle.graph_store.specs.declared.change.Change.{Change}
-use Rattle.graph_store.specs.declared.change.Change.TheVariants.{Raised}
 use Rattle.graph_store.specs.Store.{state_in}
 use Rattle.edge_index.specs.Lists.{live}
 use Rattle.child_index.specs.Origin.{room_at_origin}

@@ -1,5 +1,4 @@
 -- An edge that is removed leaves room.
-use Rattle.edge_index.specs.Lists.{live}
 use Rattle.child_index.specs.Origin.{room_at_origin}
 use Rattle.parent_index.specs.Target.{room_at_vertex}
 use Rattle.mark_incremental.proofs.Room.{child_room_left, parent_room_left, moves_out}

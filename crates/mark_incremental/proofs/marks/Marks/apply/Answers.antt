@@ -1,16 +1,15 @@
 -- The graph is joined with the edit, or is as before, and the marks stand for it.
-use Rattle.std.proofs.Common.{◌≡◌, [], ◌∷◌, sym, ap, subst, ◌∙◌}
+use Rattle.std.proofs.Common.{[], ◌∷◌, sym, ap, subst, ◌∙◌, arith}
 use Rattle.edge_lattice.specs.State.{state_join}
-use Rattle.grove_edits.specs.declared.edge.Edge.{Edge}
 use Rattle.grove_edits.specs.Edit.{edit_edge, edit_kind}
 use Rattle.grove_edits.specs.Graph.{graph, state_of}
 use Rattle.graph_store.specs.Change.{IsChange}
 use Rattle.graph_store.specs.Store.{state_in}
 use Rattle.edge_index.specs.Lists.{live}
-use Rattle.mark_incremental.specs.Passing.{AreWalks}
 use Rattle.mark_incremental.specs.Raising.{brought_by, taken_by}
 use Rattle.mark_incremental.proofs.Room.{leaves_room, leaves_all, leaves_more}
-use Rattle.mark_incremental.specs.Applying.{WasBefore}
+use Rattle.kept_records.proofs.OneSize.{live_along}
+use Rattle.mark_incremental.proofs.SizeBound.{size_at, before_within}
 use Rattle.mark_incremental.proofs.Outcomes.{on_err_always}
 use Rattle.mark_incremental.proofs.Edited.{stands_before, grown_stands, nothing_grown, indexed_still}
 use Rattle.mark_incremental.proofs.marks.Marks.apply.Goals as goal
@@ -29,9 +28,8 @@ renew-requires-clause-before g c =
     let indexed =
     indexed_still c.args.store.now c.reserve.new.store c.args.children.now c.reserve.new.children c.args.parents.now c.reserve.new.parents c.requires.indexed c.reserve.ensures.graph c.reserve.ensures.children
     c.reserve.ensures.parents in
-    subst (λ (x : Edge). WasBefore x (state_in c.raise-change.new.store) c.args.self.now c.in_ok-before.before) (sym c.edge-edge.ensures)
-    (stands_before c.args.edit.now (state_in c.args.store.now) (state_in c.reserve.new.store) (state_in c.raise-change.new.store) edges c.args.self.now c.in_ok-before.before c.requires.stand
-    c.reserve.ensures.graph indexed.live_edges c.raise-change.ensures.raised.joined (subst (λ (x : Edge). AreWalks edges x c.in_ok-before.before) c.edge-edge.ensures c.in_ok-before.ensures))
+    stands_before c.args.edit.now c.edge-edge.result (sym c.edge-edge.ensures) (state_in c.args.store.now) (state_in c.reserve.new.store) (state_in c.raise-change.new.store) edges c.args.self.now c.in_ok-before.before
+    c.requires.stand c.reserve.ensures.graph indexed.live_edges c.raise-change.ensures.raised.joined c.in_ok-before.ensures.walks
 
 pub returns-in-Ok-clause-joined : goal.returns-in-Ok-clause-joined
 returns-in-Ok-clause-joined g c = λ e. c.raise-change.ensures.raised.joined e ∙ ap (λ s. state_join s (graph (c.args.edit.now ∷ []) e)) (c.reserve.ensures.graph e)
@@ -81,3 +79,49 @@ returns-clause-index_room_stays g c =
     leaves_all (edit_edge c.args.edit.now) (brought_by (edit_kind c.args.edit.now) c.raise-change.result) (taken_by (edit_kind c.args.edit.now) c.raise-change.result) c.args.children.now c.reserve.new.children
     c.raise-change.new.children c.put_back.new.children c.args.parents.now c.reserve.new.parents c.raise-change.new.parents c.put_back.new.parents c.reserve.ensures.children_room
     c.reserve.ensures.parents_room c.raise-change.ensures.room c.put_back.ensures.room
+
+pub returns-in_err-before-clause-ticks : goal.returns-in_err-before-clause-ticks
+returns-in_err-before-clause-ticks g c = λ n size.
+    let edges = live c.reserve.new.parents in
+    let indexed =
+    indexed_still c.args.store.now c.reserve.new.store c.args.children.now c.reserve.new.children c.args.parents.now c.reserve.new.parents c.requires.indexed c.reserve.ensures.graph c.reserve.ensures.children
+    c.reserve.ensures.parents in
+    let walks =
+    before_within c.requires.stand.edits c.args.edit.now (state_in c.args.store.now) c.requires.stand.made c.edge-edge.result (sym c.edge-edge.ensures) n size edges
+    (live_along (state_in c.reserve.new.store) (state_in c.args.store.now) edges c.reserve.ensures.graph indexed.live_edges) in
+    let ticks = c.walk_from_ends.ensures.ticks in
+    omega (arith, walks, ticks)
+
+pub returns-in-Ok-clause-ticks : goal.returns-in-Ok-clause-ticks
+returns-in-Ok-clause-ticks g c = λ n size.
+    let edges = live c.reserve.new.parents in
+    let indexed =
+    indexed_still c.args.store.now c.reserve.new.store c.args.children.now c.reserve.new.children c.args.parents.now c.reserve.new.parents c.requires.indexed c.reserve.ensures.graph c.reserve.ensures.children
+    c.reserve.ensures.parents in
+    let walks =
+    before_within c.requires.stand.edits c.args.edit.now (state_in c.args.store.now) c.requires.stand.made c.edge-edge.result (sym c.edge-edge.ensures) n size edges
+    (live_along (state_in c.reserve.new.store) (state_in c.args.store.now) edges c.reserve.ensures.graph indexed.live_edges) in
+    let ticks = c.walk_from_ends.ensures.ticks in
+    let renewed =
+    c.renew.ensures.ticks
+    (stands_before c.args.edit.now c.edge-edge.result (sym c.edge-edge.ensures) (state_in c.args.store.now) (state_in c.reserve.new.store) (state_in c.raise-change.new.store) edges c.args.self.now c.in_ok-before.before
+    c.requires.stand c.reserve.ensures.graph indexed.live_edges c.raise-change.ensures.raised.joined c.in_ok-before.ensures.walks)
+    n (size_at c.requires.stand.edits c.args.edit.now (state_in c.args.store.now) c.requires.stand.made c.edge-edge.result (sym c.edge-edge.ensures) n size) in
+    omega (arith, walks, ticks, renewed)
+
+pub returns-clause-ticks : goal.returns-clause-ticks
+returns-clause-ticks g c = λ n size.
+    let edges = live c.reserve.new.parents in
+    let indexed =
+    indexed_still c.args.store.now c.reserve.new.store c.args.children.now c.reserve.new.children c.args.parents.now c.reserve.new.parents c.requires.indexed c.reserve.ensures.graph c.reserve.ensures.children
+    c.reserve.ensures.parents in
+    let walks =
+    before_within c.requires.stand.edits c.args.edit.now (state_in c.args.store.now) c.requires.stand.made c.edge-edge.result (sym c.edge-edge.ensures) n size edges
+    (live_along (state_in c.reserve.new.store) (state_in c.args.store.now) edges c.reserve.ensures.graph indexed.live_edges) in
+    let ticks = c.walk_from_ends.ensures.ticks in
+    let renewed =
+    c.renew.ensures.ticks
+    (stands_before c.args.edit.now c.edge-edge.result (sym c.edge-edge.ensures) (state_in c.args.store.now) (state_in c.reserve.new.store) (state_in c.raise-change.new.store) edges c.args.self.now c.in_ok-before.before
+    c.requires.stand c.reserve.ensures.graph indexed.live_edges c.raise-change.ensures.raised.joined c.in_ok-before.ensures.walks)
+    n (size_at c.requires.stand.edits c.args.edit.now (state_in c.args.store.now) c.requires.stand.made c.edge-edge.result (sym c.edge-edge.ensures) n size) in
+    omega (arith, walks, ticks, renewed)

@@ -1,12 +1,26 @@
 -- The heads are no trees of others.
-use Rattle.std.proofs.Common.{◌≡◌, sym, subst, ◌∙◌}
+use Rattle.std.proofs.Common.{◌≡◌, sym, subst, ◌∙◌, arith}
 use Rattle.std.specs.List.{AllByRecursion}
 use Rattle.walks.specs.declared.class.Class.TheVariants.{Inner}
 use Rattle.walks.specs.Class.{class}
 use Rattle.edge_index.specs.Lists.{live}
+use Rattle.mark_incremental.specs.Looking.{on}
+use Rattle.mark_incremental.specs.Ticks.{AreTreesPaidFor}
+use Rattle.mark_incremental.specs.Standing.{KeptMarks}
 use Rattle.mark_incremental.proofs.Edited.{outer_among}
 use Rattle.mark_incremental.proofs.marks.Marks.make.Goals as goal
 
 pub renew_trees-requires-clause-heads : goal.renew_trees-requires-clause-heads
 renew_trees-requires-clause-heads g c =
     subst (AllByRecursion (λ v. class (live c.args.parents.now) v ≡ Inner → ⊥)) (sym (c.deref.ensures.value ∙ c.in_ok-heads.ensures.heads)) (outer_among (live c.args.parents.now) c.args.vertices.now)
+
+pub returns-clause-ticks : goal.returns-clause-ticks
+returns-clause-ticks g c = λ most within.
+    let paid =
+    subst (λ hs. AreTreesPaidFor (live c.args.parents.now) c.args.self.now.types c.args.self.now.contexts c.args.self.now.records (on c.args.whole c.args.passed.now) hs c.heads_among.new.steps c.renew_trees.new.steps)
+    (c.deref.ensures.value ∙ c.in_ok-heads.ensures.heads)
+    (subst (λ (m : KeptMarks). AreTreesPaidFor (live c.args.parents.now) m.types m.contexts m.records (on c.args.whole c.args.passed.now) c.deref.result.now c.heads_among.new.steps c.renew_trees.new.steps) c.self.view_is
+    c.renew_trees.ensures.paid) in
+    let first = c.in_ok-heads.ensures.ticks in
+    let rest = within c.heads_among.new.steps c.renew_trees.new.steps paid in
+    omega (arith, first, rest)

@@ -1,8 +1,7 @@
 -- The numbers of the old records are of the tables.
-use Rattle.std.proofs.Common.{◌≡◌, IfSome, sym, ap, subst}
+use Rattle.std.proofs.Common.{IfSome, sym, subst}
 use Rattle.std.specs.List.{AllByRecursion}
-use Rattle.mark_store.specs.declared.record.Record.{Record}
-use Rattle.mark_store.specs.Places.{Places, value_at, HasRoom}
+use Rattle.mark_store.specs.Places.{value_at, HasRoom}
 use Rattle.mark_incremental.specs.Reading.{IsRecordOf}
 use Rattle.mark_incremental.specs.Standing.{KeptMarks}
 use Rattle.mark_incremental.proofs.Puts.{numbers_back}

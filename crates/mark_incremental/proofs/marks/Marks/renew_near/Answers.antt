@@ -1,18 +1,19 @@
 -- The records are those of the new graph.
-use Rattle.std.proofs.Common.{◌≡◌, false, List, ◌∷◌, not, Option, sym, ap, subst, ◌∙◌}
+use Rattle.std.proofs.Common.{false, ◌∷◌, not, ap, subst, ◌∙◌}
 use Rattle.std.specs.Prelude.{filter}
 use Rattle.std.proofs.lemmas.Result.{on_ok_weaker}
-use Rattle.grove_edits.specs.declared.vertex.Vertex.{Vertex}
 use Rattle.grove_edits.specs.Graph.{graph}
+use Rattle.grove_edits.specs.Edit.{edit_edge}
 use Rattle.edge_index.specs.Lists.{live}
 use Rattle.kept_records.specs.Local.{is_inner}
+use Rattle.mark_incremental.proofs.NearCost.{near_ticked}
 use Rattle.mark_store.specs.declared.record.Record.{Record}
 use Rattle.mark_store.specs.Places.{Places, value_at}
 use Rattle.mark_incremental.specs.Reading.{AreRecordsOf}
 use Rattle.mark_incremental.specs.Looking.{on}
 use Rattle.mark_incremental.specs.Walking.{HasMadeTrees}
 use Rattle.mark_incremental.specs.Standing.{KeptMarks, put_in}
-use Rattle.mark_incremental.proofs.Edited.{kept_over, kept_moved, near_renewed_by}
+use Rattle.mark_incremental.proofs.Edited.{kept_over, kept_moved, near_renewed_by, on_four}
 use Rattle.mark_incremental.proofs.marks.Marks.renew_near.Goals as goal
 
 pub returns-clause-renewed : goal.returns-clause-renewed
@@ -31,3 +32,19 @@ returns-clause-renewed g c = λ edits edit old are_old are_new stay kept walked 
     (λ v. replaced v ∙ ap (λ (places : Places Record). put_in c.in_ok-made.made.items (value_at places) v) c.make.ensures.records) c.args.before.now c.args.after.now stay walked walks
     c.in_ok-passed.passed.set c.in_ok-passed.passed.vertices.items c.in_ok-passed.ensures.these c.in_ok-passed.ensures.passed trees))
     c.replace.ensures.replaced
+
+pub returns-in_err-made-clause-ticks : goal.returns-in_err-made-clause-ticks
+returns-in_err-made-clause-ticks g c = λ edits edit old are_old are_new stay kept walked walks near are_near.
+    let new = live c.args.parents.now in
+    let marks = c.args.self.now in
+    near_ticked edits edit old new are_old are_new marks.types marks.contexts marks.records c.in_ok-passed.passed.set c.in_ok-passed.passed.vertices.items c.in_ok-passed.ensures.these
+    (on_four old new (edit_edge edit) c.args.before.now c.args.after.now walked walks c.in_ok-passed.passed.set c.in_ok-passed.ensures.passed) near are_near stay kept c.deref.result.now c.deref.ensures.value c.args.steps.now c.make.new.steps
+    c.make.ensures.ticks
+
+pub returns-clause-ticks : goal.returns-clause-ticks
+returns-clause-ticks g c = λ edits edit old are_old are_new stay kept walked walks near are_near.
+    let new = live c.args.parents.now in
+    let marks = c.args.self.now in
+    near_ticked edits edit old new are_old are_new marks.types marks.contexts marks.records c.in_ok-passed.passed.set c.in_ok-passed.passed.vertices.items c.in_ok-passed.ensures.these
+    (on_four old new (edit_edge edit) c.args.before.now c.args.after.now walked walks c.in_ok-passed.passed.set c.in_ok-passed.ensures.passed) near are_near stay kept c.deref.result.now c.deref.ensures.value c.args.steps.now c.make.new.steps
+    c.make.ensures.ticks
