@@ -92,35 +92,6 @@ impl Live {
         let wanted = mode_word(types, record.mode);
         Ok(Some((wanted, type_word(types, record.typ), record.mark)))
     }
-
-    // The same while the edit of another line is applied, which is taken back.
-    fn told_while<L: Ledger>(
-        &mut self,
-        edited: &str,
-        line: &str,
-        steps: &mut Steps<L>,
-    ) -> Result<Told, Fail>
-        requires indexed { AreIndexed self.old.store self.old.children self.old.parents }
-        requires stand { StandFor (state_in self.old.store) self.old.marks }
-    {
-        let edit = edit(edited)?;
-        let applied = self.marks.apply(
-            &edit,
-            &mut self.store,
-            &mut self.children,
-            &mut self.parents,
-            steps,
-        )?;
-        let told = self.told(line)?;
-        self.marks.take_back(
-            &edit,
-            &applied,
-            &mut self.store,
-            &mut self.children,
-            &mut self.parents,
-        );
-        Ok(told)
-    }
 }
 
 fn after_counting<L: Ledger>(alloc: Global, lines: &[&str], blank: Blank) -> Result<Live, Fail>
@@ -145,31 +116,9 @@ fn after(alloc: Global, lines: &[&str]) -> Result<Live, Fail>
     after_counting::<Brand>(alloc, lines, Blank::new(1))
 }
 
-fn told_while_counting<L: Ledger>(
-    live: &mut Live,
-    edited: &str,
-    line: &str,
-    blank: Blank,
-) -> Result<Told, Fail>
-    requires name { blank.name ≡ L.name }
-    requires parts { blank.parts ≡ L.parts }
-    requires some { 0 < blank.parts }
-    requires indexed { AreIndexed live.old.store live.old.children live.old.parents }
-    requires stand { StandFor (state_in live.old.store) live.old.marks }
-{
-    let mut steps = Steps::<L>::new(blank);
-    live.told_while(edited, line, &mut steps)
-}
-
 fn told_after(alloc: Global, lines: &[&str], line: &str) -> Result<Told, Fail> {
     let live = after(alloc, lines)?;
     live.told(line)
-}
-
-// The same while the edit of one more line is applied.
-fn told_with(alloc: Global, lines: &[&str], edited: &str, line: &str) -> Result<Told, Fail> {
-    let mut live = after(alloc, lines)?;
-    told_while_counting::<Brand>(&mut live, edited, line, Blank::new(1))
 }
 
 const FUNCTION: [&str; 4] = [
@@ -183,24 +132,6 @@ const FUNCTION: [&str; 4] = [
 fn a_use_is_free_under_a_conflict(rt: HostRuntime) -> Result<(), Fail> {
     let told = told_after(rt.alloc(), &FUNCTION, FUNCTION[3])?;
     assert_eq!(rt; told, Some(("syn", "?", Mark::Free)));
-    Ok(())
-}
-
-#[test]
-fn a_use_is_bound_while_the_conflict_is_cut(rt: HostRuntime) -> Result<(), Fail> {
-    let cut = "-2.2 1.1 lam param 2.1 pvar:y";
-    let told = told_with(rt.alloc(), &FUNCTION, cut, FUNCTION[3])?;
-    assert_eq!(rt; told, Some(("syn", "?", Mark::None)));
-    Ok(())
-}
-
-#[test]
-fn a_shared_vertex_is_judged_by_itself(rt: HostRuntime) -> Result<(), Fail> {
-    let left = "+1.4 1.1 plus left 1.3 num:7";
-    let shared = "+1.5 1.1 plus right 1.3 num:7";
-    let lines = ["+1.2 0.0 root main 1.1 plus", left];
-    let told = told_with(rt.alloc(), &lines, shared, left)?;
-    assert_eq!(rt; told, Some(("syn", "num", Mark::None)));
     Ok(())
 }
 
