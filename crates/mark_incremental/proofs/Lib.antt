@@ -27,3 +27,6 @@ pub mod OneHead
 pub mod Concerned
 pub mod WholeCost
 pub mod SizeBound
+pub mod Receipts
+pub mod AllApplied
+pub mod Idle

@@ -18,7 +18,7 @@ use Rattle.ctx_table.specs.Context.{Context}
 use Rattle.ctx_table.specs.CtxTable.{KeepsContexts}
 use Rattle.kept_records.specs.Kept.{AreKept}
 use Rattle.mark_store.specs.declared.record.Record.{Record}
-use Rattle.mark_store.specs.Places.{Places, value_at, HasRoom}
+use Rattle.mark_store.specs.Places.{Places, value_at, HasRoom, KeepsRoom}
 use Rattle.mark_incremental.specs.declared.applying.OldRecords.{OldRecords}
 use Rattle.mark_incremental.specs.declared.applying.Applied.{Applied}
 use Rattle.mark_incremental.specs.declared.passing.Ends.{Ends}
@@ -34,6 +34,11 @@ pub record HaveGrown (before after : KeptMarks) : Type 0 where
   pub contexts : KeepsContexts before.contexts after.contexts
   pub records : (v : Vertex) → kept_in after v ≡ kept_in before v
   pub roots : (v : Vertex) → holds after.roots v ≡ holds before.roots v
+
+-- whatever vertices had room for a record, or for being the root of a cycle, have it still
+pub record KeepMarksRoom (before after : KeptMarks) : Type 0 where
+  pub records : KeepsRoom before.records after.records
+  pub roots : KeepsRoom before.roots after.roots
 
 -- what is found of a vertex where some have again what they had, one after the other
 abbrev pub put_back_in : List (Vertex × Option Record) → (Vertex → Option Record) → Vertex → Option Record

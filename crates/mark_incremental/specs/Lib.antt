@@ -7,3 +7,5 @@ pub mod Standing
 pub mod Applying
 pub mod Rooting
 pub mod Ticks
+pub mod Cost
+pub mod Receipts

@@ -2,6 +2,7 @@
 #![tactic(auto)]
 
 mod applying;
+mod applying_all;
 mod frame;
 mod given;
 mod heads;
@@ -12,6 +13,7 @@ mod passing;
 mod putting;
 mod raising;
 mod renewal;
+mod replacing;
 mod rooting;
 mod settling;
 mod walks_up;

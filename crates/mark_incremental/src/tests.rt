@@ -92,6 +92,50 @@ impl Live {
         let wanted = mode_word(types, record.mode);
         Ok(Some((wanted, type_word(types, record.typ), record.mark)))
     }
+
+    // What is told of it while the edit of another line is applied, and once that is taken back.
+    fn told_around<L: Ledger>(
+        &mut self,
+        edited: &str,
+        line: &str,
+        steps: &mut Steps<L>,
+    ) -> Result<(Told, Told), Fail>
+        requires indexed { AreIndexed self.old.store self.old.children self.old.parents }
+        requires stand { StandFor (state_in self.old.store) self.old.marks }
+    {
+        let edit = edit(edited)?;
+        let applied = self.marks.apply(
+            &edit,
+            &mut self.store,
+            &mut self.children,
+            &mut self.parents,
+            steps,
+        )?;
+        let told = self.told(line)?;
+        self.marks.take_back(
+            &edit,
+            &applied,
+            &mut self.store,
+            &mut self.children,
+            &mut self.parents,
+        );
+        Ok((told, self.told(line)?))
+    }
+
+    // Whether there was memory for all of these edits.
+    fn apply_all<L: Ledger>(&mut self, edits: &[Edit], steps: &mut Steps<L>) -> bool
+        requires indexed { AreIndexed self.old.store self.old.children self.old.parents }
+        requires stand { StandFor (state_in self.old.store) self.old.marks }
+    {
+        let applied = self.marks.apply_all(
+            edits,
+            &mut self.store,
+            &mut self.children,
+            &mut self.parents,
+            steps,
+        );
+        applied.is_ok()
+    }
 }
 
 fn after_counting<L: Ledger>(alloc: Global, lines: &[&str], blank: Blank) -> Result<Live, Fail>
@@ -116,9 +160,63 @@ fn after(alloc: Global, lines: &[&str]) -> Result<Live, Fail>
     after_counting::<Brand>(alloc, lines, Blank::new(1))
 }
 
+fn told_around_counting<L: Ledger>(
+    live: &mut Live,
+    edited: &str,
+    line: &str,
+    blank: Blank,
+) -> Result<(Told, Told), Fail>
+    requires name { blank.name ≡ L.name }
+    requires parts { blank.parts ≡ L.parts }
+    requires some { 0 < blank.parts }
+    requires indexed { AreIndexed live.old.store live.old.children live.old.parents }
+    requires stand { StandFor (state_in live.old.store) live.old.marks }
+{
+    let mut steps = Steps::<L>::new(blank);
+    live.told_around(edited, line, &mut steps)
+}
+
+fn all_counting<L: Ledger>(live: &mut Live, edits: &[Edit], blank: Blank) -> bool
+    requires name { blank.name ≡ L.name }
+    requires parts { blank.parts ≡ L.parts }
+    requires some { 0 < blank.parts }
+    requires indexed { AreIndexed live.old.store live.old.children live.old.parents }
+    requires stand { StandFor (state_in live.old.store) live.old.marks }
+{
+    let mut steps = Steps::<L>::new(blank);
+    live.apply_all(edits, &mut steps)
+}
+
 fn told_after(alloc: Global, lines: &[&str], line: &str) -> Result<Told, Fail> {
     let live = after(alloc, lines)?;
     live.told(line)
+}
+
+// What is told while the edit of one more line is applied, and once that is taken back.
+fn told_with(
+    alloc: Global,
+    lines: &[&str],
+    edited: &str,
+    line: &str,
+) -> Result<(Told, Told), Fail> {
+    let mut live = after(alloc, lines)?;
+    told_around_counting::<Brand>(&mut live, edited, line, Blank::new(1))
+}
+
+// What is told once all edits of further lines are applied, or none for want of memory, and whether they are.
+fn told_after_all(
+    alloc: Global,
+    lines: &[&str],
+    further: &[&str],
+    line: &str,
+) -> Result<(bool, Told), Fail> {
+    let mut live = after(alloc, lines)?;
+    let mut edits = Vec::new(alloc);
+    for text in further {
+        edits.push(edit(text)?)?;
+    }
+    let applied = all_counting::<Brand>(&mut live, &edits, Blank::new(1));
+    Ok((applied, live.told(line)?))
 }
 
 const FUNCTION: [&str; 4] = [
@@ -132,6 +230,40 @@ const FUNCTION: [&str; 4] = [
 fn a_use_is_free_under_a_conflict(rt: HostRuntime) -> Result<(), Fail> {
     let told = told_after(rt.alloc(), &FUNCTION, FUNCTION[3])?;
     assert_eq!(rt; told, Some(("syn", "?", Mark::Free)));
+    Ok(())
+}
+
+#[test]
+fn a_use_is_bound_while_the_conflict_is_cut(rt: HostRuntime) -> Result<(), Fail> {
+    let cut = "-2.2 1.1 lam param 2.1 pvar:y";
+    let (cut, back) = told_with(rt.alloc(), &FUNCTION, cut, FUNCTION[3])?;
+    assert_eq!(rt; cut, Some(("syn", "?", Mark::None)));
+    assert_eq!(rt; back, Some(("syn", "?", Mark::Free)));
+    Ok(())
+}
+
+#[test]
+fn a_shared_vertex_is_judged_by_itself(rt: HostRuntime) -> Result<(), Fail> {
+    let left = "+1.4 1.1 plus left 1.3 num:7";
+    let shared = "+1.5 1.1 plus right 1.3 num:7";
+    let lines = ["+1.2 0.0 root main 1.1 plus", left];
+    let (alone, back) = told_with(rt.alloc(), &lines, shared, left)?;
+    assert_eq!(rt; alone, Some(("syn", "num", Mark::None)));
+    assert_eq!(rt; back, Some(("ana:num", "num", Mark::None)));
+    Ok(())
+}
+
+#[test]
+fn edits_are_applied_all_or_none(rt: HostRuntime) -> Result<(), Fail> {
+    let cut = "-2.2 1.1 lam param 2.1 pvar:y";
+    let lines = [FUNCTION[0], FUNCTION[1], FUNCTION[2]];
+    let further = [FUNCTION[3], FUNCTION[1], cut, cut];
+    let (applied, told) = told_after_all(rt.alloc(), &lines, &further, FUNCTION[3])?;
+    if applied {
+        assert_eq!(rt; told, Some(("syn", "?", Mark::None)));
+    } else {
+        assert_eq!(rt; told, None);
+    }
     Ok(())
 }
 

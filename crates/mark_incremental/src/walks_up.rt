@@ -32,8 +32,7 @@ pub(crate) fn holds(set: &VertexMap<bool>, vertex: &Vertex) -> bool
 pub(crate) fn enter(set: &mut VertexMap<bool>, vertex: &Vertex) -> Result<(), NoMemory>
     ensures { OnOk result ((v : Vertex) → holds set.new v ≡ (is_same_vertex vertex.now v || holds set.old v)) }
 {
-    set.reserve_for(&[*vertex])?;
-    set.set(vertex, true);
+    set.insert(vertex, true)?;
     Ok(())
 }
 

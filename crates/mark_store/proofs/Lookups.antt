@@ -98,6 +98,22 @@ module _ {V : Type 0} where
       places = changed None updates.0;
     }
 
+    module _ (value : V) (updates : Updates vertex_eq.eq-value.it before after vertex (Some (Some value))) where
+      there_after : (v : Vertex) (b : Bool) → is_same_vertex vertex v ≡ b → place_at after.entries v ≡ cond b (Some (Some value)) (place_at before.entries v)
+      there_after v b is = changed (Some value) updates.0 v ∙ ap (λ t. cond t (Some (Some value)) (place_at before.entries v)) is
+
+      pub value_inserted : (v : Vertex) → value_at after.entries v ≡ cond (is_same_vertex vertex v) (Some value) (value_at before.entries v)
+      value_inserted v = by_test (is_same_vertex vertex v) refl where
+        by_test : (b : Bool) → is_same_vertex vertex v ≡ b → value_at after.entries v ≡ cond b (Some value) (value_at before.entries v)
+        by_test true is = ap (λ o. unwrap_or o None) (there_after v true is)
+        by_test false is = ap (λ o. unwrap_or o None) (there_after v false is)
+
+      pub room_inserted : KeepsRoom before.entries after.entries
+      room_inserted v has = by_test (is_same_vertex vertex v) refl where
+        by_test : (b : Bool) → is_same_vertex vertex v ≡ b → HasRoom after.entries v
+        by_test true is = ap is_some (there_after v true is)
+        by_test false is = ap is_some (there_after v false is) ∙ has
+
     pub writes_through : (old value : Option V) → Some old ≡ lookup (vertex_eq.eq-value.it vertex) before.entries
         → WritesThrough vertex_eq.eq-value.it (vertex_eq.eq-value.it vertex) before value after → Writes vertex value before.entries after.entries
     writes_through old value found writes v = by_test (is_same_vertex vertex v) refl where

@@ -1,4 +1,4 @@
-ghost use Rattle.std.specs.Prelude.{◌≡◌, None, Some, if◌then◌else◌, OnOk};
+ghost use Rattle.std.specs.Prelude.{◌≡◌, None, Some, if◌then◌else◌, OnOk, OnErr};
 ghost use Rattle.std.specs.List.{All};
 ghost use Rattle.std.specs.Option.{option_map};
 ghost use Rattle.grove_edits.specs.declared.vertex.Vertex.{Vertex};
@@ -69,6 +69,16 @@ impl<V: Copy> VertexMap<V> {
         ensures room_stays { KeepsRoom self.old self.new }
     {
         self.write(vertex, Some(value))
+    }
+
+    /// Puts the value of a vertex, which may have no room yet.
+    pub fn insert(&mut self, vertex: &Vertex, value: V) -> Result<(), NoMemory>
+        ensures put { OnOk result ((v : Vertex) → value_at self.new v ≡ (if is_same_vertex vertex.now v then Some value else value_at self.old v)) }
+        ensures unchanged { OnErr result ((v : Vertex) → value_at self.new v ≡ value_at self.old v) }
+        ensures room_stays { KeepsRoom self.old self.new }
+    {
+        self.places.insert(*vertex, Some(value))?;
+        Ok(())
     }
 
     /// Takes away the value of a vertex, if it has one, and leaves the room for it.

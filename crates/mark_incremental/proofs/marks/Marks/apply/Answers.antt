@@ -1,8 +1,9 @@
 -- The graph is joined with the edit, or is as before, and the marks stand for it.
-use Rattle.std.proofs.Common.{[], ◌∷◌, sym, ap, subst, ◌∙◌, arith}
+use Rattle.std.proofs.Common.{[], ◌∷◌, None, refl, sym, ap, subst, ◌∙◌, arith}
 use Rattle.edge_lattice.specs.State.{state_join}
 use Rattle.grove_edits.specs.Edit.{edit_edge, edit_kind}
 use Rattle.grove_edits.specs.Graph.{graph, state_of}
+use Rattle.graph_store.specs.declared.change.Change.TheVariants.{Same}
 use Rattle.graph_store.specs.Change.{IsChange}
 use Rattle.graph_store.specs.Store.{state_in}
 use Rattle.edge_index.specs.Lists.{live}
@@ -12,7 +13,16 @@ use Rattle.kept_records.proofs.OneSize.{live_along}
 use Rattle.mark_incremental.proofs.SizeBound.{size_at, before_within}
 use Rattle.mark_incremental.proofs.Outcomes.{on_err_always}
 use Rattle.mark_incremental.proofs.Edited.{stands_before, grown_stands, nothing_grown, indexed_still}
+use Rattle.mark_incremental.proofs.Idle.{joined_same, nothing_applied}
 use Rattle.mark_incremental.proofs.marks.Marks.apply.Goals as goal
+
+pub returns-then-is_raised-clause-joined : goal.returns-then-is_raised-clause-joined
+returns-then-is_raised-clause-joined g c = joined_same c.args.edit.now (state_in c.args.store.now) (c.is_raised.ensures.0 c.if-is_raised.true)
+
+pub returns-then-is_raised-clause-applied : goal.returns-then-is_raised-clause-applied
+returns-then-is_raised-clause-applied g c =
+    nothing_applied c.args.edit.now (record { change = Same; old = record { records = c.new.result; root = None } }) c.args.store.now c.args.self.now (c.is_raised.ensures.0 c.if-is_raised.true) refl c.new.ensures.items refl
+    c.requires.stand
 
 pub returns-in_err-reserve-clause-stand : goal.returns-in_err-reserve-clause-stand
 returns-in_err-reserve-clause-stand g c =
