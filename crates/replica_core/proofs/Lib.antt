@@ -3,9 +3,7 @@ pub mod AsEdits
 pub mod StoredLists
 pub mod ListsOf
 pub mod PlansTold
-pub mod LiveChanges
-pub mod Rooms
 pub mod Contents
-pub mod Standing
+pub mod Costs
+pub mod OneRecord
 pub mod Keeping
-pub mod Raising

@@ -5,6 +5,7 @@ use edit_text::read_line;
 use grove_edits::{ActFault, Action, Actor, Answer, Bytes, Command, EditList, Place, Vertex};
 use grove_names::Name;
 use grove_sorts::{Ctor, Position, Version};
+use mark_step::Mark;
 use shared_replica::Solo;
 use std::alloc::Global;
 use std::marker::Brand;
@@ -23,24 +24,34 @@ fn place(author: u32, counter: u64, position: Position) -> Place {
     }
 }
 
-// A replica that took the edits of these lines before its block opened.
-fn opened_counting<L: Ledger>(alloc: Global, lines: &[&str], blank: Blank) -> Result<Replica, Fail>
+// The replica after it took the edits of lines.
+fn after_counting<L: Ledger>(
+    alloc: Global,
+    mut replica: Replica,
+    lines: &[&str],
+    blank: Blank,
+) -> Result<Replica, Fail>
     requires name { blank.name ≡ L.name }
     requires parts { blank.parts ≡ L.parts }
     requires some { 0 < blank.parts }
 {
     let mut steps = Steps::<L>::new(blank);
-    let mut replica = Replica::new(alloc)?;
     for line in lines {
         let edit = read_line(Version::One, line.as_bytes())?;
         replica.apply(alloc, &edit, &mut steps)?;
     }
-    replica.begin_block(alloc)?;
     Ok(replica)
 }
 
+fn after(alloc: Global, replica: Replica, lines: &[&str]) -> Result<Replica, Fail> {
+    after_counting::<Brand>(alloc, replica, lines, Blank::new(1))
+}
+
+// A replica that took the edits of these lines before its block opened.
 fn opened(alloc: Global, lines: &[&str]) -> Result<Replica, Fail> {
-    opened_counting::<Brand>(alloc, lines, Blank::new(1))
+    let mut replica = after(alloc, Replica::new(alloc)?, lines)?;
+    replica.begin_block(alloc)?;
+    Ok(replica)
 }
 
 // Whether actions have the answers that are due, and the print text after them.
@@ -74,6 +85,12 @@ fn acted(
     calls: &[(u32, Action, Answer)],
 ) -> Result<(bool, Vec<u8>), Fail> {
     acted_counting::<Brand>(alloc, opened(alloc, lines)?, calls, Blank::new(1))
+}
+
+// The mark that is kept of the vertex to which the edge of a line leads.
+fn mark_at(replica: &Replica, line: &str) -> Result<Option<Mark>, Fail> {
+    let edge = read_line(Version::One, line.as_bytes())?.edge();
+    Ok(replica.marks().kept(&edge.target).map(|record| record.mark))
 }
 
 #[test]
@@ -206,5 +223,35 @@ fn a_journal_takes_edits(rt: HostRuntime) -> Result<(), Fail> {
         text.as_slice(),
         b"+2.2 0.0 root main 2.1 true\n-3.2 0.0 root main 3.1 num:7\n".as_slice()
     );
+    Ok(())
+}
+
+const SUM: [&str; 3] = [
+    "+1.2 0.0 root main 1.1 plus",
+    "+1.4 1.1 plus left 1.3 num:1",
+    "+1.6 1.1 plus right 1.5 true",
+];
+
+#[test]
+fn a_mark_goes_as_its_fault_is_mended(rt: HostRuntime) -> Result<(), Fail> {
+    let alloc = rt.alloc();
+    let wrong = opened(alloc, &SUM)?;
+    assert_eq!(rt; mark_at(&wrong, SUM[2])?, Some(Mark::Inconsistent));
+    let cut = ["-1.6 1.1 plus right 1.5 true"];
+    let mended = after(alloc, wrong, &cut)?;
+    assert_eq!(rt; mark_at(&mended, SUM[2])?, Some(Mark::None));
+    Ok(())
+}
+
+#[test]
+fn replicas_keep_the_same_marks(rt: HostRuntime) -> Result<(), Fail> {
+    let alloc = rt.alloc();
+    let first = opened(alloc, &SUM)?;
+    let second = opened(alloc, &[SUM[2], SUM[0], SUM[2], SUM[1]])?;
+    let due = [Mark::None, Mark::None, Mark::Inconsistent];
+    for (line, mark) in SUM.iter().zip(due) {
+        assert_eq!(rt; mark_at(&first, line)?, Some(mark));
+        assert_eq!(rt; mark_at(&second, line)?, Some(mark));
+    }
     Ok(())
 }
