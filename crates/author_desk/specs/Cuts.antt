@@ -1,10 +1,10 @@
 -- What contracts see of the cuts of an author: the opening edges, the board, and what its seat raised.
-use Rattle.std.specs.Prelude.{◌≡◌, ℕ, List, [], ◌∷◌, ◌++◌, length, Option, Some, None}
+use Rattle.std.specs.Prelude.{◌≡◌, ℕ, ◌<◌, List, [], ◌∷◌, ◌++◌, length, Option, Some, None}
 use mathlib.Core.List.{IsPrefix}
 use Rattle.grove_edits.specs.declared.action.Action.{Action}
 use Rattle.grove_edits.specs.declared.edit.Edit.{Edit}
 use Rattle.grove_edits.specs.Graph.{Ascends}
-use Rattle.edge_board.specs.Seats.{BoardStanding}
+use Rattle.edge_board.specs.Seats.{BoardStanding, kept_board_seat, given_board_seat, joined_board_seat}
 use Rattle.author_desk.specs.declared.cuts.Cuts.{Cuts}
 use Rattle.author_desk.specs.declared.cuts.Cuts.TheVariants.{Empty, On}
 use Rattle.author_desk.specs.Lines.{slots_cut}
@@ -24,6 +24,28 @@ seat_of (On opening board seat) = Some seat
 abbrev pub CanRaise : Cuts → Type 0
 CanRaise Empty = Unit {0}
 CanRaise (On opening board seat) = Ascends opening.now × (length board.now.opening ≡ length opening.now) × (seat.board ≡ board.now)
+
+-- the seat has parts for so many other seats beside itself
+abbrev pub HasPartsFor : ℕ → Cuts → Type 0
+HasPartsFor others Empty = Unit {0}
+HasPartsFor others (On opening board seat) = others < seat.parts
+
+-- one part of the seat was handed over to other cuts, on the same opening edges and the same board
+abbrev pub HandsOver : Cuts → Cuts → Cuts → Type 0
+HandsOver Empty after given = (after ≡ Empty) × (given ≡ Empty)
+HandsOver (On opening board seat) after given = (after ≡ On opening board (kept_board_seat seat)) × (given ≡ On opening board (given_board_seat seat))
+
+-- the other cuts have no seat, or one at the same board
+abbrev pub CanTakeIn : Cuts → Cuts → Type 0
+CanTakeIn cuts Empty = Unit {0}
+CanTakeIn Empty (On opening board seat) = ⊥
+CanTakeIn (On opening board seat) (On opening' board' seat') = (seat.board ≡ board.now) × (seat'.board ≡ board.now)
+
+-- the seat was given what that of the other cuts had
+abbrev pub TakesIn : Cuts → Cuts → Cuts → Type 0
+TakesIn cuts Empty after = after ≡ cuts
+TakesIn Empty (On opening board seat) after = ⊥
+TakesIn (On opening board seat) (On opening' board' seat') after = after ≡ On opening board (joined_board_seat seat seat')
 
 -- the seat raised these slots, and nothing else; it is at its board and has its parts as before
 pub record SeatRaises (before after : BoardStanding) (slots : List ℕ) : Type 0 where

@@ -2,7 +2,6 @@
 use Rattle.std.specs.Prelude.{◌≡◌, if◌then◌else◌, IsTrue, List, [], ◌∷◌, map}
 use mathlib.Core.List.{IsPrefix}
 use Rattle.grove_edits.specs.declared.action.Action.{Action}
-use Rattle.grove_edits.specs.declared.answer.Answer.{Answer}
 use Rattle.grove_edits.specs.declared.command.Command.{Command}
 use Rattle.grove_edits.specs.declared.command.Command.TheVariants.{Act}
 use Rattle.grove_edits.specs.declared.edit.Edit.{Edit}
@@ -25,16 +24,16 @@ IsTurn opening [] = ⊥
 IsTurn opening (line ∷ []) = Unit {0}
 IsTurn opening (line ∷ next ∷ lines) = IsTrue (is_opening_cut opening line) × IsTurn opening (next ∷ lines)
 
-abbrev pub commands_of : List (Call Command Answer) → List Command
+abbrev pub commands_of : {R : Type 0} → List (Call Command R) → List Command
 commands_of calls = map (λ call. call.command) calls
 
-module _ {M E : Type 0} where
+module _ {M E R : Type 0} where
   -- the pass entered the lines, each turn of them by one turn
-  abbrev pub EntersLines : Passing M Command E Answer → Passing M Command E Answer → List Edit → List Action → Type 0
+  abbrev pub EntersLines : Passing M Command E R → Passing M Command E R → List Edit → List Action → Type 0
   EntersLines before after opening lines =
-      (turns : List (List (Call Command Answer))) × (map commands_of turns ≡ map (map Act) (turns_of opening lines)) × EntersInTurns before after turns
+      (turns : List (List (Call Command R))) × (map commands_of turns ≡ map (map Act) (turns_of opening lines)) × EntersInTurns before after turns
 
   -- the pass entered the first of the lines, perhaps all or none, and nothing else
-  abbrev pub EntersFirstLines : Passing M Command E Answer → Passing M Command E Answer → List Action → Type 0
+  abbrev pub EntersFirstLines : Passing M Command E R → Passing M Command E R → List Action → Type 0
   EntersFirstLines before after lines =
-      (turns : List (List (Call Command Answer))) × IsPrefix (commands_of (all_calls turns)) (map Act lines) × EntersInTurns before after turns
+      (turns : List (List (Call Command R))) × IsPrefix (commands_of (all_calls turns)) (map Act lines) × EntersInTurns before after turns

@@ -1,6 +1,6 @@
 ghost use Rattle.std.specs.Prelude.{◌≡◌};
 ghost use Rattle.author_desk.specs.Lines.{slots_named, is_opening_cut};
-ghost use Rattle.author_desk.specs.Cuts.{opening_edits, seat_of, CanRaise, Raises};
+ghost use Rattle.author_desk.specs.Cuts.{opening_edits, seat_of, CanRaise, HasPartsFor, HandsOver, CanTakeIn, TakesIn, Raises};
 
 use crate::opening::raise_edges_named;
 use edge_board::{Board, BoardSeat};
@@ -31,6 +31,48 @@ impl<'a> Cuts<'a> {
                 board: _,
                 seat,
             } => Some(seat),
+        }
+    }
+
+    /// Cuts for another author of the graph, with a seat that gets one part of this one. It takes no memory.
+    pub fn split(&mut self) -> Cuts<'a>
+        requires board { CanRaise self.old }
+        requires parts { HasPartsFor 1 self.old }
+        ensures { HandsOver self.old self.new result }
+    {
+        match self {
+            Cuts::Empty => Cuts::Empty,
+            Cuts::On {
+                opening,
+                board,
+                seat,
+            } => Cuts::On {
+                opening: *opening,
+                board: *board,
+                seat: board.split(seat),
+            },
+        }
+    }
+
+    /// Gives the seat the parts and the marks of that of other cuts, where they have one. It takes no memory.
+    pub fn join(&mut self, other: Cuts<'_>)
+        requires { CanTakeIn self.old other }
+        ensures { TakesIn self.old other.entry self.new }
+    {
+        match other {
+            Cuts::Empty => {}
+            Cuts::On {
+                opening: _,
+                board: _,
+                seat: joined,
+            } => match self {
+                Cuts::Empty => unreachable!(),
+                Cuts::On {
+                    opening: _,
+                    board,
+                    seat,
+                } => board.join(seat, joined),
+            },
         }
     }
 }

@@ -5,7 +5,7 @@ ghost use Rattle.shared_replica.specs.Passes.{EntersAll};
 ghost use Rattle.author_desk.specs.Turns.{EntersFirstLines};
 
 use crate::no_memory::NoMemory;
-use grove_edits::{Action, Answer, Command};
+use grove_edits::{Action, Command};
 use shared_replica::{Machine, Pass, Shared};
 use std::alloc::Global;
 use std::sync::Wait;
@@ -21,7 +21,7 @@ fn commands_of(alloc: Global, lines: &[Action]) -> Result<Vec<Command>, NoMemory
 }
 
 /// Enters all lines in one turn. Where memory runs out, the first of them are entered, perhaps none.
-pub(crate) fn enter<R: Wait, M: Machine<Command = Command, Reply = Answer>>(
+pub(crate) fn enter<R: Wait, M: Machine<Command = Command>>(
     rt: &R,
     alloc: Global,
     shared: &Shared<M>,

@@ -9,7 +9,7 @@ use crate::cuts::Cuts;
 use crate::entering::enter;
 use crate::no_memory::NoMemory;
 use crate::starting::start_turn;
-use grove_edits::{Action, Answer, Command};
+use grove_edits::{Action, Command};
 use grove_io::Gate;
 use shared_replica::{Machine, Pass, Shared};
 use std::alloc::Global;
@@ -21,7 +21,7 @@ use std::sync::Wait;
 /// A line that cuts opening edges raises the slots of these edges as it starts, and waits, without memory or a turn. The next other
 /// line enters those that wait and then itself in one turn, and so does the end those that are left. Every other line takes a
 /// turn of its own, a cut that names no opening edge too.
-pub fn run_lines<R: Wait, M: Machine<Command = Command, Reply = Answer>, G: Gate>(
+pub fn run_lines<R: Wait, M: Machine<Command = Command>, G: Gate>(
     rt: &R,
     alloc: Global,
     shared: &Shared<M>,

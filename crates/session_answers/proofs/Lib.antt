@@ -1,4 +1,5 @@
 pub mod Agreeing
+pub mod NoCuts
 pub mod Numbers
 pub mod OwnEntries
 pub mod MoreItems

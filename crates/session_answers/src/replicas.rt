@@ -1,10 +1,12 @@
 //! What is asked of all replicas of a session, one after the other.
 ghost use Rattle.std.specs.Prelude.{◌≡◌, ◌+◌, ◌<◌, [], ◌∷◌, ◌++◌, length, map, replicate, IfOk, OnOk};
+ghost use Rattle.author_desk.specs.declared.cuts.Cuts.TheVariants.{Empty};
 ghost use Rattle.replica_core.specs.Content.{no_edits, with_taken, with_block};
 ghost use Rattle.session_answers.specs.BlockJournals.{block_journals};
 ghost use Rattle.session_answers.specs.Running.{sources_of as lists_of};
 
 use crate::no_memory::NoMemory;
+use author_desk::Cuts;
 use grove_edits::{Edit, EditList};
 use replica_core::Replica;
 use seeded_hash::HashSeed;
@@ -76,6 +78,17 @@ pub(crate) fn sources_of(alloc: Global, replicas: &[Replica]) -> Result<Vec<Edit
         sources.push(replica.in_order(alloc)?)?;
     }
     Ok(sources)
+}
+
+/// For so many replicas, cuts that raise nothing.
+pub(crate) fn no_cuts(alloc: Global, count: usize) -> Result<Vec<Cuts<'static>>, NoMemory>
+    ensures { IfOk result (λ cuts. cuts.items ≡ replicate count Empty) }
+{
+    let mut cuts = Vec::new(alloc);
+    for _made in 0..count {
+        cuts.push(Cuts::Empty)?;
+    }
+    Ok(cuts)
 }
 
 /// Keeps the journals of a block, one for each replica.

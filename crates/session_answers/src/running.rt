@@ -6,7 +6,9 @@ ghost use Rattle.session_answers.specs.Running.{IsBehind, HasLoaded, HasRunBlock
 
 use crate::counting::{can_number, count_lines, first_numbers};
 use crate::no_memory::NoMemory;
-use crate::replicas::{append_journals, apply, begin_block_on_each, empty_replicas, sources_of};
+use crate::replicas::{
+    append_journals, apply, begin_block_on_each, empty_replicas, no_cuts, sources_of,
+};
 use crate::showing::append_sections;
 use grove_edits::Edit;
 use grove_io::Gate;
@@ -113,6 +115,7 @@ impl Running {
         }
         let replicas = begin_block_on_each(alloc, replicas)?;
         let sources = sources_of(alloc, &replicas)?;
+        let mut cuts = no_cuts(alloc, replicas.len())?;
         let number = blocks + 1;
         let (replicas, made) = run_block(
             rt,
@@ -123,6 +126,7 @@ impl Running {
             block,
             sends + 1,
             &calls,
+            &mut cuts,
             gate,
         )?;
         count_lines(

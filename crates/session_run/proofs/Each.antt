@@ -1,5 +1,5 @@
 -- What holds of each replica of a block, one replica more.
-use Rattle.std.proofs.Common.{◌≡◌, ℕ, zero, suc, List, [], ◌∷◌, ◌++◌, length, slice_get, Some, ◌⊎◌, inl, inr, refl, sym, ap, subst, ◌∙◌, arith}
+use Rattle.std.proofs.Common.{◌≡◌, ℕ, zero, suc, List, [], ◌∷◌, ◌++◌, length, slice_get, Some, ◌⊎◌, inl, inr, refl, sym, ap, subst, ◌∙◌, length-append, arith}
 use Rattle.std.proofs.lemmas.Option.{same_Some, none-some, slice_get_within}
 use Rattle.grove_edits.specs.declared.actor.Actor.{Actor}
 use Rattle.grove_edits.specs.declared.command.Command.{Command}
@@ -14,6 +14,49 @@ get_pushed [] x y zero is = inr (refl, same_Some x y is)
 get_pushed [] x y (suc k) is = absurd (none-some y is)
 get_pushed (z ∷ xs) x y zero is = inl is
 get_pushed (z ∷ xs) x y (suc k) is = elim (get_pushed xs x y k is) [ inl there ↦ inl there | inr last ↦ inr (ap suc last.0, last.1) ]
+
+-- what holds of two lists item by item, with one item more in each
+pub pair_more : {X Y : Type 0} (P : ℕ → X → Y → Type 0) (xs : List X) (ys : List Y) (x : X) (y : Y) → length ys ≡ length xs
+    → ((k : ℕ) (a : X) (b : Y) → slice_get xs k ≡ Some a → slice_get ys k ≡ Some b → P k a b) → P (length xs) x y
+    → (k : ℕ) (a : X) (b : Y) → slice_get (xs ++ x ∷ []) k ≡ Some a → slice_get (ys ++ y ∷ []) k ≡ Some b → P k a b
+pair_more {X = X} {Y = Y} P xs ys x y many each last k a b is_a is_b =
+    elim (get_pushed xs x a k is_a) [
+      | inl there ↦
+          let within = slice_get_within xs k a there in
+          elim (get_pushed ys y b k is_b) [
+            | inl there_b ↦ each k a b there there_b
+            | inr end ↦ absurd (omega (arith, within, end.0))
+          ]
+      | inr here ↦
+          elim (get_pushed ys y b k is_b) [
+            | inl there_b ↦ (let within = slice_get_within ys k b there_b in absurd (omega (arith, within, here.0)))
+            | inr here_b ↦ subst (λ (n : ℕ). P n a b) (sym here.0) (subst (λ (u : X). P (length xs) u b) here.1 (subst (λ (v : Y). P (length xs) x v) here_b.1 last))
+          ]
+    ]
+
+get_front : {X : Type 0} (xs : List X) (x y : X) (k : ℕ) → slice_get xs k ≡ Some y → slice_get (xs ++ x ∷ []) k ≡ Some y
+get_front [] x y k is = absurd (none-some y is)
+get_front (z ∷ xs) x y zero is = is
+get_front (z ∷ xs) x y (suc k) is = get_front xs x y k is
+
+get_last : {X : Type 0} (xs : List X) (x : X) → slice_get (xs ++ x ∷ []) (length xs) ≡ Some x
+get_last [] x = refl
+get_last (z ∷ xs) x = get_last xs x
+
+-- what holds of each item of a list holds of the last one, and of each before it
+pub item_fewer : {X : Type 0} (P : ℕ → X → Type 0) (all xs : List X) (x : X) → all ≡ xs ++ x ∷ [] → ((k : ℕ) (y : X) → slice_get all k ≡ Some y → P k y)
+    → P (length xs) x × ((k : ℕ) (y : X) → slice_get xs k ≡ Some y → P k y)
+item_fewer P all xs x is each =
+    (each (length xs) x (ap (λ ys. slice_get ys (length xs)) is ∙ get_last xs x), λ k y there. each k y (ap (λ ys. slice_get ys k) is ∙ get_front xs x y k there))
+
+-- lists of one length, with an item less in each
+pub as_many_fewer : {X Y : Type 0} (all xs : List X) (x : X) (all' ys : List Y) (y : Y) → all ≡ xs ++ x ∷ [] → all' ≡ ys ++ y ∷ [] → length all ≡ length all' → length xs ≡ length ys
+as_many_fewer all xs x all' ys y is is' same =
+    let one = ap length is in
+    let two = ap length is' in
+    let three = length-append xs (x ∷ []) in
+    let four = length-append ys (y ∷ []) in
+    omega arith
 
 module _ {M E R : Type 0} (after : M → Actor → Command → M) (effect : M → Actor → Command → E) (reply : M → Actor → Command → R) (stage : Stage) where
   one_more : (firsts lasts : List M) (journals : List (List (Entry M Command E R))) (first last : M) (journal : List (Entry M Command E R))

@@ -19,10 +19,10 @@ pub can_work_front : (front : List Worker) (last : Worker) → AllByRecursion Ca
 can_work_front [] last h = (tt, h.0)
 can_work_front (w ∷ front) last h = let more = can_work_front front last h.1 in ((h.0, more.0), more.1)
 
-pub calls_of_front : (front : List Worker) (last : Worker) → sum_by calls_of (front ++ last ∷ []) ≡ sum_by calls_of front + calls_of last
-calls_of_front front last =
-    let both = sum_by-append calls_of front (last ∷ []) in
-    let one = sum_by-cons calls_of last [] in
+pub sum_of_front : (count : Worker → ℕ) (front : List Worker) (last : Worker) → sum_by count (front ++ last ∷ []) ≡ sum_by count front + count last
+sum_of_front count front last =
+    let both = sum_by-append count front (last ∷ []) in
+    let one = sum_by-cons count last [] in
     omega (arith, both, one)
 
 pub length_front : (front : List Worker) (last : Worker) → length (front ++ last ∷ []) ≡ suc (length front)

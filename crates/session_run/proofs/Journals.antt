@@ -201,7 +201,7 @@ module _ {R : Type 0} where
       let one = works.0 in
       let b = begins workers one works.1 made works.5 ran in
       elim (subst (IsNamed actor) b.whole named) [
-        | inl same ↦ record { place = 0; lines = l; at = refl; here = works.2; is = same ∙ author_of l one works.3 }
+        | inl same ↦ record { place = 0; lines = l; at = refl; here = works.2.0; is = same ∙ author_of l one works.3 }
         | inr there ↦
             let next = author_named replica all works.1 b.others actor works.4 b.ran there in
             record { place = suc next.place; lines = next.lines; at = next.at; here = next.here; is = next.is }

@@ -1,3 +1,4 @@
+pub mod AtReplica
 pub mod Each
 pub mod Grouped
 pub mod Joined
@@ -5,6 +6,10 @@ pub mod Journals
 pub mod Listed
 pub mod Made
 pub mod OfSessions
+pub mod OneMore
+pub mod OneReplica
 pub mod Planned
 pub mod SameCommands
+pub mod Seats
 pub mod Taken
+pub mod Worked

@@ -11,7 +11,7 @@ use Rattle.session_run.specs.declared.author_lines.AuthorLines.{AuthorLines}
 use Rattle.session_run.specs.declared.worker.Worker.{Worker}
 use Rattle.session_run.specs.Calls.{sends_of}
 use Rattle.session_run.specs.Run.{CanSend, CanRun}
-use Rattle.session_run.specs.Workers.{IsIdle, IsAuthorWorker, AddsAuthor, AreForAuthors, AreForSends, AddsSend}
+use Rattle.session_run.specs.Workers.{IsIdle, IsAtWork, IsAuthorWorker, AddsAuthor, AreForAuthors, AreForSends, AddsSend}
 
 -- the lines that can be run have sends that can be run
 pub can_send_all : (authors : List Declared) (replicas : ℕ) (lines : List Line) → AllByRecursion (CanRun authors replicas) lines → AllByRecursion (CanSend replicas) (sends_of lines)
@@ -35,7 +35,7 @@ module _ (replica : ℕ) (all : List AuthorLines) (before : List Worker) where
       → AuthorsSoFar replica all before left workers
   idle_author lines left workers idle h = record { more = h.more; appended = h.appended; leads = λ rest k. h.leads rest (inl (idle, k)) }
 
-  one_author : (lines : AuthorLines) (left : List AuthorLines) (workers : List Worker) (one : Worker) → lines.declared.replica ≡ replica → IsAuthorWorker lines one
+  one_author : (lines : AuthorLines) (left : List AuthorLines) (workers : List Worker) (one : Worker) → IsAtWork replica lines → IsAuthorWorker lines one
       → AuthorsSoFar replica all before (lines ∷ left) workers → AuthorsSoFar replica all before left (workers ++ one ∷ [])
   one_author lines left workers one here is h = record {
     more = h.more ++ one ∷ [];

@@ -1,10 +1,8 @@
 -- What a pass made, one step after the other.
-use Rattle.std.proofs.Common.{◌≡◌, ℕ, suc, ◌+◌, ◌<◌, ◌≤◌, List, [], ◌∷◌, ◌++◌, length, map, take, get_or, refl, sym, ap, subst, ◌∙◌, append_assoc, append-nil, arith}
-use Rattle.std.proofs.lemmas.List.{take_more, map-append}
-use Rattle.grove_edits.specs.declared.action.Action.{Action}
+use Rattle.std.proofs.Common.{◌≡◌, ℕ, suc, ◌+◌, ◌≤◌, List, [], ◌∷◌, ◌++◌, length, refl, sym, ap, subst, ◌∙◌, append_assoc, append-nil, arith}
+use Rattle.std.proofs.lemmas.List.{map-append}
 use Rattle.grove_edits.specs.declared.command.Command.{Command}
-use Rattle.grove_edits.specs.declared.command.Command.TheVariants.{Act}
-use Rattle.shared_replica.specs.Passes.{Call, Passing, Enters}
+use Rattle.shared_replica.specs.Passes.{Call, Passing, Enters, EntersInTurns, all_calls}
 use Rattle.session_run.specs.Passes.{commands_in, Makes}
 
 module _ {M E R : Type 0} where
@@ -28,6 +26,12 @@ module _ {M E R : Type 0} where
       length-append [] ys = omega arith
       length-append (x ∷ xs) ys = let more = length-append xs ys in omega (arith, more)
 
+  -- the turns of a pass made the calls of all
+  pub makes_in_turns : (before after : Passing M Command E R) (turns : List (List (Call Command R))) → EntersInTurns before after turns → Makes before after (all_calls turns)
+  makes_in_turns before after [] h = subst (λ (p : Passing M Command E R). Makes before p []) h (makes_none before)
+  makes_in_turns before after (calls ∷ turns) h =
+      makes_more before h.0 after calls (all_calls turns) (makes_entered before h.0 calls h.1) (makes_in_turns h.0 after turns h.2)
+
   -- the pass made calls of these commands
   pub record HasMade (before after : Passing M Command E R) (commands : List Command) : Type 0 where
     pub calls : List (Call Command R)
@@ -45,15 +49,6 @@ module _ {M E R : Type 0} where
         makes = makes_more before between after h.calls (call ∷ []) h.makes (makes_entered between after (call ∷ []) entered);
         are = map-append (λ (c : Call Command R). c.command) h.calls (call ∷ []) ∙ ap (λ (cs : List Command). cs ++ command ∷ []) h.are;
       }
-
-  -- one action more
-  pub one_action_made : (before between after : Passing M Command E R) (actions : List Action) (index : ℕ) (action : Action) (reply : R) → index < length actions
-      → action ≡ get_or actions index action → HasMade before between (map Act (take index actions)) → Enters between after (record { command = Act action; reply = reply } ∷ [])
-      → HasMade before after (map Act (take (index + 1) actions))
-  one_action_made before between after actions index action reply within is h entered =
-      let all : map Act (take (index + 1) actions) ≡ map Act (take index actions) ++ Act action ∷ [] =
-      ap (map Act) (take_more actions index action within ∙ ap (λ (a : Action). take index actions ++ a ∷ []) (sym is)) ∙ map-append Act (take index actions) (action ∷ []) in
-      subst (HasMade before after) (sym all) (one_made before between after (map Act (take index actions)) (Act action) reply h entered)
 
   -- calls are left for what is still to be made
   pub calls_left : (before now : Passing M Command E R) (commands : List Command) (more : ℕ) → HasMade before now commands → length commands + more ≤ before.calls → more ≤ now.calls

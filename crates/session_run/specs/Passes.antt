@@ -1,12 +1,19 @@
 -- What workers leave in the passes that call a machine, and in its journal.
-use Rattle.std.specs.Prelude.{◌≡◌, ◌+◌, List, [], ◌∷◌, ◌++◌, length, map}
+use Rattle.std.specs.Prelude.{◌≡◌, ◌+◌, List, [], ◌∷◌, ◌++◌, length, map, Result, OnOk}
+use Rattle.std.specs.List.{AllByRecursion, flat_map}
+use Rattle.grove_edits.specs.declared.edit.Edit.{Edit}
 use Rattle.grove_edits.specs.declared.actor.Actor.{Actor}
 use Rattle.grove_edits.specs.declared.actor.Actor.TheVariants.{Host}
 use Rattle.grove_edits.specs.declared.command.Command.{Command}
 use Rattle.shared_replica.specs.declared.journal.Entry.{Entry}
 use Rattle.shared_replica.specs.Passes.{Call, Passing, calls_by, AreNamed, StandsOnce}
+use Rattle.author_desk.specs.declared.cuts.Cuts.{Cuts}
+use Rattle.author_desk.specs.Cuts.{opening_edits, Raises, KeepsSeat}
+use Rattle.author_desk.specs.Turns.{turns_of}
 use Rattle.session_run.specs.declared.worker.Worker.{Worker}
-use Rattle.session_run.specs.Workers.{actor_of, AreCommandsOf}
+use Rattle.session_run.specs.declared.worker.Worker.TheVariants as worker
+use Rattle.session_run.specs.Boards.{LinesStand}
+use Rattle.session_run.specs.Workers.{actor_of, slots_of, AreCommandsOf}
 
 abbrev pub commands_in : {R : Type 0} → List (Call Command R) → List Command
 commands_in calls = map (λ call. call.command) calls
@@ -43,3 +50,29 @@ module _ {M E R : Type 0} where
     pub have_run : HaveRun workers made
     pub named : AreNamed journal ((Host, []) ∷ made)
     pub exact : (actor : Actor) (calls : List (Call Command R)) → StandsOnce actor calls ((Host, []) ∷ made) → calls_by actor journal ≡ calls
+
+module _ {M E R : Type 0} where
+  -- each turn of an author's lines stands together
+  abbrev pub StandsIn : List Edit → List (Entry M Command E R) → Worker → Type 0
+  StandsIn opening journal (worker.Author lines) =
+      AllByRecursion (LinesStand lines.now.declared.author journal) (turns_of opening lines.now.actions.items)
+  StandsIn opening journal (worker.Send number pieces) = Unit {0}
+
+module _ {M E R X : Type 0} where
+  -- the worker made calls and kept its seat. Where memory sufficed these were just its commands, in its turns, and the slots that it cuts
+  -- are raised
+  pub record HasWorked (worker : Worker) (before after : Passing M Command E R) (cuts cuts' : Cuts) (done : Result (Unit {0}) X) : Type 0 where
+    pub calls : List (Call Command R)
+    pub makes : Makes before after calls
+    pub keeps_seat : KeepsSeat cuts cuts'
+    pub commands : OnOk done (AreCommandsOf worker (commands_in calls))
+    pub raised : OnOk done (Raises cuts cuts' (slots_of (opening_edits cuts) worker))
+    pub stands : OnOk done (StandsIn (opening_edits cuts) after.seen worker)
+
+  -- the same of some workers, of which this pass and these cuts took in what each had
+  pub record HaveWorked (workers : List Worker) (before after : Passing M Command E R) (cuts cuts' : Cuts) (done : Result (Unit {0}) X) : Type 0 where
+    pub keeps : Keeps before after
+    pub keeps_seat : KeepsSeat cuts cuts'
+    pub joined : OnOk done ((more : List (Actor × List (Call Command R))) × HaveRun workers more × (after.joined ≡ before.joined ++ more))
+    pub raised : OnOk done (Raises cuts cuts' (flat_map (slots_of (opening_edits cuts)) workers))
+    pub stand : OnOk done (AllByRecursion (StandsIn (opening_edits cuts) after.seen) workers)

@@ -11,6 +11,10 @@ use Rattle.session_script.specs.declared.author.Declared.{Declared}
 use Rattle.session_script.specs.declared.line.Line.{Line}
 use Rattle.session_script.specs.declared.line.SendLine.{SendLine}
 use Rattle.replica_exchange.specs.Send.{sent_bytes, joined, ArePieces, edits_by_piece}
+use Rattle.author_desk.specs.declared.cuts.Cuts.{Cuts}
+use Rattle.author_desk.specs.declared.cuts.Cuts.TheVariants.{Empty}
+use Rattle.author_desk.specs.Cuts.{HandsOver}
+use Rattle.author_desk.specs.Lines.{slots_cut}
 use Rattle.session_run.specs.declared.author_lines.AuthorLines.{AuthorLines}
 use Rattle.session_run.specs.declared.worker.Worker.{Worker}
 use Rattle.session_run.specs.declared.worker.Worker.TheVariants as worker
@@ -51,6 +55,21 @@ abbrev pub calls_of : Worker → ℕ
 calls_of (worker.Author lines) = length lines.now.actions.items
 calls_of (worker.Send number pieces) = length pieces
 
+-- how many seats at the board it takes: authors raise the edges that they cut
+abbrev pub seats_of : Worker → ℕ
+seats_of (worker.Author lines) = 1
+seats_of (worker.Send number pieces) = 0
+
+-- the slots of the opening edges that it cuts
+abbrev pub slots_of : List Edit → Worker → List ℕ
+slots_of opening (worker.Author lines) = slots_cut opening lines.now.actions.items
+slots_of opening (worker.Send number pieces) = []
+
+-- what its cuts are made on: some were split off for an author, and a `send` line has none
+abbrev pub HandsTo : Worker → Cuts → Cuts → Cuts → Type 0
+HandsTo (worker.Author lines) before after given = HandsOver before after given
+HandsTo (worker.Send number pieces) before after given = (after ≡ before) × (given ≡ Empty)
+
 -- the numbers of its calls fit, and its pieces are those of the lines of some edits
 abbrev pub CanWork : Worker → Type 0
 CanWork (worker.Author lines) = HasNumbers lines.now
@@ -77,18 +96,22 @@ IsPieceWorker sources number send (worker.Send mine pieces) =
 abbrev pub IsIdle : ℕ → AuthorLines → Type 0
 IsIdle replica lines = (lines.declared.replica ≢ replica) ⊎ (lines.actions.items ≡ [])
 
+-- the author acts on the replica, and has actions
+abbrev pub IsAtWork : ℕ → AuthorLines → Type 0
+IsAtWork replica lines = (lines.declared.replica ≡ replica) × (lines.actions.items ≢ [])
+
 -- the workers of all authors at a replica, in order
 abbrev pub AreForAuthors : ℕ → List AuthorLines → List Worker → Type 0
 AreForAuthors replica [] workers = workers ≡ []
 AreForAuthors replica (lines ∷ all) workers =
     (IsIdle replica lines × AreForAuthors replica all workers)
-    ⊎ ((one : Worker) × (rest : List Worker) × (lines.declared.replica ≡ replica) × IsAuthorWorker lines one × AreForAuthors replica all rest × (workers ≡ one ∷ rest))
+    ⊎ ((one : Worker) × (rest : List Worker) × IsAtWork replica lines × IsAuthorWorker lines one × AreForAuthors replica all rest × (workers ≡ one ∷ rest))
 
 -- an author adds its worker, if it has one
 abbrev pub AddsAuthor : ℕ → AuthorLines → List Worker → List Worker → Type 0
 AddsAuthor replica lines before after =
     (IsIdle replica lines × (after ≡ before))
-    ⊎ ((one : Worker) × (lines.declared.replica ≡ replica) × IsAuthorWorker lines one × (after ≡ before ++ one ∷ []))
+    ⊎ ((one : Worker) × IsAtWork replica lines × IsAuthorWorker lines one × (after ≡ before ++ one ∷ []))
 
 -- the workers of `send` lines at a replica, in order, of which the first line has this number
 abbrev pub AreForSends : List (List Edit) → ℕ → ℕ → List SendLine → List Worker → Type 0

@@ -1,25 +1,30 @@
 //! Runs a block: its authors and its `send` lines are at work at once.
-ghost use Rattle.std.specs.Prelude.{◌≡◌, ℕ, ◌+◌, ◌^◌, ◌<◌, List, [], length, slice_get, Some, IfOk};
+ghost use Rattle.std.specs.Prelude.{◌≡◌, ℕ, ◌+◌, ◌^◌, ◌<◌, List, [], length, slice_get, vec_capacity, Some, IfOk, OnOk};
 ghost use Rattle.std.specs.List.{AllByRecursion};
 ghost use Rattle.grove_edits.specs.declared.command.Command.{Command};
 ghost use Rattle.grove_edits.specs.declared.answer.Answer.{Answer};
 ghost use Rattle.shared_replica.specs.declared.journal.Entry.{Entry};
 ghost use Rattle.session_script.specs.declared.author.Declared.{Declared};
 ghost use Rattle.session_script.specs.Session.{AllDiffer, author_numbers};
+ghost use Rattle.author_desk.specs.declared.cuts.Cuts.{Cuts};
+ghost use Rattle.author_desk.specs.Cuts.{opening_edits, Raises, KeepsSeat};
+ghost use Rattle.session_run.specs.Boards.{CanCutAt, slots_at, TurnsStand};
 ghost use Rattle.session_run.specs.Calls.{Stage, sends_of};
-ghost use Rattle.session_run.specs.Plans.{IsPlanOf, CanRunPlan, at_replica, EachHasRun};
+ghost use Rattle.session_run.specs.Plans.{CanRunPlan, FitsPlan, EachFits, HasRunPlan, HaveRunPlan, AppendsReplica};
 ghost use Rattle.session_run.specs.Run.{IsPlaced, CanRun, HasRun};
 
 use crate::author_lines::{AuthorLines, lines_by_author, sends_in};
 use crate::listing::{append_authors, append_sends};
 use crate::no_memory::NoMemory;
 use crate::together::run_together;
+use author_desk::Cuts;
 use grove_edits::{Answer, Command, EditList};
 use grove_io::Gate;
 use session_script::{AuthorList, Block, SendLine};
 use shared_replica::{Journal, Machine};
 use std::alloc::Global;
 use std::marker::PhantomData;
+use std::mem;
 use std::sync::Wait;
 use std::thread::{Threads, join};
 
@@ -35,7 +40,8 @@ pub struct Plan<'a> {
 
 /// Runs a block on machines, of which each is a replica: each author with lines and each `send` line is a worker of its own, and they
 /// are at work at once. The sources are the canonical lists of the replicas as the block opens, and the first `send` line of the block
-/// has the given number. `first_calls` has for each declared author, in order, the number of its first line in this block, or of its
+/// has the given number. Each replica has cuts, on the edges of its source: authors raise the slots of
+/// those that they cut at its board, each through a part of its seat. `first_calls` has for each declared author, in order, the number of its first line in this block, or of its
 /// next line, among all its lines in the session, counted from 1. The gate says when an author's calls may start, and changes nothing
 /// else. The machines come back with their journals, in the order in which they were handed in; where memory runs out for a worker,
 /// the others go on to their ends, and none comes back.
@@ -48,6 +54,7 @@ pub fn run_block<R: Threads + Wait + Sync, M: Machine<Command = Command, Reply =
     block: &Block,
     first_send: u32,
     first_calls: &[u64],
+    cuts: &mut Vec<Cuts<'_>>,
     gate: &G,
 ) -> Result<(Vec<M>, Vec<Journal<M>>), NoMemory>
     requires sources { length sources.now ≡ length machines.items }
@@ -57,11 +64,23 @@ pub fn run_block<R: Threads + Wait + Sync, M: Machine<Command = Command, Reply =
     requires numbers { first_send + length (sends_of block.now.lines) < 2 ^ 32 }
     requires first_calls { length first_calls.now ≡ length authors.now }
     requires calls { AllByRecursion (λ first. first + length block.now.lines < 2 ^ 64) first_calls.now }
+    requires cuts { length cuts.old.items ≡ length machines.items }
+    requires boards { (replica : ℕ) (own : Cuts) → slice_get cuts.old.items replica ≡ Some own
+        → CanCutAt (record { authors = authors.now; lines = block.now.lines; first_send = first_send; sources = sources.now; replica = replica }) own }
     ensures machines { IfOk result (λ ran. length ran.0.items ≡ length machines.items) }
     ensures journals { IfOk result (λ ran. length ran.1.items ≡ length machines.items) }
     ensures each { IfOk result (λ ran. (replica : ℕ) (first last : M) (journal : List (Entry M Command M.Effect Answer))
         → slice_get machines.items replica ≡ Some first → slice_get ran.0.items replica ≡ Some last → slice_get ran.1.items replica ≡ Some journal
         → HasRun M.after M.effect M.reply (record { authors = authors.now; lines = block.now.lines; first_send = first_send; sources = sources.now; replica = replica }) first journal last) }
+
+    // The seats at the boards come back with what their authors raised, and each turn of an author stands together.
+    ensures cuts { length cuts.new.items ≡ length cuts.old.items }
+    ensures seats { (replica : ℕ) (own back : Cuts) → slice_get cuts.old.items replica ≡ Some own → slice_get cuts.new.items replica ≡ Some back → KeepsSeat own back }
+    ensures raised { OnOk result ((replica : ℕ) (own back : Cuts) → slice_get cuts.old.items replica ≡ Some own → slice_get cuts.new.items replica ≡ Some back
+        → Raises own back (slots_at (record { authors = authors.now; lines = block.now.lines; first_send = first_send; sources = sources.now; replica = replica }) (opening_edits own))) }
+    ensures together { IfOk result (λ ran. (replica : ℕ) (own : Cuts) (journal : List (Entry M Command M.Effect Answer))
+        → slice_get cuts.old.items replica ≡ Some own → slice_get ran.1.items replica ≡ Some journal
+        → TurnsStand (record { authors = authors.now; lines = block.now.lines; first_send = first_send; sources = sources.now; replica = replica }) (opening_edits own) journal) }
 {
     let lines = block.lines.as_slice();
     let by_author = lines_by_author(alloc, authors, first_calls, lines)?;
@@ -73,44 +92,71 @@ pub fn run_block<R: Threads + Wait + Sync, M: Machine<Command = Command, Reply =
         first_send,
     };
     let journals = Vec::with_capacity(alloc, machines.len())?;
-    run_replicas(rt, alloc, machines, journals, &plan, gate)
+    let own = mem::replace(cuts, Vec::new(alloc));
+    let (own, ran) = run_replicas(rt, alloc, machines, journals, own, &plan, gate);
+    *cuts = own;
+    ran
 }
 
-// Runs a plan on replicas, each in a thread of its own, and fills an empty list with their journals.
-fn run_replicas<R: Threads + Wait + Sync, M: Machine<Command = Command>, G: Gate>(
+// Runs a plan on replicas, each in a thread of its own, and fills an empty list with their journals. The cuts come back in their order.
+fn run_replicas<'a, R: Threads + Wait + Sync, M: Machine<Command = Command>, G: Gate>(
     rt: &R,
     alloc: Global,
     mut machines: Vec<M>,
     journals: Vec<Journal<M>>,
+    mut cuts: Vec<Cuts<'a>>,
     plan: &Plan<'_>,
     gate: &G,
-) -> Result<(Vec<M>, Vec<Journal<M>>), NoMemory>
+) -> (
+    Vec<Cuts<'a>>,
+    Result<(Vec<M>, Vec<Journal<M>>), NoMemory>,
+)
     requires plan { CanRunPlan plan.now }
     requires no_journal { journals.items ≡ [] }
-    ensures machines { IfOk result (λ ran. length ran.0.items ≡ length machines.items) }
-    ensures journals { IfOk result (λ ran. length ran.1.items ≡ length machines.items) }
-    ensures each { IfOk result (λ ran. (stage : Stage) → IsPlanOf stage plan.now → EachHasRun M.after M.effect M.reply stage machines.items ran.0.items ran.1.items) }
+    requires cuts { length cuts.items ≡ length machines.items }
+    requires fit { EachFits plan.now cuts.items }
+    ensures run { HaveRunPlan M.after M.effect M.reply plan.now machines.items cuts.entry.items result.0.items result.1 }
+    ensures room { vec_capacity result.0 ≡ vec_capacity cuts.entry }
 {
     let Some(machine) = machines.pop() else {
-        return Ok((machines, journals));
+        return (cuts, Ok((machines, journals)));
+    };
+    let Some(own) = cuts.pop() else {
+        unreachable!()
     };
     let replica = machines.len() as u64;
     // A thread's result may name only types that what it is given names.
     let leaves = PhantomData::<Journal<M>>;
-    let (ran, others) = join(
+    let ((own, ran), (mut cuts, others)) = join(
         rt,
-        move || -> Result<(M, Journal<M>), NoMemory>
-            requires { CanRunPlan plan.now }
-            ensures { IfOk result (λ ran. (stage : Stage) → IsPlanOf stage plan.entry.now → HasRun M.after M.effect M.reply (at_replica stage replica) machine ran.1 ran.0) }
+        move || -> (Cuts<'_>, Result<(M, Journal<M>), NoMemory>)
+            requires { CanRunPlan plan.now × FitsPlan plan.now replica own }
+            ensures { HasRunPlan M.after M.effect M.reply plan.entry.now replica machine own.entry result.0 result.1 }
         {
             let _leaves = leaves;
-            run_at(rt, alloc, machine, plan, replica, gate)
+            let mut own = own;
+            let ran = run_at(rt, alloc, machine, &mut own, plan, replica, gate);
+            (own, ran)
         },
-        || -> Result<(Vec<M>, Vec<Journal<M>>), NoMemory>
-            requires { CanRunPlan plan.now × (journals.items ≡ []) }
-            ensures { IfOk result (λ ran. (length ran.0.items ≡ length machines.items) × (length ran.1.items ≡ length machines.items) × ((stage : Stage) → IsPlanOf stage plan.entry.now → EachHasRun M.after M.effect M.reply stage machines.items ran.0.items ran.1.items)) }
-        { run_replicas(rt, alloc, machines, journals, plan, gate) },
+        || -> (
+            Vec<Cuts<'_>>,
+            Result<(Vec<M>, Vec<Journal<M>>), NoMemory>,
+        )
+            requires { CanRunPlan plan.now × (journals.items ≡ []) × (length cuts.items ≡ length machines.items) × EachFits plan.now cuts.items }
+            ensures { HaveRunPlan M.after M.effect M.reply plan.entry.now machines.items cuts.entry.items result.0.items result.1 × (vec_capacity result.0 ≡ vec_capacity cuts.entry) }
+        { run_replicas(rt, alloc, machines, journals, cuts, plan, gate) },
     );
+    cuts.push_reserved(own);
+    (cuts, with_replica(others, ran))
+}
+
+// With what one replica more left.
+fn with_replica<M: Machine<Command = Command>>(
+    others: Result<(Vec<M>, Vec<Journal<M>>), NoMemory>,
+    ran: Result<(M, Journal<M>), NoMemory>,
+) -> Result<(Vec<M>, Vec<Journal<M>>), NoMemory>
+    ensures { IfOk result (AppendsReplica others ran) }
+{
     let (machine, journal) = ran?;
     let (mut machines, mut journals) = others?;
     machines.push(machine)?;
@@ -123,12 +169,14 @@ fn run_at<R: Threads + Wait + Sync, M: Machine<Command = Command>, G: Gate>(
     rt: &R,
     alloc: Global,
     machine: M,
+    cuts: &mut Cuts<'_>,
     plan: &Plan<'_>,
     replica: u64,
     gate: &G,
 ) -> Result<(M, Journal<M>), NoMemory>
-    requires { CanRunPlan plan.now }
-    ensures { IfOk result (λ ran. (stage : Stage) → IsPlanOf stage plan.now → HasRun M.after M.effect M.reply (at_replica stage replica) machine ran.1 ran.0) }
+    requires plan { CanRunPlan plan.now }
+    requires fits { FitsPlan plan.now replica cuts.old }
+    ensures { HasRunPlan M.after M.effect M.reply plan.now replica machine cuts.old cuts.new result }
 {
     let mut workers = Vec::new(alloc);
     append_authors(plan.lines, replica, &mut workers)?;
@@ -140,5 +188,5 @@ fn run_at<R: Threads + Wait + Sync, M: Machine<Command = Command>, G: Gate>(
         replica,
         &mut workers,
     )?;
-    run_together(rt, alloc, machine, &workers, gate)
+    run_together(rt, alloc, machine, cuts, &workers, gate)
 }

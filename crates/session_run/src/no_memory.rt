@@ -33,6 +33,12 @@ impl<T: Drop> From<NoMemoryWith<T>> for NoMemory {
     }
 }
 
+impl From<author_desk::NoMemory> for NoMemory {
+    fn from(_error: author_desk::NoMemory) -> NoMemory {
+        NoMemory
+    }
+}
+
 impl From<replica_exchange::NoMemory> for NoMemory {
     fn from(_error: replica_exchange::NoMemory) -> NoMemory {
         NoMemory

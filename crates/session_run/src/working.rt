@@ -1,25 +1,25 @@
 //! The calls of one worker.
-ghost use Rattle.std.specs.Prelude.{◌≡◌, ◌+◌, ◌^◌, ◌<◌, ◌≤◌, List, [], length, map, None, IfOk, OnOk};
+ghost use Rattle.std.specs.Prelude.{◌≡◌, ◌≤◌, List, [], length, None, IfOk, OnOk};
 ghost use Rattle.grove_edits.specs.declared.edit.Edit.{Edit};
 ghost use Rattle.grove_edits.specs.declared.command.Command.{Command};
-ghost use Rattle.grove_edits.specs.declared.command.Command.TheVariants.{Act};
 ghost use Rattle.edit_text.specs.Text.{text_of};
 ghost use Rattle.edit_stream.specs.Stream.{StreamState, Feeds};
 ghost use Rattle.replica_exchange.specs.Send.{joined, edits_by_piece};
 ghost use Rattle.shared_replica.specs.Passes.{Call};
 ghost use Rattle.session_run.specs.Calls.{takes};
-ghost use Rattle.session_run.specs.Workers.{calls_of, CanWork, AreCommandsOf};
-ghost use Rattle.session_run.specs.Passes.{commands_in, Makes};
+ghost use Rattle.author_desk.specs.Cuts.{CanRaise};
+ghost use Rattle.session_run.specs.Workers.{actor_of, calls_of, CanWork};
+ghost use Rattle.session_run.specs.Passes.{commands_in, Makes, HasWorked};
 
 use crate::no_memory::NoMemory;
 use crate::worker::Worker;
-use grove_edits::{Action, Bytes, Command, EditList};
+use author_desk::{Cuts, run_lines};
+use grove_edits::{Bytes, Command, EditList};
 use grove_io::Gate;
 use replica_exchange::{PieceList, TakeFault, Taker};
 use shared_replica::{Machine, Pass, Shared};
 use std::alloc::Global;
 use std::sync::Wait;
-use std::thread;
 
 /// Lets a worker make its calls. It ends where memory runs out.
 pub fn run_worker<R: Wait, M: Machine<Command = Command>, G: Gate>(
@@ -27,61 +27,33 @@ pub fn run_worker<R: Wait, M: Machine<Command = Command>, G: Gate>(
     alloc: Global,
     shared: &Shared<M>,
     pass: &mut Pass<M>,
+    cuts: &mut Cuts<'_>,
     worker: &Worker<'_>,
     gate: &G,
 ) -> Result<(), NoMemory>
     requires shared { pass.old.shared ≡ shared.now }
+    requires actor { pass.old.actor ≡ actor_of worker.now }
     requires calls { calls_of worker.now ≤ pass.old.calls }
     requires can_work { CanWork worker.now }
-    ensures { (calls : List (Call Command M.Reply)) × Makes pass.old pass.new calls × OnOk result (AreCommandsOf worker.now (commands_in calls)) }
+    requires cuts { CanRaise cuts.old }
+    ensures { HasWorked worker.now pass.old pass.new cuts.old cuts.new result }
 {
     match worker {
-        Worker::Author(lines) => run_actions(
-            rt,
-            alloc,
-            shared,
-            pass,
-            lines.declared.author,
-            lines.first_call,
-            &lines.actions,
-            gate,
-        ),
-        Worker::Send { number: _, pieces } => run_pieces(rt, alloc, shared, pass, pieces),
-    }
-}
-
-// Enters an author's actions in order, each once the gate is ready.
-fn run_actions<R: Wait, M: Machine<Command = Command>, G: Gate>(
-    rt: &R,
-    alloc: Global,
-    shared: &Shared<M>,
-    pass: &mut Pass<M>,
-    author: u32,
-    first_call: u64,
-    actions: &[Action],
-    gate: &G,
-) -> Result<(), NoMemory>
-    requires shared { pass.old.shared ≡ shared.now }
-    requires calls { length actions.now ≤ pass.old.calls }
-    requires numbers { first_call + length actions.now < 2 ^ 64 }
-    ensures { (calls : List (Call Command M.Reply)) × Makes pass.old pass.new calls × OnOk result (commands_in calls ≡ map Act actions.now) }
-{
-    let mut call = first_call;
-    for action in actions {
-        wait_for(gate, author, call);
-        shared.act(rt, alloc, pass, Command::Act(*action))?;
-        call += 1;
-    }
-    Ok(())
-}
-
-// Asks the gate until it is ready, and gives up after very many times.
-fn wait_for<G: Gate>(gate: &G, author: u32, call: u64) {
-    for _ in 0..1_000_000u64 {
-        if gate.ready(author, call) {
-            return;
+        Worker::Author(lines) => {
+            run_lines(
+                rt,
+                alloc,
+                shared,
+                pass,
+                cuts,
+                lines.declared.author,
+                lines.first_call,
+                &lines.actions,
+                gate,
+            )?;
+            Ok(())
         }
-        thread::yield_now();
+        Worker::Send { number: _, pieces } => run_pieces(rt, alloc, shared, pass, pieces),
     }
 }
 

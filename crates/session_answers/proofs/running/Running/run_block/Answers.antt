@@ -3,6 +3,7 @@ use Rattle.session_run.proofs.OfSessions.{sends_counted}
 use Rattle.session_report.specs.Report.{block_heading, journals_text}
 use Rattle.replica_core.specs.Content.{with_block}
 use Rattle.session_answers.specs.Running.{sources_of}
+use Rattle.session_answers.proofs.NoCuts.{can_run_on_none}
 use Rattle.session_answers.proofs.Steps.{have_run}
 use Rattle.session_answers.proofs.running.Running.run_block.Goals as goal
 
@@ -26,3 +27,6 @@ returns g c =
 
 pub run_block-requires-clause-numbers : goal.run_block-requires-clause-numbers
 run_block-requires-clause-numbers g c κs within = let few = c.requires.few_sends in let counted = sends_counted c.args.block.now.lines in omega arith
+
+pub run_block-requires-clause-boards : goal.run_block-requires-clause-boards
+run_block-requires-clause-boards g c κs within = λ replica own is. can_run_on_none _ c.in_ok-cuts.cuts.items _ replica own c.in_ok-cuts.ensures is
