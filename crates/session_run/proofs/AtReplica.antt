@@ -1,5 +1,5 @@
 -- Which seats the workers at a replica take, which slots they raise, and which of their calls stand together.
-use Rattle.std.proofs.Common.{◌≡◌, ◌≢◌, ℕ, zero, suc, ◌+◌, ◌-◌, ◌<◌, ◌≤◌, ◌==◌, ◌&&◌, Bool, true, false, ◌⊎◌, inl, inr, List, [], ◌∷◌, ◌++◌, length, map, sum_by, get_or, cond, refl, sym, ap, ap₂, subst, ◌∙◌, append-nil, arith}
+use Rattle.std.proofs.Common.{◌≡◌, ◌≢◌, ℕ, zero, suc, ◌+◌, ◌<◌, ◌≤◌, ◌==◌, ◌&&◌, Bool, true, false, ◌⊎◌, inl, inr, List, [], ◌∷◌, ◌++◌, length, map, sum_by, get_or, cond, refl, sym, ap, ap₂, subst, ◌∙◌, append-nil, arith}
 use Rattle.std.specs.Prelude.{if◌then◌else◌, ◌||◌}
 use Rattle.std.specs.List.{AllByRecursion, count_by, flat_map, list_any}
 use Rattle.std.proofs.lemmas.Bool.{eqb-true, eq-eqb}
@@ -68,7 +68,7 @@ seats_suffice plan replica cuts authors sends workers fits for_authors for_sends
     let all = ap (sum_by seats_of) both ∙ sum_by-append seats_of authors sends in
     let front = seats_of_authors replica plan.lines.now authors for_authors in
     let back = seats_of_sends plan.sources.now replica plan.first_send plan.sends.now sends for_sends in
-    fewer_parts cuts (sum_by seats_of workers) (length authors) 0 (omega (arith, all, front, back)) (fits.parts authors for_authors)
+    fewer_parts cuts (sum_by seats_of workers) (length authors) (omega (arith, all, front, back)) (fits.parts authors for_authors)
 
 -- ---- how many authors are at work
 
@@ -103,16 +103,26 @@ workers_at_work replica lines (d ∷ authors) (l ∷ all) workers are (inr works
     let all_of = ap length works.5 in
     omega (arith, rest, sum, is, all_of)
 
+-- at most all are at work
+pub few_at_work : (authors : List Declared) (lines : List Line) (replica : ℕ) → authors_at_work authors lines replica ≤ length authors
+few_at_work [] lines replica = omega arith
+few_at_work (d ∷ authors) lines replica =
+    let rest = few_at_work authors lines replica in
+    let sum = sum_by-cons (λ (e : Declared). cond (is_at_work lines replica e) 1 0) d authors in
+    let one = at_most_one (is_at_work lines replica d) in
+    omega (arith, rest, sum, one)
+  where
+    at_most_one : (b : Bool) → cond b 1 0 ≤ 1
+    at_most_one true = omega arith
+    at_most_one false = omega arith
+
 pub fits_plan : (stage : Stage) (plan : Plan) (cuts : Cuts) → AreLinesOf stage.authors stage.lines plan.lines.now → CanCutAt stage cuts → FitsPlan plan stage.replica cuts
 fits_plan stage plan cuts are can = record {
   can_raise = can.can_raise;
   parts = λ workers for_authors.
       let few = workers_at_work stage.replica stage.lines stage.authors plan.lines.now workers are for_authors in
-      at_most cuts (length workers) (authors_at_work stage.authors stage.lines stage.replica) few can.parts;
+      fewer_parts cuts (length workers) (authors_at_work stage.authors stage.lines stage.replica) few can.parts;
 }
-  where
-    at_most : (cuts : Cuts) (few many : ℕ) → few ≤ many → HasPartsFor many cuts → HasPartsFor few cuts
-    at_most cuts few many le has = fewer_parts cuts few many (many - few) (omega arith) has
 
 -- ---- slots
 

@@ -1,5 +1,5 @@
 -- A seat of which a part is handed to a worker, and which takes it in again.
-use Rattle.std.proofs.Common.{◌≡◌, ℕ, ◌+◌, ◌<◌, List, [], ◌∷◌, ◌++◌, sum_by, refl, sym, ap, subst, ◌∙◌, append_assoc, append-nil, arith}
+use Rattle.std.proofs.Common.{◌≡◌, ℕ, ◌+◌, ◌<◌, ◌≤◌, List, [], ◌∷◌, ◌++◌, sum_by, refl, sym, ap, subst, ◌∙◌, append_assoc, append-nil, arith}
 use Rattle.edge_board.specs.Seats.{BoardStanding}
 use Rattle.author_desk.specs.declared.cuts.Cuts.{Cuts}
 use Rattle.author_desk.specs.declared.cuts.Cuts.TheVariants.{Empty, On}
@@ -9,9 +9,9 @@ use Rattle.session_run.specs.declared.worker.Worker.TheVariants as worker
 use Rattle.session_run.specs.Workers.{seats_of, HandsTo}
 use Rattle.session_run.proofs.Joined.{sum_of_front}
 
-pub fewer_parts : (cuts : Cuts) (few many more : ℕ) → few + more ≡ many → HasPartsFor many cuts → HasPartsFor few cuts
-fewer_parts Empty few many more is has = tt
-fewer_parts (On opening board seat) few many more is has = omega arith
+pub fewer_parts : (cuts : Cuts) (few many : ℕ) → few ≤ many → HasPartsFor many cuts → HasPartsFor few cuts
+fewer_parts Empty few many le has = tt
+fewer_parts (On opening board seat) few many le has = omega arith
 
 -- the parts for all workers are those for the last one and those for the others
 pub parts_divide : (cuts : Cuts) (workers front : List Worker) (last : Worker) → workers ≡ front ++ last ∷ [] → HasPartsFor (sum_by seats_of workers) cuts
@@ -19,7 +19,7 @@ pub parts_divide : (cuts : Cuts) (workers front : List Worker) (last : Worker) �
 parts_divide cuts workers front last both has =
     let all = ap (sum_by seats_of) both ∙ sum_of_front seats_of front last in
     let some = subst (λ (n : ℕ). HasPartsFor n cuts) all has in
-    (some, fewer_parts cuts (seats_of last) (sum_by seats_of front + seats_of last) (sum_by seats_of front) (omega arith) some)
+    (some, fewer_parts cuts (seats_of last) (sum_by seats_of front + seats_of last) (omega arith) some)
 
 -- ---- what both have
 
@@ -41,7 +41,7 @@ both_can_raise (worker.Send number pieces) c c' own can h = (subst CanRaise (sym
 pub parts_left : (w : Worker) (c c' own : Cuts) (others : ℕ) → HandsTo w c c' own → HasPartsFor (others + seats_of w) c → HasPartsFor others c'
 parts_left (worker.Author lines) Empty c' own others h has = subst (HasPartsFor others) (sym h.0) tt
 parts_left (worker.Author lines) (On opening board seat) c' own others h has = subst (HasPartsFor others) (sym h.0) (omega arith)
-parts_left (worker.Send number pieces) c c' own others h has = subst (HasPartsFor others) (sym h.0) (fewer_parts c others (others + 0) 0 refl has)
+parts_left (worker.Send number pieces) c c' own others h has = subst (HasPartsFor others) (sym h.0) (fewer_parts c others (others + 0) (omega arith) has)
 
 -- ---- taken in again
 

@@ -1,13 +1,23 @@
-ghost use Rattle.std.specs.Prelude.{◌≡◌, ◌+◌, ◌%◌, ◌^◌, length};
+ghost use Rattle.std.specs.Prelude.{◌≡◌, ◌+◌, ◌%◌, ◌^◌, ◌<◌, ◌≤◌, [], ◌∷◌, length, IfOk};
+ghost use Rattle.std.specs.List.{AllByRecursion};
 ghost use Rattle.grove_edits.specs.declared.answer.Answer.TheVariants.{Done};
+ghost use Rattle.grove_edits.specs.Graph.{Ascends};
+ghost use Rattle.edge_board.specs.Seats.{BoardOf};
+ghost use Rattle.author_desk.specs.declared.cuts.Cuts.TheVariants.{Empty};
+ghost use Rattle.author_desk.specs.Cuts.{CanRaise, HasPartsFor};
 ghost use Rattle.session_script.specs.Session.{IsSession};
 
 use super::*;
+use author_desk::Cuts;
+use edge_board::{Board, BoardSeat};
+use edge_lattice::State;
 use grove_edits::{Action, Actor, Answer, Command, EditList};
 use grove_io::{Gate, OpenGate};
 use session_script::{Item, Session, read_session};
 use shared_replica::{Journal, Machine, NoMemory as NoRoom};
 use std::alloc::Global;
+use std::marker::{Brand, PhantomData};
+use std::sync::Mutex;
 use std::sync::Wait;
 use std::sync::atomic::{AtomicU64, Ordering};
 use std::sync::ledger::Ledger;
@@ -70,12 +80,15 @@ fn journals_of<R: Threads + Wait + Sync, G: Gate>(
     alloc: Global,
     session: &Session,
     sources: &[EditList],
+    cuts: &mut Vec<Cuts<'_>>,
     gate: &G,
 ) -> Result<Vec<Journal<Counter>>, Fail>
     requires session { IsSession session.now }
     requires replicas { length session.now.replicas ≡ 2 }
     requires authors { length session.now.authors ≡ 2 }
     requires sources { length sources.now ≡ 2 }
+    requires cuts { length cuts.old.items ≡ 2 }
+    requires boards { AllByRecursion (λ own. CanRaise own × HasPartsFor 2 own) cuts.old.items }
 {
     let Some(Item::Block(block)) = session.items.get(0) else {
         return Err(Fail::from("a block"));
@@ -94,9 +107,17 @@ fn journals_of<R: Threads + Wait + Sync, G: Gate>(
         block,
         1,
         &first_calls,
+        cuts,
         gate,
     )?;
     Ok(journals)
+}
+
+// Two replicas that opened without edges.
+fn no_cuts(alloc: Global) -> Result<Vec<Cuts<'static>>, NoMemory>
+    ensures { IfOk result (λ cuts. cuts.items ≡ Empty ∷ Empty ∷ []) }
+{
+    Ok(vec![in alloc; Cuts::Empty, Cuts::Empty]?)
 }
 
 // What an actor's call of this index among its own asks: the number of the edge that is cut or of the piece, and that of its edits.
@@ -128,7 +149,8 @@ fn authors_act_and_pieces_come_where_they_belong(rt: HostRuntime) -> Result<(), 
     }
     let edits = loaded(rt.alloc(), &session)?;
     let sources = vec![in rt.alloc(); edits, EditList::new(rt.alloc())]?;
-    let journals = journals_of(&rt, rt.alloc(), &session, &sources, &OpenGate)?;
+    let mut cuts = no_cuts(rt.alloc())?;
+    let journals = journals_of(&rt, rt.alloc(), &session, &sources, &mut cuts, &OpenGate)?;
     assert_eq!(rt; journals.len(), 2);
     for (replica, actor, index, want) in [
         (0, Actor::Author(1), 0, Some((2, 0))),
@@ -186,7 +208,8 @@ fn two_authors_meet(rt: HostRuntime) -> Result<(), Fail> {
         first: AtomicU64::new(0),
         second: AtomicU64::new(0),
     };
-    let journals = journals_of(&rt, rt.alloc(), &session, &sources, &gate)?;
+    let mut cuts = no_cuts(rt.alloc())?;
+    let journals = journals_of(&rt, rt.alloc(), &session, &sources, &mut cuts, &gate)?;
     for author in [1u32, 2] {
         assert!(rt; shown(&journals, 0, Actor::Author(author), 0) == Some((2, 0)));
         assert!(rt; shown(&journals, 0, Actor::Author(author), 1) == Some((3, 0)));
@@ -195,5 +218,142 @@ fn two_authors_meet(rt: HostRuntime) -> Result<(), Fail> {
         let asked = asked.load(Ordering::SeqCst);
         assert!(rt; 0 < asked && asked < 1_000_000);
     }
+    Ok(())
+}
+
+// A block in which an author cuts both children of `3.1 plus` and makes another one at its left, after the edits that add them.
+const CUTTING: &[u8] =
+    b"session\nreplica a\nreplica b\nauthor 1 a\nauthor 2 a\nblock\n1 cut 3.4\n1 cut 3.6\n1 construct 3.1 left num:1\n2 construct 0.0 main num:2\nend\nload a +3.2 0.0 root main 3.1 plus\nload a +3.4 3.1 plus left 3.3 num:7\nload a +3.6 3.1 plus right 3.5 num:8\n";
+
+// Which board a watch is at. Each call of a program picks it.
+trait Naming {
+    ghost board: { BoardOf };
+}
+
+impl Naming for Brand {
+    ghost board = { record { table = record { words = 0; slots = 0; views_name = 0; atom = 0; block = 0; offset = 0; slot_names = [] }; parts = 0; opening = [] } };
+}
+
+// A seat that can lie under a lock.
+#[derive(Drop)]
+struct Watch<B: Naming> {
+    seat: BoardSeat,
+    of: PhantomData<B>,
+    ghost at: { seat.board ≡ B.board },
+}
+
+/// Lets author 1's third call start once the slots of both children are Deleted. It counts how often it was asked for that.
+#[derive(Drop)]
+struct Watching<'a, B: Naming> {
+    board: &'a Board,
+    watch: Mutex<Watch<B>>,
+    asks: AtomicU64,
+    ghost at: { board.now ≡ B.board },
+    ghost slots: { 2 < length board.now.opening },
+}
+
+impl<'a, B: Naming + Send + Sync> Gate for Watching<'a, B> {
+    fn ready(&self, author: u32, call: u64) -> bool {
+        if author != 1 || call != 3 {
+            return true;
+        }
+        self.asks.fetch_add(1, Ordering::SeqCst);
+        let Some(mut watch) = self.watch.try_lock() else {
+            return false;
+        };
+        let left = self.board.read(&mut watch.seat, 1);
+        let right = self.board.read(&mut watch.seat, 2);
+        left == State::Deleted && right == State::Deleted
+    }
+}
+
+// The journals that the block leaves, and how often the gate was asked for author 1's third call.
+fn cut_as<B: Naming + Send + Sync, R: Threads + Wait + Sync>(
+    rt: &R,
+    alloc: Global,
+    session: &Session,
+    sources: &[EditList],
+    board: &Board,
+    seat: BoardSeat,
+    watch: BoardSeat,
+) -> Result<(Vec<Journal<Counter>>, u64), Fail>
+    requires session { IsSession session.now }
+    requires replicas { length session.now.replicas ≡ 2 }
+    requires authors { length session.now.authors ≡ 2 }
+    requires sources { AllByRecursion Ascends sources.now × (length sources.now ≡ 2) }
+    requires board { (board.now ≡ B.board) × (seat.board ≡ B.board) × (watch.board ≡ B.board) }
+    requires parts { 2 < seat.parts }
+    requires slots { length board.now.opening ≡ 3 }
+{
+    let gate = Watching::<B> {
+        board,
+        watch: Mutex::new(Watch::<B> {
+            seat: watch,
+            of: PhantomData,
+        }),
+        asks: AtomicU64::new(0),
+    };
+    let opening = &sources[0];
+    if opening.len() != 3 {
+        return Err(Fail::from("three edges"));
+    }
+    let mut cuts = Vec::with_capacity(alloc, 2)?;
+    cuts.push(Cuts::On {
+        opening,
+        board,
+        seat,
+    })?;
+    cuts.push(Cuts::Empty)?;
+    let journals = journals_of(rt, alloc, session, sources, &mut cuts, &gate)?;
+    Ok((journals, gate.asks.load(Ordering::SeqCst)))
+}
+
+// The same, at a board that is made for it.
+fn cut<R: Threads + Wait + Sync>(
+    rt: &R,
+    alloc: Global,
+    session: &Session,
+) -> Result<(Vec<Journal<Counter>>, u64), Fail>
+    requires session { IsSession session.now }
+    requires replicas { length session.now.replicas ≡ 2 }
+    requires authors { length session.now.authors ≡ 2 }
+{
+    let edits = loaded(alloc, session)?.into_canonical();
+    let sources = vec![in alloc; edits, EditList::new(alloc)]?;
+    let opening = [State::Live, State::Live, State::Live];
+    let (board, mut seat) = Board::new(alloc, &opening, 4)?;
+    let watch = board.split(&mut seat);
+    cut_as::<Brand, R>(rt, alloc, session, &sources, &board, seat, watch)
+}
+
+// Whether the entry at an index is author 1's, and the cut of an edge of author 3's.
+fn is_cut(journal: &Journal<Counter>, index: usize, counter: u64) -> bool {
+    let Some(entry) = journal.get(index) else {
+        return false;
+    };
+    match entry.command {
+        Command::Act(Action::Cut { edge }) => {
+            entry.actor == Actor::Author(1) && edge.author == 3 && edge.counter == counter
+        }
+        Command::Act(_) | Command::Take { .. } => false,
+    }
+}
+
+#[test]
+fn cut_before_turn(rt: HostRuntime) -> Result<(), Fail> {
+    let Ok(session) = read_session(rt.alloc(), CUTTING) else {
+        return Err(Fail::from("a session"));
+    };
+    if session.replicas.len() != 2 || session.authors.len() != 2 {
+        return Err(Fail::from("two replicas and two authors"));
+    }
+    let (journals, asks) = cut(&rt, rt.alloc(), &session)?;
+    assert!(rt; 0 < asks && asks < 1_000_000);
+    assert!(rt; journals.len() == 2 && journals[0].len() == 4);
+    // Author 2's entry is before the three of author 1, or behind them.
+    let first = if is_cut(&journals[0], 0, 4) { 0 } else { 1 };
+    assert!(rt; is_cut(&journals[0], first, 4) && is_cut(&journals[0], first + 1, 6));
+    assert!(rt; shown(&journals, 0, Actor::Author(1), 0) == Some((4, 0)));
+    assert!(rt; shown(&journals, 0, Actor::Author(1), 1) == Some((6, 0)));
     Ok(())
 }
