@@ -1,5 +1,4 @@
 pub mod Agreeing
-pub mod NoCuts
 pub mod Numbers
 pub mod OwnEntries
 pub mod MoreItems
@@ -12,4 +11,5 @@ pub mod Summed
 pub mod OneActor
 pub mod OneCourse
 pub mod GeneratedAlone
+pub mod OnBoards
 pub mod OneSize

@@ -1,3 +1,4 @@
 pub mod BlockJournals
+pub mod Boards
 pub mod Running
 pub mod Summarizing

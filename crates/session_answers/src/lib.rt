@@ -2,6 +2,8 @@
 //! and the report or the summary is the one of the session and these journals.
 #![tactic(auto)]
 
+mod block;
+mod boards;
 mod counting;
 mod laws;
 mod no_memory;

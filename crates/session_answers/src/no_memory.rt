@@ -32,6 +32,12 @@ impl From<grove_edits::NoMemory> for NoMemory {
     }
 }
 
+impl From<edge_board::NoMemory> for NoMemory {
+    fn from(_error: edge_board::NoMemory) -> NoMemory {
+        NoMemory
+    }
+}
+
 impl From<session_run::NoMemory> for NoMemory {
     fn from(_error: session_run::NoMemory) -> NoMemory {
         NoMemory

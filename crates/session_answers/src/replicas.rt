@@ -1,12 +1,12 @@
 //! What is asked of all replicas of a session, one after the other.
 ghost use Rattle.std.specs.Prelude.{◌≡◌, ◌+◌, ◌<◌, [], ◌∷◌, ◌++◌, length, map, replicate, IfOk, OnOk};
-ghost use Rattle.author_desk.specs.declared.cuts.Cuts.TheVariants.{Empty};
+ghost use Rattle.std.specs.List.{AllByRecursion};
+ghost use Rattle.grove_edits.specs.Graph.{Ascends};
 ghost use Rattle.replica_core.specs.Content.{no_edits, with_taken, with_block};
 ghost use Rattle.session_answers.specs.BlockJournals.{block_journals};
 ghost use Rattle.session_answers.specs.Running.{sources_of as lists_of};
 
 use crate::no_memory::NoMemory;
-use author_desk::Cuts;
 use grove_edits::{Edit, EditList};
 use replica_core::Replica;
 use seeded_hash::HashSeed;
@@ -70,25 +70,16 @@ pub(crate) fn begin_block_on_each(
     Ok(opened)
 }
 
+/// The canonical lists of replicas.
 pub(crate) fn sources_of(alloc: Global, replicas: &[Replica]) -> Result<Vec<EditList>, NoMemory>
-    ensures { IfOk result (λ sources. sources.items ≡ lists_of replicas.now) }
+    ensures lists { IfOk result (λ sources. sources.items ≡ lists_of replicas.now) }
+    ensures ascend { IfOk result (λ sources. AllByRecursion Ascends sources.items) }
 {
     let mut sources = Vec::new(alloc);
     for replica in replicas {
         sources.push(replica.in_order(alloc)?)?;
     }
     Ok(sources)
-}
-
-/// For so many replicas, cuts that raise nothing.
-pub(crate) fn no_cuts(alloc: Global, count: usize) -> Result<Vec<Cuts<'static>>, NoMemory>
-    ensures { IfOk result (λ cuts. cuts.items ≡ replicate count Empty) }
-{
-    let mut cuts = Vec::new(alloc);
-    for _made in 0..count {
-        cuts.push(Cuts::Empty)?;
-    }
-    Ok(cuts)
 }
 
 /// Keeps the journals of a block, one for each replica.

@@ -4,18 +4,16 @@ ghost use Rattle.session_script.specs.Session.{IsSession, is_send};
 ghost use Rattle.session_run.specs.Run.{CanRun};
 ghost use Rattle.session_answers.specs.Running.{IsBehind, HasLoaded, HasRunBlock, HasShown};
 
+use crate::block::run_on_boards;
 use crate::counting::{can_number, count_lines, first_numbers};
 use crate::no_memory::NoMemory;
-use crate::replicas::{
-    append_journals, apply, begin_block_on_each, empty_replicas, no_cuts, sources_of,
-};
+use crate::replicas::{append_journals, apply, begin_block_on_each, empty_replicas};
 use crate::showing::append_sections;
 use grove_edits::Edit;
 use grove_io::Gate;
 use replica_core::Replica;
 use seeded_hash::HashSeed;
 use session_report::{JournalList, append_block, append_show_heading};
-use session_run::run_block;
 use session_script::{Block, Item, Line, Session};
 use std::alloc::Global;
 use std::sync::Wait;
@@ -114,19 +112,15 @@ impl Running {
             return Err(NoMemory);
         }
         let replicas = begin_block_on_each(alloc, replicas)?;
-        let sources = sources_of(alloc, &replicas)?;
-        let mut cuts = no_cuts(alloc, replicas.len())?;
         let number = blocks + 1;
-        let (replicas, made) = run_block(
+        let (replicas, made) = run_on_boards(
             rt,
             alloc,
             replicas,
-            &sources,
-            &session.authors,
+            session,
             block,
             sends + 1,
             &calls,
-            &mut cuts,
             gate,
         )?;
         count_lines(

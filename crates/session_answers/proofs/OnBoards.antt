@@ -1,0 +1,150 @@
+-- Cuts at the boards of a block: they are as the block needs them, and their seats come back whole.
+use Rattle.std.proofs.Common.{◌≡◌, ◌⊎◌, inl, inr, ℕ, zero, suc, ◌+◌, ◌<◌, List, [], ◌∷◌, ◌++◌, length, map, take, get_or, slice_get, Option, Some, None, refl, sym, ap, subst, ◌∙◌, arith, length-append}
+use Rattle.std.specs.Option.{option_map}
+use Rattle.std.specs.List.{AllByRecursion, AllZip}
+use Rattle.std.proofs.lemmas.List.{map-append, take_more}
+use Rattle.std.proofs.lemmas.Option.{same_Some, slice_get-map}
+use Rattle.edge_lattice.specs.declared.state.State.{State}
+use Rattle.grove_edits.specs.declared.edit.Edit.{Edit}
+use Rattle.grove_edits.specs.Graph.{Ascends}
+use Rattle.edge_board.specs.Seats.{BoardOf, BoardStanding, first_board_seat}
+use Rattle.author_desk.specs.declared.cuts.Cuts.{Cuts}
+use Rattle.author_desk.specs.declared.cuts.Cuts.TheVariants.{Empty, On}
+use Rattle.author_desk.specs.Cuts.{opening_edits, seat_of, KeepsSeat}
+use Rattle.session_script.specs.declared.author.Declared.{Declared}
+use Rattle.session_script.specs.declared.line.Line.{Line}
+use Rattle.session_run.specs.Calls.{Stage}
+use Rattle.session_run.specs.Boards.{CanCutAt}
+use Rattle.session_answers.specs.Boards.{states_of, parts_at, IsBoardFor, AreBoards, board_of, IsWholeSeat}
+
+-- ---- lists, place by place
+
+-- what is found behind one item more: an earlier item, or this one
+pub found_with : {A : Type 0} (xs : List A) (y : A) (k : ℕ) (x : A) → slice_get (xs ++ y ∷ []) k ≡ Some x → (slice_get xs k ≡ Some x) ⊎ ((k ≡ length xs) × (y ≡ x))
+found_with [] y zero x is = inr (refl, same_Some y x is)
+found_with [] y (suc k) x is = absurd cc
+found_with (z ∷ xs) y zero x is = inl is
+found_with (z ∷ xs) y (suc k) x is = further (found_with xs y k x is) where
+  further : (slice_get xs k ≡ Some x) ⊎ ((k ≡ length xs) × (y ≡ x)) → (slice_get (z ∷ xs) (suc k) ≡ Some x) ⊎ ((suc k ≡ length (z ∷ xs)) × (y ≡ x))
+  further (inl earlier) = inl earlier
+  further (inr last) = inr (ap (λ n. suc n) last.0, last.1)
+
+pub found_in_map : {A B : Type 0} (f : A → B) (xs : List A) (ys : List B) (k : ℕ) (x : A) → map f xs ≡ ys → slice_get xs k ≡ Some x → slice_get ys k ≡ Some (f x)
+found_in_map f xs ys k x are is = ap (λ zs. slice_get zs k) (sym are) ∙ slice_get-map f xs k ∙ ap (option_map f) is
+
+all_found : {A : Type 0} (P : A → Type 0) (xs : List A) (k : ℕ) (x : A) → AllByRecursion P xs → slice_get xs k ≡ Some x → P x
+all_found P [] k x all is = absurd cc
+all_found P (y ∷ xs) zero x all is = subst P (same_Some y x is) all.0
+all_found P (y ∷ xs) (suc k) x all is = all_found P xs k x all.1 is
+
+pub all_zipped : {A B : Type 0} (R : A → B → Type 0) (xs : List A) (ys : List B) → length ys ≡ length xs
+    → ((k : ℕ) (x : A) (y : B) → slice_get xs k ≡ Some x → slice_get ys k ≡ Some y → R x y) → AllZip R xs ys
+all_zipped R [] [] long each = tt
+all_zipped R [] (y ∷ ys) long each = absurd (omega arith)
+all_zipped R (x ∷ xs) [] long each = absurd (omega arith)
+all_zipped R (x ∷ xs) (y ∷ ys) long each = (each zero x y refl refl, all_zipped R xs ys (omega arith) (λ k v w. each (suc k) v w))
+
+pub next_zipped : {A B : Type 0} (R : A → B → Type 0) (xs more : List A) (ys others : List B) (x : A) (y : B) → xs ≡ x ∷ more → ys ≡ y ∷ others → AllZip R xs ys → R x y × AllZip R more others
+next_zipped R xs more ys others x y first second all = subst (λ zs. AllZip R zs (y ∷ others)) first (subst (AllZip R xs) second all)
+
+-- what holds of the places of two lists holds where the first has an item
+pub zipped_at : {A B : Type 0} (R : A → B → Type 0) (xs : List A) (ys : List B) (k : ℕ) (x : A) (y : B) → slice_get xs k ≡ Some x → slice_get ys k ≡ Some y → AllZip R xs ys → R x y
+zipped_at R [] ys k x y is is' all = absurd cc
+zipped_at R (z ∷ xs) [] k x y is is' all = absurd all
+zipped_at R (z ∷ xs) (w ∷ ys) zero x y is is' all = subst (λ u. R u y) (same_Some z x is) (subst (R z) (same_Some w y is') all.0)
+zipped_at R (z ∷ xs) (w ∷ ys) (suc k) x y is is' all = zipped_at R xs ys k x y is is' all.1
+
+-- an item more behind those that are done
+pub item_within : {A : Type 0} (done left more all : List A) (x : A) → done ++ left ≡ all → left ≡ x ∷ more → length done < length all
+item_within done left more all x are next =
+    let long : length (done ++ left) ≡ length all = ap (λ xs. length xs) are in
+    let some : length left ≡ suc (length more) = ap (λ xs. length xs) next in
+    omega (arith, length-append done left)
+
+-- one item more of a list, as what `f` makes of one more
+pub mapped_more : {A B : Type 0} (f : A → B) (xs new : List A) (y : A) (zs : List B) (k m n : ℕ) (z : B) → map f xs ≡ take k zs → k ≡ m → n ≡ k + 1 → new ≡ xs ++ y ∷ [] → f y ≡ z → m < length zs
+    → z ≡ get_or zs m z → map f new ≡ take n zs
+mapped_more f xs new y zs k m n z are place next is own within there =
+    ap (map f) is ∙ map-append f xs (y ∷ []) ∙ ap (λ us. us ++ f y ∷ []) are ∙ ap (λ u. take k zs ++ u ∷ []) (own ∙ there ∙ ap (λ j. get_or zs j z) (sym place))
+    ∙ sym (take_more zs k z (omega arith)) ∙ ap (λ j. take j zs) (sym next)
+
+-- ---- before the block
+
+module _ (authors : List Declared) (lines : List Line) (sources : List (List Edit)) where
+  -- the boards of the replicas so far
+  abbrev pub AreBoardsOf : List (Option BoardOf) → Type 0
+  AreBoardsOf boards = (k : ℕ) (opening : List Edit) (board : Option BoardOf) → slice_get sources k ≡ Some opening → slice_get boards k ≡ Some board → IsBoardFor opening (parts_at authors lines k) board
+
+  pub board_more : (boards new : List (Option BoardOf)) (replica : ℕ) (own : List Edit) (last : Option BoardOf) → length boards ≡ replica → slice_get sources replica ≡ Some own
+      → IsBoardFor own (parts_at authors lines replica) last → new ≡ boards ++ last ∷ [] → AreBoardsOf boards → AreBoardsOf new
+  board_more boards new replica own last long is_own for is before k opening board is_opening is_board =
+      at (found_with boards last k board (ap (λ bs. slice_get bs k) (sym is) ∙ is_board)) where
+        at : (slice_get boards k ≡ Some board) ⊎ ((k ≡ length boards) × (last ≡ board)) → IsBoardFor opening (parts_at authors lines k) board
+        at (inl earlier) = before k opening board is_opening earlier
+        at (inr here) =
+            let same : replica ≡ k = sym long ∙ sym here.0 in
+            let edits : own ≡ opening = same_Some own opening (sym is_own ∙ ap (slice_get sources) same ∙ is_opening) in
+            subst (λ b. IsBoardFor opening (parts_at authors lines k) b) here.1
+            (subst (λ es. IsBoardFor es (parts_at authors lines k) last) edits (subst (λ n. IsBoardFor own (parts_at authors lines n) last) same for))
+
+-- where there is no board, the replica opened with no edits
+pub empty_without : (opening : List Edit) (parts : ℕ) (board : Option BoardOf) → IsBoardFor opening parts board → board ≡ None → opening ≡ []
+empty_without opening parts None for none = for
+empty_without opening parts (Some board) for none = absurd cc
+
+pub all_empty_without : (authors : List Declared) (lines : List Line) (sources : List (List Edit)) (boards : List (Option BoardOf)) → AreBoards authors lines sources boards
+    → AllZip (λ opening board. board ≡ None → opening ≡ []) sources boards
+all_empty_without authors lines sources boards are =
+    all_zipped _ sources boards are.as_many (λ k opening board is_opening is_board. empty_without opening (parts_at authors lines k) board (are.each k opening board is_opening is_board))
+
+can_cut_at : (stage : Stage) (own : Cuts) → Ascends (opening_edits own)
+    → IsBoardFor (opening_edits own) (parts_at stage.authors stage.lines stage.replica) (board_of own) → seat_of own ≡ option_map first_board_seat (board_of own) → CanCutAt stage own
+can_cut_at stage Empty up for first = record { can_raise = tt; parts = tt }
+can_cut_at stage (On opening board seat) up for first =
+    let same : seat ≡ first_board_seat board.now = same_Some seat (first_board_seat board.now) first in
+    let parts : seat.parts ≡ board.now.parts = ap (λ (s : BoardStanding). s.parts) same in
+    let all : board.now.parts ≡ parts_at stage.authors stage.lines stage.replica = for.2 in
+    record {
+      can_raise = (up, ap (λ (ss : List State). length ss) for.1 ∙ length-states opening.now, ap (λ (s : BoardStanding). s.board) same);
+      parts = omega arith;
+    }
+  where
+    length-states : (edits : List Edit) → length (states_of edits) ≡ length edits
+    length-states [] = refl
+    length-states (edit ∷ edits) = ap (λ n. suc n) (length-states edits)
+
+-- a block's cuts at its boards, with their first seats, are as the block needs them
+pub can_cut : (stage : Stage) (boards : List (Option BoardOf)) (cuts : List Cuts) → AllByRecursion Ascends stage.sources → AreBoards stage.authors stage.lines stage.sources boards
+    → map opening_edits cuts ≡ stage.sources → map board_of cuts ≡ boards → map seat_of cuts ≡ map (option_map first_board_seat) boards
+    → (own : Cuts) → slice_get cuts stage.replica ≡ Some own → CanCutAt stage own
+can_cut stage boards cuts up are openings at firsts own is =
+    let opening = found_in_map opening_edits cuts stage.sources stage.replica own openings is in
+    let board = found_in_map board_of cuts boards stage.replica own at is in
+    let seat = found_in_map seat_of cuts (map (option_map first_board_seat) boards) stage.replica own firsts is in
+    let first = found_in_map (option_map first_board_seat) boards (map (option_map first_board_seat) boards) stage.replica (board_of own) refl board in
+    can_cut_at stage own (all_found Ascends stage.sources stage.replica (opening_edits own) up opening) (are.each stage.replica (opening_edits own) (board_of own) opening board)
+    (same_Some (seat_of own) (option_map first_board_seat (board_of own)) (sym seat ∙ first))
+
+-- the same boards, told by lists that are the same
+pub boards_along : (authors authors' : List Declared) (lines lines' : List Line) (sources : List (List Edit)) (boards : List (Option BoardOf)) → authors ≡ authors' → lines ≡ lines'
+    → AreBoards authors lines sources boards → AreBoards authors' lines' sources boards
+boards_along authors authors' lines lines' sources boards same_authors same_lines are =
+    subst (λ (ls : List Line). AreBoards authors' ls sources boards) same_lines (subst (λ (as' : List Declared). AreBoards as' lines sources boards) same_authors are)
+
+-- ---- behind the block
+
+whole_behind : (own back : Cuts) → seat_of own ≡ option_map first_board_seat (board_of own) → KeepsSeat own back → IsWholeSeat (board_of own) (seat_of back)
+whole_behind Empty back first keeps = ap seat_of keeps
+whole_behind (On opening board seat) back first keeps =
+    let same : seat ≡ first_board_seat board.now = same_Some seat (first_board_seat board.now) first in
+    subst (λ (b : Cuts). IsWholeSeat (Some board.now) (seat_of b)) (sym keeps.1)
+    (keeps.2 ∙ ap (λ (s : BoardStanding). s.board) same, keeps.3 ∙ ap (λ (s : BoardStanding). s.parts) same)
+
+-- first seats that were lent to a block are whole behind it
+pub all_whole : (owns backs : List Cuts) → map seat_of owns ≡ map (option_map first_board_seat) (map board_of owns) → length backs ≡ length owns
+    → ((k : ℕ) (own back : Cuts) → slice_get owns k ≡ Some own → slice_get backs k ≡ Some back → KeepsSeat own back) → AllZip IsWholeSeat (map board_of owns) (map seat_of backs)
+all_whole [] [] firsts long keep = tt
+all_whole [] (back ∷ backs) firsts long keep = absurd (omega arith)
+all_whole (own ∷ owns) [] firsts long keep = absurd (omega arith)
+all_whole (own ∷ owns) (back ∷ backs) firsts long keep =
+    (whole_behind own back (cc) (keep zero own back refl refl), all_whole owns backs (cc) (omega arith) (λ k. keep (suc k)))

@@ -1,0 +1,24 @@
+use Rattle.std.proofs.Common.{[], ◌∷◌, ◌++◌, List, length, map, refl, sym, ap, subst, ◌∙◌, arith, length-append}
+use Rattle.std.specs.Option.{option_map}
+use Rattle.std.proofs.lemmas.List.{map-append}
+use Rattle.std.proofs.lemmas.Option.{slice_get_read}
+use Rattle.grove_edits.specs.declared.edit.Edit.{Edit}
+use Rattle.edge_board.specs.Seats.{first_board_seat}
+use Rattle.session_answers.specs.Boards.{IsBoardFor}
+use Rattle.session_answers.proofs.OnBoards.{board_more}
+use Rattle.session_answers.proofs.boards.boards_of.Goals as goal
+
+pub loop-replica-preserved : goal.loop-replica-preserved
+loop-replica-preserved c =
+    let before = c.loop-replica.invariant in
+    let boards = c.loop-replica.boards.items in
+    let last = c.in_ok-board.board ∷ [] in
+    let pushed = c.in_ok-push.ensures.items in
+    let source = c.index-sources-replica.result in
+    let own = slice_get_read c.args.sources.now (length c.args.sources.now) c.loop-replica.replica source refl c.loop-replica-test.true c.index-sources-replica.is in
+    let for = subst (λ n. IsBoardFor source n c.in_ok-board.board) c.parts_at-parts.ensures (subst (λ (es : List Edit). IsBoardFor es c.parts_at-parts.result c.in_ok-board.board) c.as_slice.ensures c.in_ok-board.ensures.board) in (
+      (let long = before.0 in let longer = ap (λ bs. length bs) pushed in omega (arith, length-append boards last)),
+      c.in_ok-push-2.ensures.items ∙ ap (λ ss. ss ++ c.in_ok-board.seat ∷ []) before.1 ∙ ap (λ s. map (option_map first_board_seat) boards ++ s ∷ []) c.in_ok-board.ensures.seat
+          ∙ sym (map-append (option_map first_board_seat) boards last) ∙ ap (map (option_map first_board_seat)) (sym pushed),
+      board_more c.args.authors.now c.args.lines.now c.args.sources.now boards c.push.new.self.items c.loop-replica.replica source c.in_ok-board.board before.0 own for pushed before.2,
+    )

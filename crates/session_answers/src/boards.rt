@@ -1,0 +1,182 @@
+//! The boards of a block: one for each replica that opens with edges, on which its authors raise the slots of those that they cut.
+ghost use Rattle.std.specs.Prelude.{◌≡◌, ℕ, ◌≤◌, [], length, map, slice_get, Some, None, IfOk};
+ghost use Rattle.std.specs.List.{AllZip, list_any};
+ghost use Rattle.std.specs.Option.{option_map};
+ghost use Rattle.edge_board.specs.Seats.{first_board_seat};
+ghost use Rattle.author_desk.specs.Cuts.{opening_edits, seat_of};
+ghost use Rattle.grove_edits.specs.Edit.{edit_kind};
+ghost use Rattle.grove_edits.specs.Graph.{state_of};
+ghost use Rattle.session_run.specs.Boards.{is_line_of, is_at_work};
+ghost use Rattle.session_answers.specs.Boards.{states_of as are_states_of, parts_at as all_parts_at, IsBoardFor, AreBoards, board_of as board_under, IsWholeSeat};
+
+use crate::no_memory::NoMemory;
+use author_desk::Cuts;
+use edge_board::{Board, BoardSeat};
+use edge_lattice::State;
+use grove_edits::{Edit, EditKind, EditList};
+use session_script::{Declared, Line};
+use std::alloc::Global;
+
+/// The boards of replicas that open with these lists, each with its first seat.
+pub(crate) fn boards_of(
+    alloc: Global,
+    sources: &[EditList],
+    authors: &[Declared],
+    lines: &[Line],
+) -> Result<(Vec<Option<Board>>, Vec<Option<BoardSeat>>), NoMemory>
+    ensures boards { IfOk result (λ made. AreBoards authors.now lines.now sources.now made.0.items) }
+    ensures seats { IfOk result (λ made. made.1.items ≡ map (option_map first_board_seat) made.0.items) }
+{
+    let mut boards = Vec::with_capacity(alloc, sources.len())?;
+    let mut seats = Vec::with_capacity(alloc, sources.len())?;
+    for (replica, opening) in sources.iter().enumerate() {
+        let parts = parts_at(authors, lines, replica as u64);
+        let (board, seat) = board_of(alloc, opening.as_slice(), parts)?;
+        boards.push(board)?;
+        seats.push(seat)?;
+    }
+    Ok((boards, seats))
+}
+
+// The board of a replica that opens with these edits, and its first seat.
+fn board_of(
+    alloc: Global,
+    opening: &[Edit],
+    parts: u64,
+) -> Result<(Option<Board>, Option<BoardSeat>), NoMemory>
+    requires { 1 ≤ parts }
+    ensures board { IfOk result (λ made. IsBoardFor opening.now parts made.0) }
+    ensures seat { IfOk result (λ made. made.1 ≡ option_map first_board_seat made.0) }
+{
+    if opening.is_empty() {
+        return Ok((None, None));
+    }
+    let states = states_of(alloc, opening)?;
+    let (board, seat) = Board::new(alloc, &states, parts)?;
+    Ok((Some(board), Some(seat)))
+}
+
+// The states that edits give their edges.
+fn states_of(alloc: Global, edits: &[Edit]) -> Result<Vec<State>, NoMemory>
+    ensures { IfOk result (λ states. states.items ≡ are_states_of edits.now) }
+{
+    Ok(
+        edits
+            .iter()
+            .map(|edit| state_by(edit.kind()))
+            .collect(alloc)?,
+    )
+}
+
+fn state_by(kind: EditKind) -> State
+    ensures { result ≡ state_of kind }
+{
+    match kind {
+        EditKind::Insert => State::Live,
+        EditKind::Delete => State::Deleted,
+    }
+}
+
+// How many parts a replica's board has: authors with lines take one each for the block, and one stays with its first seat.
+fn parts_at(authors: &[Declared], lines: &[Line], replica: u64) -> u64
+    ensures { result ≡ all_parts_at authors.now lines.now replica }
+{
+    let at_work = authors
+        .iter()
+        .filter(|declared| is_working_at(declared, replica, lines))
+        .count();
+    at_work as u64 + 1
+}
+
+// Whether an author acts on a replica, and has a line.
+fn is_working_at(declared: &Declared, replica: u64, lines: &[Line]) -> bool
+    ensures { result ≡ is_at_work lines.now replica declared.now }
+{
+    declared.replica == replica && has_line(lines, declared.author)
+}
+
+// Whether an author has a line.
+fn has_line(lines: &[Line], author: u32) -> bool
+    ensures { result ≡ list_any (is_line_of author) lines.now }
+{
+    lines.iter().any(|line| is_author_line(line, author))
+}
+
+fn is_author_line(line: &Line, of: u32) -> bool
+    ensures { result ≡ is_line_of of line.now }
+{
+    match *line {
+        Line::Author { author, .. } => author == of,
+        Line::Send(_) => false,
+    }
+}
+
+/// The cuts of replicas that open with these lists, at their boards.
+pub(crate) fn cuts_on<'a>(
+    alloc: Global,
+    sources: &'a [EditList],
+    boards: &'a [Option<Board>],
+    seats: Vec<Option<BoardSeat>>,
+) -> Result<Vec<Cuts<'a>>, NoMemory>
+    requires boards { AllZip (λ opening board. board ≡ None → opening ≡ []) sources.now boards.now }
+    requires seats { seats.items ≡ map (option_map first_board_seat) boards.now }
+    ensures opening { IfOk result (λ cuts. map opening_edits cuts.items ≡ sources.now) }
+    ensures boards { IfOk result (λ cuts. map board_under cuts.items ≡ boards.now) }
+    ensures seats { IfOk result (λ cuts. map seat_of cuts.items ≡ seats.items) }
+{
+    let mut cuts = Vec::with_capacity(alloc, sources.len())?;
+    for seat in seats {
+        let replica = cuts.len();
+        cuts.push(cuts_at(&sources[replica], &boards[replica], seat))?;
+    }
+    Ok(cuts)
+}
+
+// The cuts of a replica that opens with these edits, at its board.
+fn cuts_at<'a>(opening: &'a EditList, board: &'a Option<Board>, seat: Option<BoardSeat>) -> Cuts<'a>
+    requires seat { seat ≡ option_map first_board_seat board.now }
+    requires empty { board.now ≡ None → opening.now ≡ [] }
+    ensures opening { opening_edits result ≡ opening.now }
+    ensures board { board_under result ≡ board.now }
+    ensures seat { seat_of result ≡ seat }
+{
+    match (board, seat) {
+        (Some(board), Some(seat)) => Cuts::On {
+            opening,
+            board,
+            seat,
+        },
+        _ => Cuts::Empty,
+    }
+}
+
+/// The seats of cuts, where they have some.
+pub(crate) fn seats_of(
+    alloc: Global,
+    cuts: Vec<Cuts<'_>>,
+) -> Result<Vec<Option<BoardSeat>>, NoMemory>
+    ensures { IfOk result (λ seats. seats.items ≡ map seat_of cuts.entry.items) }
+{
+    let mut seats = Vec::with_capacity(alloc, cuts.len())?;
+    for own in cuts {
+        seats.push(own.into_seat())?;
+    }
+    Ok(seats)
+}
+
+/// Closes boards, each by its whole seat.
+pub(crate) fn close_all(boards: Vec<Option<Board>>, seats: Vec<Option<BoardSeat>>)
+    requires { AllZip IsWholeSeat boards.items seats.items }
+{
+    for (board, seat) in boards.into_iter().zip(seats) {
+        close(board, seat);
+    }
+}
+
+fn close(board: Option<Board>, seat: Option<BoardSeat>)
+    requires { IsWholeSeat board seat }
+{
+    if let (Some(board), Some(seat)) = (board, seat) {
+        let _states = board.close(seat);
+    }
+}
