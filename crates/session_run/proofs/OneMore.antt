@@ -89,10 +89,10 @@ module _ {M E R X : Type 0} (workers front : List Worker) (last : Worker) (pass 
         keeps = keeps_joined pass kept rest final given after (actor_of last) (calls_of last) h.calls is_kept is_given h.makes k.keeps is_final some;
         keeps_seat = seat_whole last cuts kept_cuts own rest_cuts own_after final_cuts has hands k.keeps_seat h.keeps_seat takes;
         joined = and_ok done others _ _ _ h.commands k.joined (λ are ran. (
-              ran.0 ++ (actor_of last, h.calls) ∷ [],
-              have_run_last front last ran.0 (actor_of last) h.calls ran.1 refl are,
-              joined_last pass kept rest final given after (actor_of last) (calls_of last) h.calls is_kept is_given h.makes k.keeps is_final ran.0 ran.2,
-            ));
+          ran.0 ++ (actor_of last, h.calls) ∷ [],
+          have_run_last front last ran.0 (actor_of last) h.calls ran.1 refl are,
+          joined_last pass kept rest final given after (actor_of last) (calls_of last) h.calls is_kept is_given h.makes k.keeps is_final ran.0 ran.2,
+        ));
         raised = and_ok done others _ _ _ h.raised k.raised (λ mine theirs.
             let slots = flat_map (slots_of (opening_edits kept_cuts)) front in
             let its = slots_of (opening_edits own) last in

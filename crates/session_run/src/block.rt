@@ -107,10 +107,7 @@ fn run_replicas<'a, R: Threads + Wait + Sync, M: Machine<Command = Command>, G: 
     mut cuts: Vec<Cuts<'a>>,
     plan: &Plan<'_>,
     gate: &G,
-) -> (
-    Vec<Cuts<'a>>,
-    Result<(Vec<M>, Vec<Journal<M>>), NoMemory>,
-)
+) -> (Vec<Cuts<'a>>, Result<(Vec<M>, Vec<Journal<M>>), NoMemory>)
     requires plan { CanRunPlan plan.now }
     requires no_journal { journals.items ≡ [] }
     requires cuts { length cuts.items ≡ length machines.items }
@@ -138,10 +135,7 @@ fn run_replicas<'a, R: Threads + Wait + Sync, M: Machine<Command = Command>, G: 
             let ran = run_at(rt, alloc, machine, &mut own, plan, replica, gate);
             (own, ran)
         },
-        || -> (
-            Vec<Cuts<'_>>,
-            Result<(Vec<M>, Vec<Journal<M>>), NoMemory>,
-        )
+        || -> (Vec<Cuts<'_>>, Result<(Vec<M>, Vec<Journal<M>>), NoMemory>)
             requires { CanRunPlan plan.now × (journals.items ≡ []) × (length cuts.items ≡ length machines.items) × EachFits plan.now cuts.items }
             ensures { HaveRunPlan M.after M.effect M.reply plan.entry.now machines.items cuts.entry.items result.0.items result.1 × (vec_capacity result.0 ≡ vec_capacity cuts.entry) }
         { run_replicas(rt, alloc, machines, journals, cuts, plan, gate) },
