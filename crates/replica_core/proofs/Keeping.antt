@@ -13,7 +13,9 @@ use Rattle.grove_edits.specs.Graph.{Graph, graph, graph_join, IsSame, Ascends, I
 use Rattle.grove_edits.proofs.Graphs.{unnamed}
 use Rattle.grove_edits.proofs.Unique.{canonical_once}
 use Rattle.walks.specs.Live.{IsInEdgeOrder, holds_edge}
+use Rattle.walks.specs.Whole.{AreLive}
 use Rattle.graph_store.specs.Store.{Entries, state_in, well_formed}
+use Rattle.edge_index.specs.Lists.{live}
 use Rattle.user_actions.specs.Good.{AreOpening}
 use Rattle.user_actions.specs.Lists.{ArePresent}
 use Rattle.user_actions.specs.Plan.{IsPlan}
@@ -109,6 +111,18 @@ seen_opened kept before after of present =
     (one_present (well_formed (state_in kept.store)) after (map edit_edge (edits_in kept.store)) present (canonical_present (well_formed (state_in kept.store)) (edits_in kept.store) (listed kept before of)))
 
 -- ---- the empty replica
+
+none_live : AreLive (graph []) []
+none_live = record { in_order = tt; each = λ e is. absurd cc; no_other = λ e held. absurd cc }
+
+pub whole_empty : (kept : LiveGraph) → kept.store ≡ [] → live kept.children ≡ [] → live kept.parents ≡ [] → StandFor (graph []) kept.marks → IsIndexedAndMarked kept
+whole_empty kept no_entries no_children no_parents marks = record {
+  indexed = record {
+    live_edges = subst (λ (entries : Entries). AreLive (state_in entries) (live kept.parents)) (sym no_entries) (subst (AreLive (graph [])) (sym no_parents) none_live);
+    same = no_children ∙ sym no_parents;
+  };
+  marked = subst (λ (entries : Entries). StandFor (state_in entries) kept.marks) (sym no_entries) marks;
+}
 
 pub seen_empty : (kept : LiveGraph) (opening : List Edge) → kept.store ≡ [] → IsIndexedAndMarked kept → ArePresent (well_formed (state_in kept.store)) opening → IsSeenAs kept opening no_edits
 seen_empty kept opening no_entries whole present =
