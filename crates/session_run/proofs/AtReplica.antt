@@ -1,7 +1,7 @@
 -- Which seats the workers at a replica take, which slots they raise, and which of their calls stand together.
-use Rattle.std.proofs.Common.{◌≡◌, ◌≢◌, ℕ, zero, suc, ◌+◌, ◌<◌, ◌≤◌, ◌==◌, ◌&&◌, Bool, true, false, ◌⊎◌, inl, inr, List, [], ◌∷◌, ◌++◌, length, map, sum_by, get_or, cond, refl, sym, ap, ap₂, subst, ◌∙◌, append-nil, arith}
+use Rattle.std.proofs.Common.{◌≡◌, ◌≢◌, ℕ, zero, suc, ◌+◌, ◌<◌, ◌≤◌, ◌==◌, ◌&&◌, Bool, true, false, ◌⊎◌, inl, inr, List, [], ◌∷◌, ◌++◌, length, sum_by, get_or, cond, refl, sym, ap, ap₂, subst, ◌∙◌, append-nil, arith}
 use Rattle.std.specs.Prelude.{if◌then◌else◌, ◌||◌}
-use Rattle.std.specs.List.{AllByRecursion, count_by, flat_map, list_any}
+use Rattle.std.specs.List.{AllByRecursion, flat_map, list_any}
 use Rattle.std.proofs.lemmas.Bool.{eqb-true, eq-eqb}
 use Rattle.std.proofs.lemmas.Grind.{flat_map-append}
 use Rattle.std.proofs.lemmas.List.Sums.{sum_by-append, sum_by-cons}
@@ -14,7 +14,7 @@ use Rattle.session_script.specs.declared.line.Line.{Line}
 use Rattle.session_script.specs.declared.line.Line.TheVariants as line
 use Rattle.session_script.specs.declared.line.SendLine.{SendLine}
 use Rattle.author_desk.specs.declared.cuts.Cuts.{Cuts}
-use Rattle.author_desk.specs.Cuts.{opening_edits, HasPartsFor}
+use Rattle.author_desk.specs.Cuts.{HasPartsFor}
 use Rattle.author_desk.specs.Lines.{slots_cut}
 use Rattle.author_desk.specs.Turns.{turns_of}
 use Rattle.session_run.specs.declared.author_lines.AuthorLines.{AuthorLines}
@@ -22,7 +22,7 @@ use Rattle.session_run.specs.declared.block.Plan.{Plan}
 use Rattle.session_run.specs.declared.worker.Worker.{Worker}
 use Rattle.session_run.specs.declared.worker.Worker.TheVariants as worker
 use Rattle.session_run.specs.Boards.{is_line_of, is_at_work, authors_at_work, CanCutAt, slots_by, slots_at, LinesStand, TurnsStand}
-use Rattle.session_run.specs.Calls.{Stage, actions_of, ActsHere}
+use Rattle.session_run.specs.Calls.{Stage, actions_of}
 use Rattle.session_run.specs.Workers.{told, told_in, seats_of, slots_of, AreLinesOf, IsAuthorWorker, IsPieceWorker, AreForAuthors, AreForSends}
 use Rattle.session_run.specs.Passes.{StandsIn}
 use Rattle.session_run.specs.Plans.{FitsPlan}

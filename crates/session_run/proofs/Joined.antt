@@ -1,5 +1,5 @@
 -- A worker that is split off, and joined again once it and the others ran.
-use Rattle.std.proofs.Common.{◌≡◌, ℕ, suc, ◌+◌, ◌-◌, ◌<◌, ◌≤◌, List, [], ◌∷◌, ◌++◌, length, map, sum_by, Ok, Err, refl, sym, ap, subst, ◌∙◌, append_assoc, arith}
+use Rattle.std.proofs.Common.{◌≡◌, ℕ, suc, ◌+◌, ◌-◌, ◌≤◌, List, [], ◌∷◌, ◌++◌, length, sum_by, Ok, Err, refl, ap, subst, ◌∙◌, append_assoc, arith}
 use Rattle.std.specs.Prelude.{Result}
 use Rattle.std.specs.List.{AllByRecursion}
 use Rattle.std.specs.Result.{OnOk, result_and}
@@ -10,7 +10,7 @@ use Rattle.grove_edits.specs.declared.command.Command.{Command}
 use Rattle.shared_replica.specs.declared.journal.Entry.{Entry}
 use Rattle.shared_replica.specs.Passes.{Call, Passing, kept_pass, given_pass, joined_pass, all_made, calls_by, AreNamed, StandsOnce}
 use Rattle.session_run.specs.declared.worker.Worker.{Worker}
-use Rattle.session_run.specs.Workers.{actor_of, calls_of, CanWork, AreCommandsOf}
+use Rattle.session_run.specs.Workers.{actor_of, CanWork, AreCommandsOf}
 use Rattle.session_run.specs.Passes.{commands_in, Makes, Keeps, HaveRun, IsJournalOf}
 
 -- ---- the last of some workers

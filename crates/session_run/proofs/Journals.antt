@@ -1,10 +1,8 @@
 -- The journal of the workers of a block at a replica has the calls of the block there.
-use Rattle.std.proofs.Common.{◌≡◌, ◌≢◌, ℕ, zero, suc, ◌+◌, ◌<◌, ◌≤◌, ◌==◌, ◌⊎◌, inl, inr, Bool, true, false, List, [], ◌∷◌, ◌++◌, length, map, slice_get, Some, None, refl, sym, ap, ap₂, subst, ◌∙◌, append_assoc, append-nil, add-zero, arith}
+use Rattle.std.proofs.Common.{◌≡◌, ℕ, zero, suc, ◌+◌, ◌⊎◌, inl, inr, true, false, List, [], ◌∷◌, ◌++◌, length, map, slice_get, Some, refl, sym, ap, subst, ◌∙◌, add-zero, arith}
 use Rattle.std.specs.Prelude.{if◌then◌else◌}
 use Rattle.std.specs.List.{AllByRecursion, Contains}
 use Rattle.std.proofs.lemmas.Bool.{eqb-true, eq-eqb}
-use Rattle.std.proofs.lemmas.Bool.Decides.{eqb_tells}
-use Rattle.std.proofs.lemmas.List.{length_push}
 use Rattle.std.proofs.lemmas.Option.{same_Some, none-some, slice_get_read, slice_get_within, get_or_from_slice_get}
 use Rattle.grove_edits.specs.declared.edit.Edit.{Edit}
 use Rattle.grove_edits.specs.declared.action.Action.{Action}
@@ -18,12 +16,12 @@ use Rattle.session_script.specs.declared.author.Declared.{Declared}
 use Rattle.session_script.specs.declared.line.Line.{Line}
 use Rattle.session_script.specs.declared.line.SendLine.{SendLine}
 use Rattle.session_script.specs.Session.{AllDiffer}
-use Rattle.replica_exchange.specs.Send.{sent_edits, sent_bytes, edits_by_piece}
+use Rattle.replica_exchange.specs.Send.{sent_edits, edits_by_piece}
 use Rattle.session_run.specs.declared.author_lines.AuthorLines.{AuthorLines}
 use Rattle.session_run.specs.declared.worker.Worker.{Worker}
 use Rattle.session_run.specs.declared.worker.Worker.TheVariants as worker
 use Rattle.session_run.specs.Calls.{Stage, actions_of, sends_of, takes, AreTakes, ActsHere, SendsHere, MayCall, commands_by, AreCalls}
-use Rattle.session_run.specs.Workers.{told, told_in, authors_told, AreLinesOf, actor_of, AreCommandsOf, IsAuthorWorker, IsPieceWorker, IsIdle, AreForAuthors, AreForSends}
+use Rattle.session_run.specs.Workers.{told, told_in, authors_told, AreLinesOf, actor_of, AreCommandsOf, IsAuthorWorker, IsPieceWorker, AreForAuthors, AreForSends}
 use Rattle.session_run.specs.Passes.{commands_in, HaveRun, IsJournalOf}
 use Rattle.session_run.proofs.Taken.{are_takes}
 

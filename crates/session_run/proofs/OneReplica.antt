@@ -14,7 +14,7 @@ use Rattle.session_run.specs.Boards.{slots_at, TurnsStand}
 use Rattle.session_run.specs.Calls.{Stage}
 use Rattle.session_run.specs.Passes.{StandsIn, IsJournalOf}
 use Rattle.session_run.specs.Workers.{slots_of, AreForAuthors, AreForSends}
-use Rattle.session_run.specs.Plans.{at_replica, CanRunPlan, EachKeepsSeat, EachRaises, EachTurnsStand, EachHasRun, AppendsReplica, HasRunPlan, HaveRunPlan}
+use Rattle.session_run.specs.Plans.{at_replica, CanRunPlan, EachKeepsSeat, EachRaises, EachTurnsStand, AppendsReplica, HasRunPlan, HaveRunPlan}
 use Rattle.session_run.proofs.Each.{pair_more, one_more_has_run}
 use Rattle.session_run.proofs.AtReplica.{slots_of_workers, turns_stand}
 use Rattle.session_run.proofs.Planned.{has_run}

@@ -1,5 +1,5 @@
 -- A block's plan, and what is run of it at a replica.
-use Rattle.std.proofs.Common.{◌≡◌, ℕ, suc, ◌+◌, ◌^◌, ◌<◌, ◌≤◌, ◌==◌, Bool, true, false, ◌⊎◌, inl, inr, List, [], ◌∷◌, ◌++◌, length, map, slice_get, Ok, Err, refl, sym, ap, subst, ◌∙◌, arith}
+use Rattle.std.proofs.Common.{◌≡◌, ℕ, suc, ◌+◌, ◌^◌, ◌<◌, ◌≤◌, ◌==◌, true, false, inl, inr, List, [], ◌∷◌, ◌++◌, length, map, Ok, Err, refl, sym, ap, subst, ◌∙◌, arith}
 use Rattle.std.specs.Prelude.{Result, IfOk, if◌then◌else◌}
 use Rattle.std.specs.List.{AllByRecursion}
 use Rattle.grove_edits.specs.declared.edit.Edit.{Edit}
@@ -94,6 +94,10 @@ numbers_fit lines (d ∷ authors) (l ∷ all) are fits =
     let many : length l.actions.items ≡ length (actions_of d.author lines) = ap length actions in
     let mine = fits.0 in
     ((omega arith), numbers_fit lines authors all (rest_of are) fits.1)
+
+-- the same lines, as they are lent
+pub lines_told : (authors : List Declared) (lines slice : List Line) (all lent : List AuthorLines) → slice ≡ lines → lent ≡ all → AreLinesOf authors slice all → AreLinesOf authors lines lent
+lines_told authors lines slice all lent same is are = subst (λ (ls : List Line). AreLinesOf authors ls lent) same (subst (AreLinesOf authors slice) (sym is) are)
 
 told_numbers : (all : List AuthorLines) → map (λ (t : Declared × List Action). t.0.author) (map told all) ≡ authors_told all
 told_numbers [] = refl

@@ -1,5 +1,5 @@
 -- A seat of which a part is handed to a worker, and which takes it in again.
-use Rattle.std.proofs.Common.{◌≡◌, ℕ, ◌+◌, ◌<◌, ◌≤◌, List, [], ◌∷◌, ◌++◌, sum_by, refl, sym, ap, subst, ◌∙◌, append_assoc, append-nil, arith}
+use Rattle.std.proofs.Common.{◌≡◌, ℕ, ◌+◌, ◌≤◌, List, [], ◌∷◌, ◌++◌, sum_by, refl, sym, ap, subst, ◌∙◌, append_assoc, append-nil, arith}
 use Rattle.edge_board.specs.Seats.{BoardStanding}
 use Rattle.author_desk.specs.declared.cuts.Cuts.{Cuts}
 use Rattle.author_desk.specs.declared.cuts.Cuts.TheVariants.{Empty, On}

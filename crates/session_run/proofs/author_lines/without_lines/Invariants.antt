@@ -1,4 +1,4 @@
-use Rattle.std.proofs.Common.{◌≡◌, [], ◌∷◌, ◌++◌, map, length, take, drop}
+use Rattle.std.proofs.Common.{◌≡◌, [], ◌++◌, map, length, take, drop}
 use Rattle.session_run.specs.Workers.{told, first_calls_told}
 use Rattle.session_run.proofs.author_lines.without_lines.Given as goal
 

@@ -1,4 +1,4 @@
-use Rattle.std.proofs.Common.{◌≡◌, ◌+◌, List, [], ◌∷◌, ◌++◌, Some, slice_get, sym, ◌∙◌, arith}
+use Rattle.std.proofs.Common.{◌≡◌, ◌+◌, [], ◌∷◌, ◌++◌, Some, slice_get, sym, ◌∙◌, arith}
 use Rattle.grove_edits.specs.declared.command.Command.TheVariants.{Take}
 use Rattle.session_run.proofs.Made.{one_made}
 use Rattle.session_run.proofs.Taken.{next_is_good, one_taken_more, all_taken}
