@@ -97,14 +97,15 @@ pub all_empty_without : (authors : List Declared) (lines : List Line) (sources :
 all_empty_without authors lines sources boards are =
     all_zipped _ sources boards are.as_many (λ k opening board is_opening is_board. empty_without opening (parts_at authors lines k) board (are.each k opening board is_opening is_board))
 
-can_cut_at : (stage : Stage) (own : Cuts) → Ascends (opening_edits own)
+can_cut_at : (stage : Stage) (own : Cuts) → slice_get stage.sources stage.replica ≡ Some (opening_edits own) → Ascends (opening_edits own)
     → IsBoardFor (opening_edits own) (parts_at stage.authors stage.lines stage.replica) (board_of own) → seat_of own ≡ option_map first_board_seat (board_of own) → CanCutAt stage own
-can_cut_at stage Empty up for first = record { can_raise = tt; parts = tt }
-can_cut_at stage (On opening board seat) up for first =
+can_cut_at stage Empty opens up for first = record { opening = opens; can_raise = tt; parts = tt }
+can_cut_at stage (On opening board seat) opens up for first =
     let same : seat ≡ first_board_seat board.now = same_Some seat (first_board_seat board.now) first in
     let parts : seat.parts ≡ board.now.parts = ap (λ (s : BoardStanding). s.parts) same in
     let all : board.now.parts ≡ parts_at stage.authors stage.lines stage.replica = for.2 in
     record {
+      opening = opens;
       can_raise = (up, ap (λ (ss : List State). length ss) for.1 ∙ length-states opening.now, ap (λ (s : BoardStanding). s.board) same);
       parts = omega arith;
     }
@@ -122,7 +123,7 @@ can_cut stage boards cuts up are openings at firsts own is =
     let board = found_in_map board_of cuts boards stage.replica own at is in
     let seat = found_in_map seat_of cuts (map (option_map first_board_seat) boards) stage.replica own firsts is in
     let first = found_in_map (option_map first_board_seat) boards (map (option_map first_board_seat) boards) stage.replica (board_of own) refl board in
-    can_cut_at stage own (all_found Ascends stage.sources stage.replica (opening_edits own) up opening) (are.each stage.replica (opening_edits own) (board_of own) opening board)
+    can_cut_at stage own opening (all_found Ascends stage.sources stage.replica (opening_edits own) up opening) (are.each stage.replica (opening_edits own) (board_of own) opening board)
     (same_Some (seat_of own) (option_map first_board_seat (board_of own)) (sym seat ∙ first))
 
 -- the same boards, told by lists that are the same

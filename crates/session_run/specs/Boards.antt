@@ -1,5 +1,5 @@
 -- What a block needs of the boards of its replicas, which slots it raises, and which calls stand next to each other in its journals.
-use Rattle.std.specs.Prelude.{◌≡◌, ℕ, ◌==◌, ◌&&◌, Bool, false, if◌then◌else◌, List, [], map}
+use Rattle.std.specs.Prelude.{◌≡◌, ℕ, ◌==◌, ◌&&◌, Bool, false, if◌then◌else◌, List, [], map, slice_get, Some}
 use Rattle.std.specs.List.{AllByRecursion, count_by, flat_map, list_any}
 use Rattle.grove_edits.specs.declared.edit.Edit.{Edit}
 use Rattle.grove_edits.specs.declared.action.Action.{Action}
@@ -12,7 +12,7 @@ use Rattle.session_script.specs.declared.author.Declared.{Declared}
 use Rattle.session_script.specs.declared.line.Line.{Line}
 use Rattle.session_script.specs.declared.line.Line.TheVariants as line
 use Rattle.author_desk.specs.declared.cuts.Cuts.{Cuts}
-use Rattle.author_desk.specs.Cuts.{CanRaise, HasPartsFor}
+use Rattle.author_desk.specs.Cuts.{opening_edits, CanRaise, HasPartsFor}
 use Rattle.author_desk.specs.Lines.{slots_cut}
 use Rattle.author_desk.specs.Together.{StandTogether}
 use Rattle.author_desk.specs.Turns.{turns_of, commands_of}
@@ -30,9 +30,10 @@ is_at_work lines replica declared = (declared.replica == replica) && list_any (i
 abbrev pub authors_at_work : List Declared → List Line → ℕ → ℕ
 authors_at_work authors lines replica = count_by (is_at_work lines replica) authors
 
--- what a block needs of the cuts of a replica: the board has a slot for each opening edge, and its seat a part for each author at work
--- beside its own
+-- what a block needs of the cuts of a replica: they are made on the edges that the replica opened with, the board has a slot for each of
+-- them, and its seat a part for each author at work beside its own
 pub record CanCutAt (stage : Stage) (cuts : Cuts) : Type 0 where
+  pub opening : slice_get stage.sources stage.replica ≡ Some (opening_edits cuts)
   pub can_raise : CanRaise cuts
   pub parts : HasPartsFor (authors_at_work stage.authors stage.lines stage.replica) cuts
 

@@ -1,10 +1,10 @@
-ghost use Rattle.std.specs.Prelude.{◌≡◌, ◌+◌, ◌%◌, ◌^◌, ◌<◌, ◌≤◌, [], ◌∷◌, length, IfOk};
+ghost use Rattle.std.specs.Prelude.{◌≡◌, ◌+◌, ◌%◌, ◌^◌, ◌<◌, ◌≤◌, [], ◌∷◌, length, map, IfOk};
 ghost use Rattle.std.specs.List.{AllByRecursion};
 ghost use Rattle.grove_edits.specs.declared.answer.Answer.TheVariants.{Done};
 ghost use Rattle.grove_edits.specs.Graph.{Ascends};
 ghost use Rattle.edge_board.specs.Seats.{BoardOf};
 ghost use Rattle.author_desk.specs.declared.cuts.Cuts.TheVariants.{Empty};
-ghost use Rattle.author_desk.specs.Cuts.{CanRaise, HasPartsFor};
+ghost use Rattle.author_desk.specs.Cuts.{opening_edits, CanRaise, HasPartsFor};
 ghost use Rattle.session_script.specs.Session.{IsSession};
 
 use super::*;
@@ -87,6 +87,7 @@ fn journals_of<R: Threads + Wait + Sync, G: Gate>(
     requires authors { length session.now.authors ≡ 2 }
     requires sources { length sources.now ≡ 2 }
     requires cuts { length cuts.old.items ≡ 2 }
+    requires openings { map opening_edits cuts.old.items ≡ sources.now }
     requires boards { AllByRecursion (λ own. CanRaise own × HasPartsFor 2 own) cuts.old.items }
 {
     let Some(Item::Block(block)) = session.items.get(0) else {
@@ -110,6 +111,37 @@ fn journals_of<R: Threads + Wait + Sync, G: Gate>(
         gate,
     )?;
     Ok(journals)
+}
+
+// A replica that opened with three edges, at a board of as many slots, and one that opened without edges.
+fn cuts_at<'a>(
+    alloc: Global,
+    sources: &'a [EditList],
+    board: &'a Board,
+    seat: BoardSeat,
+) -> Result<Vec<Cuts<'a>>, Fail>
+    requires sources { AllByRecursion Ascends sources.now × (length sources.now ≡ 2) }
+    requires board { seat.board ≡ board.now }
+    requires slots { length board.now.opening ≡ 3 }
+    requires parts { 2 < seat.parts }
+    ensures two { IfOk result (λ cuts. length cuts.items ≡ 2) }
+    ensures openings { IfOk result (λ cuts. map opening_edits cuts.items ≡ sources.now) }
+    ensures boards { IfOk result (λ cuts. AllByRecursion (λ own. CanRaise own × HasPartsFor 2 own) cuts.items) }
+{
+    let [opening, other] = sources else {
+        unreachable!()
+    };
+    if opening.len() != 3 || !other.is_empty() {
+        return Err(Fail::from("three edges and none"));
+    }
+    let mut cuts = Vec::with_capacity(alloc, 2)?;
+    cuts.push(Cuts::On {
+        opening,
+        board,
+        seat,
+    })?;
+    cuts.push(Cuts::Empty)?;
+    Ok(cuts)
 }
 
 // Two replicas that opened without edges.
@@ -146,9 +178,11 @@ fn authors_act_and_pieces_come_where_they_belong(rt: HostRuntime) -> Result<(), 
     if session.replicas.len() != 2 || session.authors.len() != 2 {
         return Err(Fail::from("two replicas and two authors"));
     }
-    let edits = loaded(rt.alloc(), &session)?;
+    let edits = loaded(rt.alloc(), &session)?.into_canonical();
     let sources = vec![in rt.alloc(); edits, EditList::new(rt.alloc())]?;
-    let mut cuts = no_cuts(rt.alloc())?;
+    let opening = [State::Deleted, State::Live, State::Live];
+    let (board, seat) = Board::new(rt.alloc(), &opening, 3)?;
+    let mut cuts = cuts_at(rt.alloc(), &sources, &board, seat)?;
     let journals = journals_of(&rt, rt.alloc(), &session, &sources, &mut cuts, &OpenGate)?;
     assert_eq!(rt; journals.len(), 2);
     for (replica, actor, index, want) in [
@@ -292,17 +326,7 @@ fn cut_as<B: Naming + Send + Sync, R: Threads + Wait + Sync>(
         }),
         asks: AtomicU64::new(0),
     };
-    let opening = &sources[0];
-    if opening.len() != 3 {
-        return Err(Fail::from("three edges"));
-    }
-    let mut cuts = Vec::with_capacity(alloc, 2)?;
-    cuts.push(Cuts::On {
-        opening,
-        board,
-        seat,
-    })?;
-    cuts.push(Cuts::Empty)?;
+    let mut cuts = cuts_at(alloc, sources, board, seat)?;
     let journals = journals_of(rt, alloc, session, sources, &mut cuts, &gate)?;
     Ok((journals, gate.asks.load(Ordering::SeqCst)))
 }
