@@ -40,11 +40,13 @@ pub struct Plan<'a> {
 
 /// Runs a block on machines, of which each is a replica: each author with lines and each `send` line is a worker of its own, and they
 /// are at work at once. The sources are the canonical lists of the replicas as the block opens, and the first `send` line of the block
-/// has the given number. Each replica has cuts, made on the edges that it opens with: its authors raise
-/// the slots of those that they cut, each through a part of the seat at the board. `first_calls` has for each declared author, in order, the number of its first line in this block, or of its
+/// has the given number. `first_calls` has for each declared author, in order, the number of its first line in this block, or of its
 /// next line, among all its lines in the session, counted from 1. The gate says when an author's calls may start, and changes nothing
 /// else. The machines come back with their journals, in the order in which they were handed in; where memory runs out for a worker,
 /// the others go on to their ends, and none comes back.
+///
+/// Each replica has cuts, made on the edges that it opens with: its authors raise the slots of those that they cut, each through a part
+/// of the seat at the board, which comes back whole.
 pub fn run_block<R: Threads + Wait + Sync, M: Machine<Command = Command, Reply = Answer>, G: Gate>(
     rt: &R,
     alloc: Global,
