@@ -54,6 +54,21 @@ fn opened(alloc: Global, lines: &[&str]) -> Result<Replica, Fail> {
     Ok(replica)
 }
 
+// Whether an action has the answer that is due.
+fn answers<L: Ledger>(
+    alloc: Global,
+    replica: &mut Replica,
+    call: &(u32, Action, Answer),
+    steps: &mut Steps<L>,
+) -> Result<bool, Fail> {
+    let (author, action, due) = call;
+    if *author == 0 {
+        return Err("no author".into());
+    }
+    let (_edits, answer) = replica.act(alloc, *author, action, steps)?;
+    Ok(answer == *due)
+}
+
 // Whether actions have the answers that are due, and the print text after them.
 fn acted_counting<L: Ledger>(
     alloc: Global,
@@ -67,12 +82,8 @@ fn acted_counting<L: Ledger>(
 {
     let mut steps = Steps::<L>::new(blank);
     let mut are_due = true;
-    for (author, action, due) in calls {
-        if *author == 0 {
-            return Err("no author".into());
-        }
-        let (_edits, answer) = replica.act(alloc, *author, action, &mut steps)?;
-        are_due = are_due && answer == *due;
+    for call in calls {
+        are_due = answers(alloc, &mut replica, call, &mut steps)? && are_due;
     }
     let mut text = Vec::new(alloc);
     replica.print(alloc, &mut text)?;
