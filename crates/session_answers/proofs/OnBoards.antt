@@ -92,10 +92,12 @@ pub empty_without : (opening : List Edit) (parts : ℕ) (board : Option BoardOf)
 empty_without opening parts None for none = for
 empty_without opening parts (Some board) for none = absurd cc
 
-pub all_empty_without : (authors : List Declared) (lines : List Line) (sources : List (List Edit)) (boards : List (Option BoardOf)) → AreBoards authors lines sources boards
-    → AllZip (λ opening board. board ≡ None → opening ≡ []) sources boards
-all_empty_without authors lines sources boards are =
-    all_zipped _ sources boards are.as_many (λ k opening board is_opening is_board. empty_without opening (parts_at authors lines k) board (are.each k opening board is_opening is_board))
+pub all_empty_without : (authors : List Declared) (lines : List Line) (sources : List (List Edit)) (boards lent : List (Option BoardOf)) → lent ≡ boards → AreBoards authors lines sources boards
+    → AllZip (λ opening board. board ≡ None → opening ≡ []) sources lent
+all_empty_without authors lines sources boards lent same are =
+    all_zipped (λ (opening : List Edit) (board : Option BoardOf). board ≡ None → opening ≡ []) sources lent (ap (λ (bs : List (Option BoardOf)). length bs) same ∙ are.as_many)
+    (λ k opening board is_opening is_board. empty_without opening (parts_at authors lines k) board
+    (are.each k opening board is_opening (ap (λ (bs : List (Option BoardOf)). slice_get bs k) (sym same) ∙ is_board)))
 
 can_cut_at : (stage : Stage) (own : Cuts) → slice_get stage.sources stage.replica ≡ Some (opening_edits own) → Ascends (opening_edits own)
     → IsBoardFor (opening_edits own) (parts_at stage.authors stage.lines stage.replica) (board_of own) → seat_of own ≡ option_map first_board_seat (board_of own) → CanCutAt stage own
@@ -142,10 +144,18 @@ whole_behind (On opening board seat) back first keeps =
     (keeps.2 ∙ ap (λ (s : BoardStanding). s.board) same, keeps.3 ∙ ap (λ (s : BoardStanding). s.parts) same)
 
 -- first seats that were lent to a block are whole behind it
-pub all_whole : (owns backs : List Cuts) → map seat_of owns ≡ map (option_map first_board_seat) (map board_of owns) → length backs ≡ length owns
+all_whole : (owns backs : List Cuts) → map seat_of owns ≡ map (option_map first_board_seat) (map board_of owns) → length backs ≡ length owns
     → ((k : ℕ) (own back : Cuts) → slice_get owns k ≡ Some own → slice_get backs k ≡ Some back → KeepsSeat own back) → AllZip IsWholeSeat (map board_of owns) (map seat_of backs)
 all_whole [] [] firsts long keep = tt
 all_whole [] (back ∷ backs) firsts long keep = absurd (omega arith)
 all_whole (own ∷ owns) [] firsts long keep = absurd (omega arith)
 all_whole (own ∷ owns) (back ∷ backs) firsts long keep =
     (whole_behind own back (cc) (keep zero own back refl refl), all_whole owns backs (cc) (omega arith) (λ k. keep (suc k)))
+
+-- the same of boards and seats that are those
+pub all_whole_among : (owns backs : List Cuts) (boards : List (Option BoardOf)) (seats : List (Option BoardStanding)) → map board_of owns ≡ boards → seats ≡ map seat_of backs
+    → map seat_of owns ≡ map (option_map first_board_seat) (map board_of owns) → length backs ≡ length owns
+    → ((k : ℕ) (own back : Cuts) → slice_get owns k ≡ Some own → slice_get backs k ≡ Some back → KeepsSeat own back) → AllZip IsWholeSeat boards seats
+all_whole_among owns backs boards seats same_boards same_seats firsts long keep =
+    subst (λ (bs : List (Option BoardOf)). AllZip IsWholeSeat bs seats) same_boards
+    (subst (λ (ss : List (Option BoardStanding)). AllZip IsWholeSeat (map board_of owns) ss) (sym same_seats) (all_whole owns backs firsts long keep))

@@ -1,20 +1,17 @@
-use Rattle.std.proofs.Common.{◌≡◌, List, Option, map, refl, sym, ap, subst, ◌∙◌, arith}
+use Rattle.std.proofs.Common.{map, refl, sym, ap, subst, ◌∙◌, arith}
 use Rattle.std.specs.Option.{option_map}
-use Rattle.std.specs.List.{AllByRecursion, AllZip}
-use Rattle.grove_edits.specs.declared.edit.Edit.{Edit}
+use Rattle.std.specs.List.{AllByRecursion}
 use Rattle.grove_edits.specs.Graph.{Ascends}
-use Rattle.edge_board.specs.Seats.{BoardOf, BoardStanding, first_board_seat}
+use Rattle.edge_board.specs.Seats.{first_board_seat}
 use Rattle.session_run.proofs.OfSessions.{sends_counted}
-use Rattle.session_answers.specs.Boards.{IsWholeSeat}
 use Rattle.session_answers.specs.Running.{sources_of, stage_of}
-use Rattle.session_answers.proofs.OnBoards.{all_empty_without, boards_along, can_cut, all_whole}
+use Rattle.session_answers.proofs.OnBoards.{all_empty_without, boards_along, can_cut, all_whole_among}
 use Rattle.session_answers.proofs.Steps.{have_run}
 use Rattle.session_answers.proofs.block.run_on_boards.Goals as goal
 
 pub cuts_on-requires-clause-boards : goal.cuts_on-requires-clause-boards
 cuts_on-requires-clause-boards g c =
-    subst (λ (bs : List (Option BoardOf)). AllZip _ c.as_slice-sources.result.now bs) (sym c.deref-2.ensures.value)
-    (all_empty_without c.as_slice.result.now c.as_slice-2.result.now c.as_slice-sources.result.now c.in_ok-boards.boards.items c.in_ok-boards.ensures.boards)
+    all_empty_without c.as_slice.result.now c.as_slice-2.result.now c.as_slice-sources.result.now c.in_ok-boards.boards.items c.deref-2.result.now c.deref-2.ensures.value c.in_ok-boards.ensures.boards
 
 pub cuts_on-requires-clause-seats : goal.cuts_on-requires-clause-seats
 cuts_on-requires-clause-seats g c = c.in_ok-boards.ensures.seats ∙ ap (map (option_map first_board_seat)) (sym c.deref-2.ensures.value)
@@ -34,8 +31,7 @@ pub close_all-requires : goal.close_all-requires
 close_all-requires g c =
     let boards = c.in_ok-cuts.ensures.boards ∙ c.deref-2.ensures.value in
     let firsts = c.in_ok-cuts.ensures.seats ∙ c.in_ok-boards.ensures.seats ∙ ap (map (option_map first_board_seat)) (sym boards) in
-    let whole = all_whole c.in_ok-cuts.cuts.items c.run_block.new.cuts.items firsts c.run_block.ensures.cuts c.run_block.ensures.seats in
-    subst (λ (bs : List (Option BoardOf)). AllZip IsWholeSeat bs c.in_ok-whole.whole.items) boards (subst (λ (ss : List (Option BoardStanding)). AllZip IsWholeSeat _ ss) (sym c.in_ok-whole.ensures) whole)
+    all_whole_among c.in_ok-cuts.cuts.items c.run_block.new.cuts.items c.in_ok-boards.boards.items c.in_ok-whole.whole.items boards c.in_ok-whole.ensures firsts c.run_block.ensures.cuts c.run_block.ensures.seats
 
 pub returns : goal.returns
 returns g c =
