@@ -6,7 +6,7 @@ use grove_edits::{ActFault, Action, Actor, Answer, Bytes, Command, EditList, Pla
 use grove_names::Name;
 use grove_sorts::{Ctor, Position, Version};
 use mark_step::Mark;
-use shared_replica::Solo;
+use shared_replica::Machine;
 use std::alloc::Global;
 use std::marker::Brand;
 use std::sync::ledger::{Blank, Ledger};
@@ -98,10 +98,14 @@ fn acted(
     acted_counting::<Brand>(alloc, opened(alloc, lines)?, calls, Blank::new(1))
 }
 
-// The mark that is kept of the vertex to which the edge of a line leads.
-fn mark_at(replica: &Replica, line: &str) -> Result<Option<Mark>, Fail> {
+// The mark that a replica keeps of the vertex to which the edge of a line leads.
+fn mark_at(replica: &mut Replica, line: &str) -> Result<Option<Mark>, Fail> {
     let edge = read_line(Version::One, line.as_bytes())?.edge();
     Ok(replica.marks().kept(&edge.target).map(|record| record.mark))
+}
+
+fn mark_in(mut replica: Replica, line: &str) -> Result<Option<Mark>, Fail> {
+    mark_at(&mut replica, line)
 }
 
 #[test]
@@ -207,29 +211,67 @@ cycle 0
     Ok(())
 }
 
-// A sent edit of a deleted edge comes to nothing.
-#[test]
-fn a_journal_takes_edits(rt: HostRuntime) -> Result<(), Fail> {
-    let alloc = rt.alloc();
-    let lines = ["-3.2 0.0 root main 3.1 num:7"];
+// The edits of these lines.
+fn edits_of(alloc: Global, lines: &[&str]) -> Result<EditList, Fail> {
     let mut edits = EditList::new(alloc);
-    edits.push(read_line(Version::One, b"+3.2 0.0 root main 3.1 num:7")?)?;
-    edits.push(read_line(Version::One, b"+2.2 0.0 root main 2.1 true")?)?;
-    let Ok(mut solo) = Solo::new(alloc, opened(alloc, &lines)?, 1) else {
-        panic!(rt; "no memory")
-    };
+    for line in lines {
+        edits.push(read_line(Version::One, line.as_bytes())?)?;
+    }
+    Ok(edits)
+}
+
+// The answer to edits that a send brings.
+fn sent_counting<L: Ledger>(
+    alloc: Global,
+    replica: &mut Replica,
+    edits: EditList,
+    blank: Blank,
+) -> Result<Answer, Fail>
+    requires name { blank.name ≡ L.name }
+    requires parts { blank.parts ≡ L.parts }
+    requires some { 0 < blank.parts }
+{
+    let mut steps = Steps::<L>::new(blank);
     let command = Command::Take {
         piece: 1,
         bytes: Bytes::of(Vec::new(alloc)),
         edits,
     };
-    let Ok(answer) = solo.act(alloc, Actor::Send(1), command) else {
-        panic!(rt; "no memory")
-    };
-    assert_eq!(rt; answer, Answer::Taken { edits: 2 });
-    let (replica, _journal) = solo.close();
+    let (_edits, answer) = replica.step(alloc, Actor::Send(1), &command, &mut steps)?;
+    Ok(answer)
+}
+
+fn sent(alloc: Global, mut replica: Replica, edits: EditList) -> Result<Answer, Fail> {
+    sent_counting::<Brand>(alloc, &mut replica, edits, Blank::new(1))
+}
+
+#[test]
+fn a_step_takes_edits(rt: HostRuntime) -> Result<(), Fail> {
+    let edits = edits_of(rt.alloc(), &SUM)?;
+    let answer = sent(rt.alloc(), Replica::new(rt.alloc())?, edits)?;
+    assert_eq!(rt; answer, Answer::Taken { edits: 3 });
+    Ok(())
+}
+
+fn canonical_text(alloc: Global, replica: &mut Replica) -> Result<Vec<u8>, Fail> {
     let mut text = Vec::new(alloc);
     replica.canonical(alloc, &mut text)?;
+    Ok(text)
+}
+
+// The canonical text of a replica that took the edits of lines.
+fn text_after(alloc: Global, mut replica: Replica) -> Result<Vec<u8>, Fail> {
+    canonical_text(alloc, &mut replica)
+}
+
+#[test]
+fn an_edit_of_a_deleted_edge_comes_to_nothing(rt: HostRuntime) -> Result<(), Fail> {
+    let lines = [
+        "-3.2 0.0 root main 3.1 num:7",
+        "+3.2 0.0 root main 3.1 num:7",
+        "+2.2 0.0 root main 2.1 true",
+    ];
+    let text = text_after(rt.alloc(), opened(rt.alloc(), &lines)?)?;
     assert_eq!(rt;
         text.as_slice(),
         b"+2.2 0.0 root main 2.1 true\n-3.2 0.0 root main 3.1 num:7\n".as_slice()
@@ -243,21 +285,27 @@ const SUM: [&str; 3] = [
     "+1.6 1.1 plus right 1.5 true",
 ];
 
+// The mark that is kept once the edits of lines are taken, the last of them in a block that opened before.
+fn mark_after(alloc: Global, lines: &[&str], last: &str, line: &str) -> Result<Option<Mark>, Fail> {
+    mark_in(after(alloc, opened(alloc, lines)?, &[last])?, line)
+}
+
 #[test]
 fn a_mark_goes_as_its_fault_is_mended(rt: HostRuntime) -> Result<(), Fail> {
-    let alloc = rt.alloc();
-    let wrong = opened(alloc, &SUM)?;
-    assert_eq!(rt; mark_at(&wrong, SUM[2])?, Some(Mark::Inconsistent));
-    let cut = ["-1.6 1.1 plus right 1.5 true"];
-    let mended = after(alloc, wrong, &cut)?;
-    assert_eq!(rt; mark_at(&mended, SUM[2])?, Some(Mark::None));
+    let wrong = mark_after(rt.alloc(), &SUM, SUM[0], SUM[2])?;
+    let cut = "-1.6 1.1 plus right 1.5 true";
+    let mended = mark_after(rt.alloc(), &SUM, cut, SUM[2])?;
+    assert_eq!(rt; wrong, Some(Mark::Inconsistent));
+    assert_eq!(rt; mended, Some(Mark::None));
     Ok(())
 }
 
 #[test]
 fn replicas_keep_the_same_marks(rt: HostRuntime) -> Result<(), Fail> {
-    let other = opened(rt.alloc(), &[SUM[2], SUM[0], SUM[2], SUM[1]])?;
-    assert_eq!(rt; mark_at(&other, SUM[0])?, Some(Mark::None));
-    assert_eq!(rt; mark_at(&other, SUM[2])?, Some(Mark::Inconsistent));
+    let turned = [SUM[2], SUM[0], SUM[2]];
+    let sum = mark_after(rt.alloc(), &turned, SUM[1], SUM[0])?;
+    let wrong = mark_after(rt.alloc(), &turned, SUM[1], SUM[2])?;
+    assert_eq!(rt; sum, Some(Mark::None));
+    assert_eq!(rt; wrong, Some(Mark::Inconsistent));
     Ok(())
 }
