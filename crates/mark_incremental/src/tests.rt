@@ -2,6 +2,7 @@ ghost use Rattle.std.specs.Prelude.{◌≡◌, ◌<◌, IfOk};
 ghost use Rattle.graph_store.specs.Store.{state_in};
 ghost use Rattle.mark_incremental.specs.Raising.{AreIndexed};
 ghost use Rattle.mark_incremental.specs.Standing.{StandFor};
+ghost use Rattle.mark_incremental.specs.Applying.{CanTakeBack};
 
 use super::*;
 use child_index::ChildIndex;
@@ -93,33 +94,17 @@ impl Live {
         Ok(Some((wanted, type_word(types, record.typ), record.mark)))
     }
 
-    // What is told of it while the edit of another line is applied, and once that is taken back.
-    fn told_around<L: Ledger>(
-        &mut self,
-        edited: &str,
-        line: &str,
-        steps: &mut Steps<L>,
-    ) -> Result<(Told, Told), Fail>
+    fn take_back(&mut self, edit: &Edit, applied: &Applied)
         requires indexed { AreIndexed self.old.store self.old.children self.old.parents }
-        requires stand { StandFor (state_in self.old.store) self.old.marks }
+        requires can { CanTakeBack edit.now applied.now self.old.store self.old.children self.old.parents self.old.marks }
     {
-        let edit = edit(edited)?;
-        let applied = self.marks.apply(
-            &edit,
-            &mut self.store,
-            &mut self.children,
-            &mut self.parents,
-            steps,
-        )?;
-        let told = self.told(line)?;
         self.marks.take_back(
-            &edit,
-            &applied,
+            edit,
+            applied,
             &mut self.store,
             &mut self.children,
             &mut self.parents,
         );
-        Ok((told, self.told(line)?))
     }
 
     // Whether there was memory for all of these edits.
@@ -160,20 +145,25 @@ fn after(alloc: Global, lines: &[&str]) -> Result<Live, Fail>
     after_counting::<Brand>(alloc, lines, Blank::new(1))
 }
 
-fn told_around_counting<L: Ledger>(
-    live: &mut Live,
-    edited: &str,
-    line: &str,
-    blank: Blank,
-) -> Result<(Told, Told), Fail>
+// Applies an edit, and answers its receipt.
+fn applied_counting<L: Ledger>(live: &mut Live, edit: &Edit, blank: Blank) -> Result<Applied, Fail>
     requires name { blank.name ≡ L.name }
     requires parts { blank.parts ≡ L.parts }
     requires some { 0 < blank.parts }
     requires indexed { AreIndexed live.old.store live.old.children live.old.parents }
     requires stand { StandFor (state_in live.old.store) live.old.marks }
+    ensures indexed { AreIndexed live.new.store live.new.children live.new.parents }
+    ensures can { IfOk result (λ applied. CanTakeBack edit.now applied live.new.store live.new.children live.new.parents live.new.marks) }
 {
     let mut steps = Steps::<L>::new(blank);
-    live.told_around(edited, line, &mut steps)
+    let applied = live.marks.apply(
+        edit,
+        &mut live.store,
+        &mut live.children,
+        &mut live.parents,
+        &mut steps,
+    )?;
+    Ok(applied)
 }
 
 fn all_counting<L: Ledger>(live: &mut Live, edits: &[Edit], blank: Blank) -> bool
@@ -200,7 +190,11 @@ fn told_with(
     line: &str,
 ) -> Result<(Told, Told), Fail> {
     let mut live = after(alloc, lines)?;
-    told_around_counting::<Brand>(&mut live, edited, line, Blank::new(1))
+    let edit = edit(edited)?;
+    let applied = applied_counting::<Brand>(&mut live, &edit, Blank::new(1))?;
+    let told = live.told(line)?;
+    live.take_back(&edit, &applied);
+    Ok((told, live.told(line)?))
 }
 
 // What is told once all edits of further lines are applied, or none for want of memory, and whether they are.
