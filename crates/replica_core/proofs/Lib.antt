@@ -3,7 +3,9 @@ pub mod AsEdits
 pub mod StoredLists
 pub mod ListsOf
 pub mod PlansTold
+pub mod LiveChanges
+pub mod Rooms
 pub mod Contents
-pub mod Costs
-pub mod OneRecord
+pub mod Standing
 pub mod Keeping
+pub mod Raising

@@ -1,12 +1,11 @@
 -- Calls of a replica, one after the other.
-use Rattle.std.specs.Prelude.{ℕ, ◌+◌, List, [], ◌∷◌, ◌++◌}
+use Rattle.std.specs.Prelude.{List, [], ◌∷◌, ◌++◌}
 use Rattle.grove_edits.specs.declared.edit.Edit.{Edit}
 use Rattle.grove_edits.specs.declared.actor.Actor.{Actor}
 use Rattle.grove_edits.specs.declared.answer.Answer.{Answer}
 use Rattle.grove_edits.specs.declared.command.Command.{Command}
 use Rattle.shared_replica.specs.declared.journal.Entry.{Entry}
 use Rattle.replica_core.specs.Content.{Content, with_taken, with_block}
-use Rattle.replica_core.specs.Cost.{edits_cost}
 
 -- what a call does: it opens a block, or it takes edits, those of an action or those handed in
 pub data Call : Type 0 where
@@ -29,16 +28,6 @@ edits_of_call (Takes edits) = edits
 abbrev pub edits_of_calls : List Call → List Edit
 edits_of_calls [] = []
 edits_of_calls (call ∷ calls) = edits_of_call call ++ edits_of_calls calls
-
--- how often a call counts at most: a block that opens counts nothing
-abbrev pub call_cost : Content → Call → ℕ
-call_cost content Opens = 0
-call_cost content (Takes edits) = edits_cost content edits
-
--- and calls in turn
-abbrev pub calls_cost : Content → List Call → ℕ
-calls_cost content [] = 0
-calls_cost content (call ∷ calls) = call_cost content call + calls_cost (after_call call content) calls
 
 -- all edits of the entries of a journal, in order
 abbrev pub edits_of_entries : List (Entry Content Command (List Edit) Answer) → List Edit

@@ -1,16 +1,11 @@
--- How often the calls of a replica count at most.
-use Rattle.std.specs.Prelude.{ℕ, ◌+◌, ◌*◌, List, [], ◌∷◌}
+-- How often the calls of a replica count at most. No marks are kept yet, so nothing is counted.
+use Rattle.std.specs.Prelude.{ℕ, ◌+◌, List, [], ◌∷◌}
 use Rattle.grove_edits.specs.declared.edit.Edit.{Edit}
-use Rattle.kept_records.proofs.OneSize.{some_size}
 use Rattle.replica_core.specs.Content.{Content, with_taken}
 
--- the size of an edit on the graph of some edits, of which it has exactly one
-unfoldable pub edit_size : List Edit → Edit → ℕ
-edit_size edits edit = (some_size edits edit).0
-
--- applying one edit: 64 for each unit of its size, and 64 more
+-- applying one edit
 abbrev pub edit_cost : Content → Edit → ℕ
-edit_cost content edit = 64 * edit_size content.edits edit + 64
+edit_cost content edit = 0
 
 -- applying edits in turn
 abbrev pub edits_cost : Content → List Edit → ℕ

@@ -6,15 +6,15 @@ use Rattle.walks.specs.Live.{IsInEdgeOrder}
 use Rattle.user_actions.specs.Good.{AreOpening}
 use Rattle.replica_core.specs.declared.live_graph.LiveGraph.{LiveGraph}
 use Rattle.replica_core.specs.Content.{Content}
-use Rattle.replica_core.specs.Marked.{IsIndexedAndMarked}
+use Rattle.replica_core.specs.Indexes.{StandsFor}
 use Rattle.replica_core.specs.Stored.{edits_in}
 
 -- what contracts see of a kept graph and opening edges
 abbrev pub content_of : LiveGraph → List Edge → Content
 content_of kept opening = record { edits = edits_in kept.store; opening = opening }
 
--- the indexes and the marks are those of the kept graph, and the opening edges stand in order and are still not Absent in it
+-- the kept graph is that of its canonical list, and the opening edges stand in order and are still not Absent in it
 pub record IsKept (kept : LiveGraph) (opening : List Edge) : Type 0 where
-  pub whole : IsIndexedAndMarked kept
+  pub stands : StandsFor (graph (edits_in kept.store)) kept
   pub opening_in_order : IsInEdgeOrder opening
   pub opening_known : AreOpening (graph (edits_in kept.store)) opening

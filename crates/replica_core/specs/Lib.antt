@@ -6,5 +6,5 @@ pub mod Lists
 pub mod Step
 pub mod Cost
 pub mod Calls
-pub mod Marked
+pub mod Indexes
 pub mod Kept

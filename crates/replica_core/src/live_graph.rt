@@ -1,87 +1,106 @@
-ghost use Rattle.std.specs.Prelude.{◌≡◌, ◌+◌, ◌*◌, ◌≤◌, ℕ, [], ◌∷◌, IfOk, OnOk, OnErr};
+ghost use Rattle.std.specs.Prelude.{◌≡◌, ◌+◌, ◌<◌, ◌≤◌, [], ◌∷◌, List, map, if◌then◌else◌, OnOk, IfOk, IfErr};
+ghost use Rattle.grove_sorts.specs.declared.position.Position.{Position};
+ghost use Rattle.grove_edits.specs.declared.vertex.Vertex.{Vertex};
+ghost use Rattle.grove_edits.specs.declared.edge.Edge.{Edge};
+ghost use Rattle.grove_edits.specs.Vertex.{is_same_vertex};
 ghost use Rattle.grove_edits.specs.Edit.{edit_edge};
-ghost use Rattle.grove_edits.specs.Graph.{IsSame, graph, graph_join};
+ghost use Rattle.grove_edits.specs.Graph.{Graph, graph, graph_join};
 ghost use Rattle.graph_store.specs.Store.{state_in};
-ghost use Rattle.kept_records.specs.Size.{IsSize};
-ghost use Rattle.mark_incremental.specs.Cost.{IsCostOf};
-ghost use Rattle.replica_core.specs.Marked.{IsIndexedAndMarked};
+ghost use Rattle.edge_index.specs.Lists.{live};
+ghost use Rattle.child_index.specs.Origin.{room_at_origin, is_from};
+ghost use Rattle.parent_index.specs.Target.{room_at_vertex};
+ghost use Rattle.replica_core.specs.declared.live_change.LiveChange.TheVariants.{Added};
+ghost use Rattle.replica_core.specs.Indexes.{CanChange, changed_edges, StandsFor, HasRoomFor};
 
+use crate::live_change::{LiveChange, live_change};
 use crate::no_memory::NoMemory;
 use child_index::ChildIndex;
 use graph_store::GraphStore;
-use grove_edits::Edit;
-use mark_incremental::Marks;
+use grove_edits::{Edge, Edit};
 use parent_index::ParentIndex;
 use seeded_hash::HashSeed;
 use std::alloc::Global;
-use std::sync::ledger::Ledger;
-use walks::Steps;
 
-/// A graph with the indexes of its live edges and the marks of its vertices.
+/// A graph with the indexes of its live edges.
 #[derive(Drop)]
 pub(crate) struct LiveGraph {
     pub(crate) store: GraphStore,
     pub(crate) children: ChildIndex,
     pub(crate) parents: ParentIndex,
-    pub(crate) marks: Marks,
 }
 
 impl LiveGraph {
-    /// The empty graph, whose indexes and marks hash under a seed.
-    pub(crate) fn with_seed(alloc: Global, seed: HashSeed) -> Result<LiveGraph, NoMemory>
-        ensures store { IfOk result (λ made. made.store ≡ []) }
-        ensures whole { IfOk result IsIndexedAndMarked }
+    /// The empty graph, whose indexes hash under a seed.
+    pub(crate) fn with_seed(alloc: Global, seed: HashSeed) -> LiveGraph
+        ensures store { result.store ≡ [] }
+        ensures stands { StandsFor (graph []) result }
     {
-        Ok(LiveGraph {
+        LiveGraph {
             store: GraphStore::new(alloc),
             children: ChildIndex::with_seed(alloc, seed),
             parents: ParentIndex::with_seed(alloc, seed),
-            marks: Marks::with_seed(alloc, seed)?,
-        })
+        }
     }
 
-    /// Joins an edit to the graph, and marks again what it concerns. Where memory runs out the graph stays.
-    pub(crate) fn apply<L: Ledger>(
-        &mut self,
-        edit: &Edit,
-        steps: &mut Steps<L>,
-    ) -> Result<(), NoMemory>
-        requires { IsIndexedAndMarked self.old }
-        ensures joined { OnOk result (IsSame (state_in self.new.store) (graph_join (state_in self.old.store) (graph (edit.now ∷ [])))) }
-        ensures unchanged { OnErr result (IsSame (state_in self.new.store) (state_in self.old.store)) }
-        ensures whole { IsIndexedAndMarked self.new }
-        ensures ticks { (size : ℕ) → IsSize (edit_edge edit.now) (state_in self.old.store) (graph_join (state_in self.old.store) (graph (edit.now ∷ []))) size
-            → steps.new ≤ steps.old + 64 * size + 64 }
+    /// Makes room for an edit of each of these edges, so that raising them takes no memory.
+    pub(crate) fn reserve_for(&mut self, edges: &[Edge]) -> Result<(), NoMemory>
+        ensures room { OnOk result (HasRoomFor edges.now self.new) }
+        ensures unchanged { (g : Graph) → StandsFor g self.old → StandsFor g self.new }
     {
-        self.marks.apply(
-            edit,
-            &mut self.store,
-            &mut self.children,
-            &mut self.parents,
-            steps,
-        )?;
+        self.store.reserve_for(edges)?;
+        self.children.reserve_for(edges)?;
+        self.parents.reserve_for(edges)?;
         Ok(())
     }
 
-    /// Joins edits to the graph, one after the other, all of them or none, and marks again what each concerns.
-    pub(crate) fn apply_all<L: Ledger>(
-        &mut self,
-        edits: &[Edit],
-        steps: &mut Steps<L>,
-    ) -> Result<(), NoMemory>
-        requires { IsIndexedAndMarked self.old }
-        ensures joined { OnOk result (IsSame (state_in self.new.store) (graph_join (state_in self.old.store) (graph edits.now))) }
-        ensures unchanged { OnErr result (IsSame (state_in self.new.store) (state_in self.old.store)) }
-        ensures whole { IsIndexedAndMarked self.new }
-        ensures ticks { (cost : ℕ) → IsCostOf (state_in self.old.store) edits.now cost → steps.new ≤ steps.old + cost }
+    /// Raises edits one after the other.
+    pub(crate) fn raise_all(&mut self, edits: &[Edit])
+        requires stands { StandsFor (state_in self.old.store) self.old }
+        requires room { HasRoomFor (map edit_edge edits.now) self.old }
+        ensures { (g : Graph) → StandsFor g self.old → StandsFor (graph_join g (graph edits.now)) self.new }
     {
-        self.marks.apply_all(
-            edits,
-            &mut self.store,
-            &mut self.children,
-            &mut self.parents,
-            steps,
-        )?;
-        Ok(())
+        for edit in edits {
+            self.raise(edit);
+        }
+    }
+
+    // Raises an edit, and keeps the room for edits of further edges.
+    fn raise(&mut self, edit: &Edit)
+        requires stands { StandsFor (state_in self.old.store) self.old }
+        requires room { HasRoomFor (edit_edge edit.now ∷ []) self.old }
+        ensures stands { (g : Graph) → StandsFor g self.old → StandsFor (graph_join g (graph (edit.now ∷ []))) self.new }
+        ensures room { (edges : List Edge) → HasRoomFor (edit_edge edit.now ∷ edges) self.old → HasRoomFor edges self.new }
+    {
+        let edge = edit.as_edge();
+        let raised = self.store.raise(edit);
+        let change = live_change(edit.kind(), raised);
+        change_children(&mut self.children, edge, change);
+        change_parents(&mut self.parents, edge, change);
+    }
+}
+
+fn change_children(children: &mut ChildIndex, edge: &Edge, change: LiveChange)
+    requires can { CanChange change edge.now (live children.old) }
+    requires room { change ≡ Added → 0 < room_at_origin children.old edge.now.source edge.now.position }
+    ensures changed { live children.new ≡ changed_edges change edge.now (live children.old) }
+    ensures room { (v : Vertex) (p : Position) → room_at_origin children.old v p ≤ room_at_origin children.new v p + (if is_from edge.now v p then 1 else 0) }
+{
+    match change {
+        LiveChange::Added => children.add(edge),
+        LiveChange::Removed => children.remove(edge),
+        LiveChange::Kept => {}
+    }
+}
+
+fn change_parents(parents: &mut ParentIndex, edge: &Edge, change: LiveChange)
+    requires can { CanChange change edge.now (live parents.old) }
+    requires room { change ≡ Added → 0 < room_at_vertex parents.old edge.now.target }
+    ensures changed { live parents.new ≡ changed_edges change edge.now (live parents.old) }
+    ensures room { (v : Vertex) → room_at_vertex parents.old v ≤ room_at_vertex parents.new v + (if is_same_vertex edge.now.target v then 1 else 0) }
+{
+    match change {
+        LiveChange::Added => parents.add(edge),
+        LiveChange::Removed => parents.remove(edge),
+        LiveChange::Kept => {}
     }
 }

@@ -38,8 +38,14 @@ impl From<graph_store::NoMemory> for NoMemory {
     }
 }
 
-impl From<mark_incremental::NoMemory> for NoMemory {
-    fn from(_error: mark_incremental::NoMemory) -> NoMemory {
+impl From<child_index::NoMemory> for NoMemory {
+    fn from(_error: child_index::NoMemory) -> NoMemory {
+        NoMemory
+    }
+}
+
+impl From<parent_index::NoMemory> for NoMemory {
+    fn from(_error: parent_index::NoMemory) -> NoMemory {
         NoMemory
     }
 }

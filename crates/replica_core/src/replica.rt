@@ -1,9 +1,9 @@
-ghost use Rattle.std.specs.Prelude.{◌≡◌, ◌+◌, ◌<◌, ◌≤◌, ℕ, [], ◌∷◌, ◌++◌, List, IfOk, OnOk, OnErr};
+ghost use Rattle.std.specs.Prelude.{◌≡◌, ◌+◌, ◌<◌, ◌≤◌, ℕ, [], ◌∷◌, ◌++◌, List, map, IfOk, OnOk, OnErr};
 ghost use Rattle.grove_edits.specs.declared.act_fault.ActFault.{ActFault};
+ghost use Rattle.grove_edits.specs.Edit.{edit_edge};
 ghost use Rattle.grove_edits.specs.Graph.{graph, IsCanonical};
 ghost use Rattle.user_actions.specs.Plan.{IsPlan};
 ghost use Rattle.grove_answers.specs.Texts.{IsPrintText, IsCanonicalText};
-ghost use Rattle.mark_incremental.specs.Standing.{KeptMarks, StandFor, kept_in};
 ghost use Rattle.replica_core.specs.Content.{IsContent, no_edits, with_taken, with_block};
 ghost use Rattle.replica_core.specs.Plain.{as_edits};
 ghost use Rattle.replica_core.specs.Step.{plan_of};
@@ -11,21 +11,17 @@ ghost use Rattle.replica_core.specs.Cost.{edit_cost, edits_cost};
 
 use crate::live_graph::LiveGraph;
 use crate::no_memory::NoMemory;
-use ctx_table::CtxTable;
 use grove_answers::{append_canonical_text, print_text};
-use grove_edits::{Action, Answer, Edit, EditList, Vertex};
-use mark_incremental::Marks;
-use mark_store::Record;
+use grove_edits::{Action, Answer, Edge, Edit, EditList};
 use seeded_hash::HashSeed;
 use std::alloc::Global;
 use std::marker::Model;
 use std::sync::ledger::Ledger;
-use type_core::TypeTable;
 use user_actions::{OpeningSet, Plan, PlanFault, View, plan};
 use walks::Steps;
 
 /// A live replica. Contracts see it as its `Content`: the canonical list of its graph, and the edges that the block opened with.
-/// How much room it has, and the numbers by which it keeps types and contexts, are not seen.
+/// How much room it has is not seen.
 #[derive(Drop)]
 pub struct Replica {
     graph: LiveGraph,
@@ -55,7 +51,7 @@ impl Replica {
     pub fn with_seed(alloc: Global, seed: HashSeed) -> Result<Replica, NoMemory>
         ensures empty { IfOk result (λ replica. replica ≡ no_edits) }
     {
-        let graph = LiveGraph::with_seed(alloc, seed)?;
+        let graph = LiveGraph::with_seed(alloc, seed);
         let opening = OpeningSet::of(alloc, &graph.store)?;
         Ok(Replica { graph, opening })
     }
@@ -80,14 +76,15 @@ impl Replica {
         ensures unchanged { OnErr result (self.new ≡ self.old) }
         ensures bounded { steps.new ≤ steps.old + edit_cost self.old edit.now }
     {
-        self.graph.apply(edit, steps)?;
-        Ok(())
+        // Nothing is counted while no marks are kept.
+        let _steps = steps;
+        self.take(&[edit.edge()], &[*edit])
     }
 
     /// Takes edits, one after the other, all of them or none.
     pub fn apply_all<L: Ledger>(
         &mut self,
-        _alloc: Global,
+        alloc: Global,
         edits: &EditList,
         steps: &mut Steps<L>,
     ) -> Result<(), NoMemory>
@@ -95,8 +92,10 @@ impl Replica {
         ensures unchanged { OnErr result (self.new ≡ self.old) }
         ensures bounded { steps.new ≤ steps.old + edits_cost self.old edits.now }
     {
-        self.graph.apply_all(edits.as_slice(), steps)?;
-        Ok(())
+        // Nothing is counted while no marks are kept.
+        let _steps = steps;
+        let edges = edges_of(alloc, edits)?;
+        self.take(&edges, edits.as_slice())
     }
 
     /// Plans an author's action on the graph, and takes the edits of the plan. It answers them, and what the plan answers. An action that
@@ -120,36 +119,6 @@ impl Replica {
         let (edits, answer) = self.planned(alloc, author, action)?;
         self.apply_all(alloc, &edits, steps)?;
         Ok((edits, answer))
-    }
-
-    /// The marks of the graph: the kept record of each vertex, by the numbers of their tables, is what marking the whole graph says of it,
-    /// and there is none of what is no vertex.
-    pub fn marks(&self) -> &Marks
-        ensures { StandFor (graph self.now.edits) result.now }
-    {
-        &self.graph.marks
-    }
-
-    /// The kept record of a vertex, by numbers of the tables below, and None exactly where it is no vertex of the graph. Who reads it
-    /// takes record and tables of the marks, which are lent whole.
-    pub fn kept(&self, vertex: &Vertex) -> Option<Record>
-        ensures { (marks : KeptMarks) × StandFor (graph self.now.edits) marks × (result ≡ kept_in marks vertex.now) }
-    {
-        self.graph.marks.kept(vertex)
-    }
-
-    /// The table of the types of the records.
-    pub fn types(&self) -> &TypeTable
-        ensures { (marks : KeptMarks) × StandFor (graph self.now.edits) marks × (result.now ≡ marks.types) }
-    {
-        self.graph.marks.types()
-    }
-
-    /// The table of their contexts.
-    pub fn contexts(&self) -> &CtxTable
-        ensures { (marks : KeptMarks) × StandFor (graph self.now.edits) marks × (result.now ≡ marks.contexts) }
-    {
-        self.graph.marks.contexts()
     }
 
     /// The canonical list of the graph.
@@ -206,4 +175,25 @@ impl Replica {
             Err(PlanFault::NoMemory) => Err(NoMemory),
         }
     }
+
+    // Takes edits, whose edges these are. Room for all is made before the first is raised, so that want of memory leaves none.
+    fn take(&mut self, edges: &[Edge], edits: &[Edit]) -> Result<(), NoMemory>
+        requires { edges.now ≡ map edit_edge edits.now }
+        ensures taken { OnOk result (self.new ≡ with_taken edits.now self.old) }
+        ensures unchanged { OnErr result (self.new ≡ self.old) }
+    {
+        self.graph.reserve_for(edges)?;
+        self.graph.raise_all(edits);
+        Ok(())
+    }
+}
+
+fn edges_of(alloc: Global, edits: &EditList) -> Result<Vec<Edge>, NoMemory>
+    ensures { IfOk result (λ edges. edges.items ≡ map edit_edge edits.now) }
+{
+    let mut edges = Vec::with_capacity(alloc, edits.len())?;
+    for edit in edits.as_slice() {
+        edges.push(edit.edge())?;
+    }
+    Ok(edges)
 }

@@ -2,26 +2,17 @@ use Rattle.std.proofs.Common.{List, [], ap, sym, subst, ◌∙◌}
 use Rattle.grove_edits.specs.declared.edit.Edit.{Edit}
 use Rattle.grove_edits.specs.declared.answer.Answer.TheVariants.{Refused}
 use Rattle.grove_edits.specs.Graph.{graph}
-use Rattle.walks.specs.Whole.{AreLive}
 use Rattle.graph_store.specs.Store.{state_in}
 use Rattle.user_actions.specs.Plan.{IsPlan}
 use Rattle.user_actions.proofs.SomePlan.{well_formed_along}
 use Rattle.replica_core.specs.Content.{IsContent}
 use Rattle.replica_core.specs.Stored.{edits_in}
-use Rattle.replica_core.proofs.Keeping.{kept_content, stored_same, plan_seen}
+use Rattle.replica_core.proofs.Keeping.{kept_content, plan_seen}
 use Rattle.replica_core.proofs.PlansTold.{edits_told, answer_told}
 use Rattle.replica_core.proofs.replica.Replica.planned.Goals as goal
 
 pub plan-requires-clause-well_formed : goal.plan-requires-clause-well_formed
-plan-requires-clause-well_formed c = well_formed_along (state_in c.self.inside.graph.store) (edits_in c.self.inside.graph.store) (stored_same c.self.inside.graph c.self.invariant.whole)
-
-pub plan-requires-clause-opening : goal.plan-requires-clause-opening
-plan-requires-clause-opening c = λ e held absent. c.self.invariant.opening_known e held (sym (stored_same c.self.inside.graph c.self.invariant.whole e) ∙ absent)
-
-pub plan-requires-clause-children : goal.plan-requires-clause-children
-plan-requires-clause-children c =
-    let indexed = c.self.invariant.whole.indexed in
-    subst (AreLive (state_in c.self.inside.graph.store)) (sym indexed.same) indexed.live_edges
+plan-requires-clause-well_formed c = well_formed_along (state_in c.self.inside.graph.store) (edits_in c.self.inside.graph.store) c.self.invariant.stands.store
 
 pub returns-in-Ok-clause-plan : goal.returns-in-Ok-clause-plan
 returns-in-Ok-clause-plan c =
