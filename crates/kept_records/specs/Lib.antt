@@ -5,3 +5,4 @@ pub mod Told
 pub mod Renewal
 pub mod Numbers
 pub mod Size
+pub mod Short
