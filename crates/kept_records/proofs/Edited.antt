@@ -225,7 +225,7 @@ module _ (edits : List Edit) (edit : Edit) (old new : List Edge) (live_old : Are
         (changed edits edit old new live_old live_new) stay well_old live_old (vertex_was edits edit old new)
 
     pub made_once : StandOnce (names made)
-    made_once = (once_of new live_new.in_order well_new (edit_edge edit) old records heads are_heads.once (λ v stands. (are_heads.no_other v stands).0) made makes).once_each
+    made_once = (once_of new live_new.in_order well_new (is_on_walks (edit_edge edit) old new) records heads are_heads.once (λ v stands. (are_heads.no_other v stands).0) made makes).once_each
 
     -- what the vertices weigh that were judged again is within the size of the edit
     pub made_within : (near : List Vertex) → AreNear (edit_edge edit) old new near → sum_by (weight old new) (names made) ≤ near_size old new near
