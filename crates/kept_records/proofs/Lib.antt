@@ -33,5 +33,6 @@ pub mod OneSize
 pub mod SoFar
 pub mod InTree
 pub mod Alike
+pub mod Line
 mod AllMade
 pub mod Before

@@ -153,7 +153,7 @@ tail_of x y xs ys e = cc
 head_of : (x y : Vertex) (xs ys : List Vertex) → x ∷ xs ≡ y ∷ ys → x ≡ y
 head_of x y xs ys e = cc
 
-longer : (base ps : List Vertex) (t : Vertex) → base ≡ ps ++ t ∷ base → ⊥
+pub longer : (base ps : List Vertex) (t : Vertex) → base ≡ ps ++ t ∷ base → ⊥
 longer base ps t e =
     let long : length base ≡ length (ps ++ t ∷ base) = ap (λ (xs : List Vertex). length xs) e in
     let sum : length (ps ++ t ∷ base) ≡ length ps + length (t ∷ base) = length-append ps (t ∷ base) in
