@@ -13,7 +13,7 @@ use Rattle.walks.specs.Live.{holds_edge, parents_of}
 use Rattle.walks.specs.Walk.{only_source, above}
 use Rattle.walks.specs.Class.{class}
 use Rattle.walks.proofs.Chains.{IsChain, has_chain}
-use Rattle.grove_terms.specs.Forest.{Forest}
+use Rattle.grove_terms.specs.Forest.{Forest, StandsUnder}
 use Rattle.grove_terms.proofs.WellSorted.{held_first}
 use Rattle.mark_step.specs.Expression.{Demanded}
 use Rattle.kept_records.specs.Kept.{Stands}
@@ -22,6 +22,7 @@ use Rattle.kept_records.specs.Short.{SourceAloneSees, LeadsUp}
 use Rattle.kept_records.proofs.Children.{all_held, held_in_filter, parents_lead, sole_parent}
 use Rattle.kept_records.proofs.Standing.{below_inner, edge_of_child, source_of_child}
 use Rattle.kept_records.proofs.Edits.{parents_stay, class_stays}
+use Rattle.kept_records.proofs.Off as off
 use Rattle.kept_records.proofs.Once.{longer}
 
 -- ---- chains
@@ -208,16 +209,56 @@ module _ (e : Edge) (old new : List Edge) (change : Changes e old new) (stay : C
     by_test true is = absurd (refuted is)
     by_test false off = off
 
-  -- what stands off the line sees each vertex in the class that it had
-  pub seen_off_line : SourceAloneSees e old new → (d : Edge) → (holds_edge d old ≡ true) ⊎ (holds_edge d new ≡ true) → on_line d.source ≡ false → class old d.target ≡ class new d.target
-  seen_off_line sees d held off = by_test (is_same_vertex e.target d.target) refl sees where
+  -- other vertices than the source see each vertex in the class that it had
+  pub seen_by_others : SourceAloneSees e old new → (d : Edge) → (holds_edge d old ≡ true) ⊎ (holds_edge d new ≡ true) → (d.source ≡ e.source → ⊥) → class old d.target ≡ class new d.target
+  seen_by_others sees d held other_source = by_test (is_same_vertex e.target d.target) refl sees where
     by_test : (b : Bool) → is_same_vertex e.target d.target ≡ b → SourceAloneSees e old new → class old d.target ≡ class new d.target
     by_test true same (inl unchanged) = ap (λ live. class live d.target) unchanged
     by_test true same (inr (inl shared)) =
         let one : e.target ≡ d.target = same_vertex_exact e.target d.target same in ap (class old) (sym one) ∙ shared.0 ∙ ap (class new) one
-    by_test true same (inr (inr from)) =
-        let clash : true ≡ false = sym source_on_line ∙ ap on_line (sym (from d held (sym (same_vertex_exact e.target d.target same)))) ∙ off in cc
+    by_test true same (inr (inr from)) = absurd (other_source (from d held (sym (same_vertex_exact e.target d.target same))))
     by_test false other sees = class_stays e old new change d.target other (stay d.target)
+
+  pub off_no_source : (v : Vertex) → on_line v ≡ false → v ≡ e.source → ⊥
+  off_no_source v off one = let clash : true ≡ false = sym source_on_line ∙ ap on_line (sym one) ∙ off in cc
+
+  -- what stands under a vertex off the line stood under it before
+  pub stood_under : SourceAloneSees e old new → (v : Vertex) (f : Forest) → on_line v ≡ false → StandsUnder new v f → StandsUnder old v f
+  stood_under sees =
+      off.stood_under e old new change on_line source_on_line line_closed
+      (λ d held_old held_new is. seen_by_others sees d (inl held_old) (off_no_source d.source is))
+
+  -- the vertices of the line stand below the same ones in both graphs
+  pub record IsBelowAsBefore (v : Vertex) : Type 0 where
+    pub inner : class new v ≡ Inner → class old v ≡ Inner
+    pub parents : class new v ≡ Inner → parents_of v old ≡ parents_of v new
+    pub heads : (class new v ≡ Inner → ⊥) → class old v ≡ Inner → ⊥
+
+  pub line_stays : SourceAloneSees e old new → (v : Vertex) → on_line v ≡ true → IsBelowAsBefore v
+  line_stays sees v on = by_test (is_same_vertex e.target v) refl sees where
+    off_line : e.target ≡ v → on_line e.target ≡ false → ⊥
+    off_line one off = let clash : true ≡ false = sym on ∙ ap on_line (sym one) ∙ off in cc
+
+    by_test : (b : Bool) → is_same_vertex e.target v ≡ b → SourceAloneSees e old new → IsBelowAsBefore v
+    by_test true same (inl unchanged) = record {
+      inner = λ inner. ap (λ live. class live v) unchanged ∙ inner;
+      parents = λ inner. ap (parents_of v) unchanged;
+      heads = λ outer inner. outer (sym (ap (λ live. class live v) unchanged) ∙ inner);
+    }
+    by_test true same (inr (inl shared)) =
+        let one = same_vertex_exact e.target v same in
+        let outer : class new v ≡ Inner → ⊥ = λ inner. shared.1 (ap (class new) one ∙ inner) in
+        record { inner = λ inner. absurd (outer inner); parents = λ inner. absurd (outer inner); heads = λ _ inner. shared.1 (sym shared.0 ∙ ap (class old) one ∙ inner) }
+    by_test true same (inr (inr from)) =
+        let one = same_vertex_exact e.target v same in
+        record {
+          inner = λ inner. absurd (off_line one (not_above_new from (ap (class new) one ∙ inner)));
+          parents = λ inner. absurd (off_line one (not_above_new from (ap (class new) one ∙ inner)));
+          heads = λ _ inner. off_line one (not_above_old from (ap (class old) one ∙ inner));
+        }
+    by_test false other sees =
+        let stays : class old v ≡ class new v = class_stays e old new change v other (stay v) in
+        record { inner = λ inner. stays ∙ inner; parents = λ inner. parents_stay e old new change v other; heads = λ outer inner. outer (sym stays ∙ inner) }
 
   -- ---- the way up
 
