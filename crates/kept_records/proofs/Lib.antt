@@ -34,5 +34,6 @@ pub mod SoFar
 pub mod InTree
 pub mod Alike
 pub mod Line
+pub mod Along
 mod AllMade
 pub mod Before

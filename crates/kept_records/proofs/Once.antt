@@ -159,7 +159,7 @@ longer base ps t e =
     let sum : length (ps ++ t ∷ base) ≡ length ps + length (t ∷ base) = length-append ps (t ∷ base) in
     omega (arith, long, sum)
 
-same_turn : (ps qs base : List Vertex) (t u : Vertex) → ps ++ t ∷ base ≡ qs ++ u ∷ base → t ≡ u
+pub same_turn : (ps qs base : List Vertex) (t u : Vertex) → ps ++ t ∷ base ≡ qs ++ u ∷ base → t ≡ u
 same_turn [] [] base t u e = head_of t u base base e
 same_turn [] (q ∷ qs) base t u e = absurd (longer base qs u (tail_of t q base (qs ++ u ∷ base) e))
 same_turn (p ∷ ps) [] base t u e = absurd (longer base ps t (sym (tail_of p u (ps ++ t ∷ base) base e)))
