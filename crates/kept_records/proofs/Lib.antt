@@ -35,5 +35,6 @@ pub mod InTree
 pub mod Alike
 pub mod Line
 pub mod Along
+pub mod Frame
 mod AllMade
 pub mod Before
