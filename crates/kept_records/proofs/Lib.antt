@@ -36,5 +36,6 @@ pub mod Alike
 pub mod Line
 pub mod Along
 pub mod Frame
+pub mod Starting
 mod AllMade
 pub mod Before
