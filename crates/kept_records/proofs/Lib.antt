@@ -37,5 +37,6 @@ pub mod Line
 pub mod Along
 pub mod Frame
 pub mod Starting
+pub mod Nearby
 mod AllMade
 pub mod Before

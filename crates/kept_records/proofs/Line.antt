@@ -68,6 +68,13 @@ pub stands_behind : (xs : List Vertex) (u : Vertex) (ys : List Vertex) → stand
 stands_behind [] u ys h = h
 stands_behind (x ∷ xs) u ys h = or_right (is_same_vertex x u) (stands_in u (xs ++ ys)) (stands_behind xs u ys h)
 
+pub stands_ahead : (xs : List Vertex) (u : Vertex) (ys : List Vertex) → stands_in u xs ≡ true → stands_in u (xs ++ ys) ≡ true
+stands_ahead [] u ys h = absurd cc
+stands_ahead (x ∷ xs) u ys h = by_test (is_same_vertex x u) h (stands_ahead xs u ys) where
+  by_test : (b : Bool) → (b || stands_in u xs) ≡ true → (stands_in u xs ≡ true → stands_in u (xs ++ ys) ≡ true) → (b || stands_in u (xs ++ ys)) ≡ true
+  by_test true h later = refl
+  by_test false h later = later h
+
 pub stands_split : (xs : List Vertex) (u : Vertex) (ys : List Vertex) → stands_in u (xs ++ ys) ≡ true → (stands_in u xs ≡ true) ⊎ (stands_in u ys ≡ true)
 stands_split [] u ys h = inr h
 stands_split (x ∷ xs) u ys h = by_test (is_same_vertex x u) h (stands_split xs u ys) where
@@ -292,13 +299,25 @@ module _ (e : Edge) (old new : List Edge) (change : Changes e old new) (stay : C
 
     -- the vertices of the way, and those above its top, are on the line
     pub way_on_line : (v : Vertex) → stands_in v (e.source ∷ way) ≡ true → on_line v ≡ true
-    way_on_line v h = ap (stands_in v) the_way.split ∙ stands_ahead (e.source ∷ way) v the_way.base h where
-      stands_ahead : (xs : List Vertex) (u : Vertex) (ys : List Vertex) → stands_in u xs ≡ true → stands_in u (xs ++ ys) ≡ true
-      stands_ahead [] u ys h = absurd cc
-      stands_ahead (x ∷ xs) u ys h = by_test (is_same_vertex x u) h (stands_ahead xs u ys) where
-        by_test : (b : Bool) → (b || stands_in u xs) ≡ true → (stands_in u xs ≡ true → stands_in u (xs ++ ys) ≡ true) → (b || stands_in u (xs ++ ys)) ≡ true
-        by_test true h later = refl
-        by_test false h later = later h
+    way_on_line v h = ap (stands_in v) the_way.split ∙ stands_ahead (e.source ∷ way) v the_way.base h
+
+    -- the top stands above each vertex of the way, or is it
+    pub way_below : (v : Vertex) (us : List Vertex) → IsChain new v us → stands_in v (e.source ∷ way) ≡ true → stands_in top (v ∷ us) ≡ true
+    way_below v us is there =
+        let part = part_of_way e.source way leads v there in
+        let r = way_of v us part.0 top is part.1 in
+        ap (stands_in top) r.split ∙ stands_ahead (v ∷ part.0) top r.base r.last
+      where
+        part_of_way : (x : Vertex) (ws : List Vertex) → LeadsUp new x ws top → (u : Vertex) → stands_in u (x ∷ ws) ≡ true → (some : List Vertex) × LeadsUp new u some top
+        part_of_way x [] up u stands = by_test (is_same_vertex x u) refl stands where
+          by_test : (b : Bool) → is_same_vertex x u ≡ b → (b || false) ≡ true → (some : List Vertex) × LeadsUp new u some top
+          by_test true same h = ([], sym (same_vertex_exact x u same) ∙ up)
+          by_test false other h = absurd cc
+        part_of_way x (w ∷ ws) up u stands = by_test (is_same_vertex x u) refl stands (part_of_way w ws up.2 u) where
+          by_test : (b : Bool) → is_same_vertex x u ≡ b → (b || stands_in u (w ∷ ws)) ≡ true → (stands_in u (w ∷ ws) ≡ true → (some : List Vertex) × LeadsUp new u some top)
+              → (some : List Vertex) × LeadsUp new u some top
+          by_test true same h later = (w ∷ ws, subst (λ z. LeadsUp new z (w ∷ ws) top) (same_vertex_exact x u same) up)
+          by_test false other h later = later h
 
     pub above_top_on_line : (v : Vertex) → stands_in v the_way.base ≡ true → on_line v ≡ true
     above_top_on_line v h = ap (stands_in v) the_way.split ∙ stands_behind (e.source ∷ way) v the_way.base h

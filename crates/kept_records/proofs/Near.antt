@@ -80,6 +80,22 @@ module _ (e : Edge) (old new : List Edge) (change : Changes e old new) (stay : C
       → (sort_of_ctor v.ctor ≡ Exp → kept_demand records v ≡ d) → records v ≡ Some (kept_of v f d)
   kept_skipped us v f d s is off demanded = kept_as_stood v f d (skipped us v f d s is off demanded) (was v is off)
 
+  -- an expression of which is demanded what its record does not say differs
+  pub differs : (us : List Vertex) (v : Vertex) (f : Forest) (d : Demanded) → Stands new us v f d → IsVertexOf g v → sort_of_ctor v.ctor ≡ Exp → (kept_demand records v ≡ d → ⊥) → Differs old new v
+  differs us v f d s is sort other =
+      let p = has_place old well_old v in
+      record {
+        kept_before = kept_of v p.forest p.demanded;
+        children_before = children_in old v;
+        kept_after = kept_of v f d;
+        children_after = children_in new v;
+        is_before = record { marked = record { above = p.above; forest = p.forest; demanded = p.demanded; stands = p.stands; is = refl }; children_are = refl };
+        is_after = record { marked = record { above = us; forest = f; demanded = d; stands = s; is = refl }; children_are = refl };
+        other = λ one.
+            other (demand_kept (sort_of_ctor v.ctor) d (settled (expression_of v f d) (children_types (expression_of v f d) f)) (tree_type v.ctor f) records v
+            (kept_there g old live_old well_old records kept p.above v p.forest p.demanded p.stands is ∙ ap Some one.0) (inl sort) (λ top. top_alone new well_new us v f d s top));
+      }
+
   module _ (entered : Vertex → Bool) (enters : Enters e old new records entered) where
     off_head : (v : Vertex) → (class new v ≡ Inner → ⊥) → entered v ≡ false → (b : Bool) → is_on_walks e old new v ≡ b → is_on_walks e old new v ≡ false
     off_head v outer out true on = let clash : true ≡ false = sym (enters.heads v outer on) ∙ out in absurd cc
@@ -137,22 +153,7 @@ module _ (e : Edge) (old new : List Edge) (change : Changes e old new) (stay : C
     -- each vertex that is judged again is near
     pub near_inside : EntersNoOther e old new records entered → (us : List Vertex) (v : Vertex) (f : Forest) (d : Demanded) → Stands new us v f d → IsVertexOf h v → entered v ≡ true → IsNear e old new v
     near_inside no_other us v f d s is into = by_test (is_on_walks e old new v) refl (no_other us v f d s into) where
-      differs : is_on_walks e old new v ≡ false → sort_of_ctor v.ctor ≡ Exp → (kept_demand records v ≡ d → ⊥) → Differs old new v
-      differs off sort other =
-          let p = has_place old well_old v in
-          record {
-            kept_before = kept_of v p.forest p.demanded;
-            children_before = children_in old v;
-            kept_after = kept_of v f d;
-            children_after = children_in new v;
-            is_before = record { marked = record { above = p.above; forest = p.forest; demanded = p.demanded; stands = p.stands; is = refl }; children_are = refl };
-            is_after = record { marked = record { above = us; forest = f; demanded = d; stands = s; is = refl }; children_are = refl };
-            other = λ one.
-                other (demand_kept (sort_of_ctor v.ctor) d (settled (expression_of v f d) (children_types (expression_of v f d) f)) (tree_type v.ctor f) records v
-                (kept_there g old live_old well_old records kept p.above v p.forest p.demanded p.stands (was v is off) ∙ ap Some one.0) (inl sort) (λ top. top_alone new well_new us v f d s top));
-          }
-
       by_test : (b : Bool) → is_on_walks e old new v ≡ b → (is_on_walks e old new v ≡ true) ⊎ ((sort_of_ctor v.ctor ≡ Exp) × (kept_demand records v ≡ d → ⊥)) → IsNear e old new v
       by_test true on either = inl on
       by_test false off (inl on) = inl on
-      by_test false off (inr other) = inr (differs off other.0 other.1)
+      by_test false off (inr other) = inr (differs us v f d s (was v is off) other.0 other.1)
