@@ -1,9 +1,8 @@
 -- Of the vertices from the source of an edge up to the head of its tree the same is demanded in both graphs.
 use Rattle.std.proofs.Common.{◌≡◌, ◌⊎◌, inl, inr, Bool, true, false, List, [], ◌∷◌, ◌++◌, refl, sym, ap, subst, ◌∙◌}
-use Rattle.std.specs.Prelude.{Option, Some, None}
+use Rattle.std.specs.Prelude.{Option, Some}
 use Rattle.std.specs.List.{AllByRecursion}
-use Rattle.grove_sorts.specs.declared.position.Position.{Position}
-use Rattle.grove_sorts.specs.declared.sort.Sort.TheVariants.{Top, Exp}
+use Rattle.grove_sorts.specs.declared.sort.Sort.TheVariants.{Exp}
 use Rattle.grove_sorts.specs.Position.{is_same_position}
 use Rattle.grove_sorts.specs.Ctor.{sort_at, sort_of_ctor}
 use Rattle.grove_sorts.proofs.Orders.{same_position_laws}
@@ -14,13 +13,13 @@ use Rattle.grove_edits.specs.Graph.{Graph}
 use Rattle.grove_edits.specs.Vertex.{is_same_vertex, stands_in}
 use Rattle.grove_edits.proofs.Vertices.{same_vertex_exact}
 use Rattle.walks.specs.declared.class.Class.TheVariants.{Inner}
-use Rattle.walks.specs.Live.{holds_edge, parents_of}
+use Rattle.walks.specs.Live.{parents_of}
 use Rattle.walks.specs.Class.{class}
 use Rattle.walks.specs.Whole.{IsVertexOf, AreLive}
 use Rattle.walks.proofs.Chains.{IsChain, has_chain}
-use Rattle.grove_terms.specs.Forest.{Forest, child_edges, edges_under, StandsUnder}
+use Rattle.grove_terms.specs.Forest.{Forest, child_edges, StandsUnder}
 use Rattle.mark_step.specs.Expression.{Demanded}
-use Rattle.kept_records.specs.Kept.{Kept, Records, AreKept, alone, expression_of, demanded_at, IsTreeIn, Stands}
+use Rattle.kept_records.specs.Kept.{Kept, Records, AreKept, expression_of, demanded_at, IsTreeIn, Stands}
 use Rattle.kept_records.specs.Local.{scope_in, wanted_in, kept_demand}
 use Rattle.kept_records.specs.Change.{Changes, CyclesStay}
 use Rattle.kept_records.specs.Short.{SourceAloneSees}

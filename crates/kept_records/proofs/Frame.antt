@@ -1,14 +1,13 @@
 -- The rules at a vertex read the same off two lists of records in two graphs, where it has the same edges under it, to vertices of the
 -- same classes and with the same kept types.
-use Rattle.std.proofs.Common.{◌≡◌, ℕ, suc, Bool, true, false, cond, List, [], ◌∷◌, ◌++◌, refl, sym, ap, ◌∙◌}
-use Rattle.std.specs.Prelude.{◌&&◌, if◌then◌else◌, Option, None}
+use Rattle.std.proofs.Common.{◌≡◌, Bool, true, false, cond, List, [], ◌∷◌, ◌++◌, refl, ap, ◌∙◌}
+use Rattle.std.specs.Prelude.{◌&&◌, if◌then◌else◌, None}
 use Rattle.std.specs.List.{AllByRecursion}
-use Rattle.grove_sorts.specs.declared.ident.Ident.{Ident}
 use Rattle.grove_sorts.specs.declared.position.Position.{Position}
 use Rattle.grove_sorts.specs.declared.position.Position.TheVariants.{Param, Annot, LeftParam, RightParam}
 use Rattle.grove_sorts.specs.declared.sort.Sort.{Sort}
 use Rattle.grove_sorts.specs.declared.ctor.Ctor.{Ctor}
-use Rattle.grove_sorts.specs.declared.ctor.Ctor.TheVariants.{Lam, Let, Case, TArrow, TProd, TSum}
+use Rattle.grove_sorts.specs.declared.ctor.Ctor.TheVariants.{Lam, Let, Case}
 use Rattle.grove_sorts.specs.Ctor.{positions, sort_of_ctor}
 use Rattle.grove_sorts.specs.Position.{is_same_position}
 use Rattle.grove_edits.specs.declared.vertex.Vertex.{Vertex}
@@ -20,7 +19,7 @@ use Rattle.mark_step.specs.Step.{demand, settled}
 use Rattle.mark_step.specs.Rows.{is_exp}
 use Rattle.marking.specs.Types.{if_sole, type_made, pattern_name}
 use Rattle.kept_records.specs.Kept.{Records, kept_as, demanded_among}
-use Rattle.kept_records.specs.Local.{is_inner, typ_in, edges_at, is_tree_at, kept_child, kept_in, name_of_child, kept_name, bound_made, kept_bound, kept_types, kept_before, kept_expression_at, kept_demand, demanded_below, settled_at}
+use Rattle.kept_records.specs.Local.{is_inner, typ_in, edges_at, kept_child, kept_in, name_of_child, kept_name, kept_bound, kept_types, kept_before, kept_expression_at, kept_demand, demanded_below, settled_at}
 use Rattle.kept_records.proofs.Agreement.{type_made_any}
 
 module _ (old new : List Edge) (a b : Records) where

@@ -37,6 +37,8 @@ pub mod Line
 pub mod Along
 pub mod Frame
 pub mod Starting
+pub mod OffLine
 pub mod Nearby
+pub mod Short
 mod AllMade
 pub mod Before

@@ -1,6 +1,6 @@
 -- The line of vertices from the source of an edge up to the head of its tree: where its target stands on it, and what stands off it.
 use Rattle.std.proofs.Common.{◌≡◌, ◌⊎◌, inl, inr, Bool, true, false, List, [], ◌∷◌, ◌++◌, refl, sym, ap, subst, ◌∙◌, append_assoc}
-use Rattle.std.specs.Prelude.{◌||◌, Option, Some}
+use Rattle.std.specs.Prelude.{◌||◌, Some}
 use Rattle.std.specs.List.{AllByRecursion}
 use Rattle.std.proofs.lemmas.Bool.{or_left, or_right}
 use Rattle.grove_edits.specs.declared.vertex.Vertex.{Vertex}
@@ -120,6 +120,32 @@ sole_of live v inner (w ∷ ws) is =
       is = subst (λ x. IsChain live v (x ∷ ws)) (sym is.3) is;
       above = subst (λ x. IsChain live x ws) (sym is.3) is.4;
     }
+
+-- ---- ways up
+
+-- a way up is the beginning of a chain, and behind it stands what is above its top
+pub record IsWay (live : List Edge) (v : Vertex) (ws way : List Vertex) (top : Vertex) : Type 0 where
+  pub base : List Vertex
+  pub chain : IsChain live top base
+  pub split : v ∷ ws ≡ (v ∷ way) ++ base
+  pub last : stands_in top (v ∷ way) ≡ true
+
+pub way_of : (live : List Edge) (v : Vertex) (ws way : List Vertex) (top : Vertex) → IsChain live v ws → LeadsUp live v way top → IsWay live v ws way top
+way_of live v ws [] top is leads =
+    record { base = ws; chain = subst (λ x. IsChain live x ws) leads is; split = refl; last = or_left (is_same_vertex v top) false (ap (λ x. is_same_vertex x top) leads ∙ same_vertex_itself top) }
+way_of live v [] (x ∷ way) top is leads = absurd (is leads.0)
+way_of live v (w ∷ ws) (x ∷ way) top is leads =
+    let up : above live v ≡ Some w = ap only_source is.2 ∙ ap Some is.3 in
+    let one : w ≡ x = some_same w x (sym up ∙ leads.1) in
+    let r = way_of live w ws way top is.4 (subst (λ z. LeadsUp live z way top) (sym one) leads.2) in
+    record {
+      base = r.base;
+      chain = r.chain;
+      split = ap (λ xs. v ∷ xs) (r.split ∙ ap (λ z. z ∷ (way ++ r.base)) one);
+      last = or_right (is_same_vertex v top) (stands_in top (x ∷ way)) (ap (λ z. stands_in top (z ∷ way)) (sym one) ∙ r.last);
+    } where
+      some_same : (a b : Vertex) → Some a ≡ Some b → a ≡ b
+      some_same a b same = cc
 
 -- ---- the line
 
@@ -267,35 +293,11 @@ module _ (e : Edge) (old new : List Edge) (change : Changes e old new) (stay : C
         let stays : class old v ≡ class new v = class_stays e old new change v other (stay v) in
         record { inner = λ inner. stays ∙ inner; parents = λ inner. parents_stay e old new change v other; heads = λ outer inner. outer (sym stays ∙ inner) }
 
-  -- ---- the way up
-
-  -- the way is the beginning of the line, and behind it stands what is above its top
-  pub record IsWay (v : Vertex) (ws way : List Vertex) (top : Vertex) : Type 0 where
-    pub base : List Vertex
-    pub chain : IsChain new top base
-    pub split : v ∷ ws ≡ (v ∷ way) ++ base
-    pub last : stands_in top (v ∷ way) ≡ true
-
-  pub way_of : (v : Vertex) (ws way : List Vertex) (top : Vertex) → IsChain new v ws → LeadsUp new v way top → IsWay v ws way top
-  way_of v ws [] top is leads =
-      record { base = ws; chain = subst (λ x. IsChain new x ws) leads is; split = refl; last = or_left (is_same_vertex v top) false (ap (λ x. is_same_vertex x top) leads ∙ same_vertex_itself top) }
-  way_of v [] (x ∷ way) top is leads = absurd (is leads.0)
-  way_of v (w ∷ ws) (x ∷ way) top is leads =
-      let up : above new v ≡ Some w = ap only_source is.2 ∙ ap Some is.3 in
-      let one : w ≡ x = some_same w x (sym up ∙ leads.1) in
-      let r = way_of w ws way top is.4 (subst (λ z. LeadsUp new z way top) (sym one) leads.2) in
-      record {
-        base = r.base;
-        chain = r.chain;
-        split = ap (λ xs. v ∷ xs) (r.split ∙ ap (λ z. z ∷ (way ++ r.base)) one);
-        last = or_right (is_same_vertex v top) (stands_in top (x ∷ way)) (ap (λ z. stands_in top (z ∷ way)) (sym one) ∙ r.last);
-      } where
-        some_same : (a b : Vertex) → Some a ≡ Some b → a ≡ b
-        some_same a b same = cc
+  -- ---- the way up from the source
 
   module _ (way : List Vertex) (top : Vertex) (leads : LeadsUp new e.source way top) where
-    pub the_way : IsWay e.source rises way top
-    the_way = way_of e.source rises way top (has_chain new e.source).is leads
+    pub the_way : IsWay new e.source rises way top
+    the_way = way_of new e.source rises way top (has_chain new e.source).is leads
 
     -- the vertices of the way, and those above its top, are on the line
     pub way_on_line : (v : Vertex) → stands_in v (e.source ∷ way) ≡ true → on_line v ≡ true
@@ -305,7 +307,7 @@ module _ (e : Edge) (old new : List Edge) (change : Changes e old new) (stay : C
     pub way_below : (v : Vertex) (us : List Vertex) → IsChain new v us → stands_in v (e.source ∷ way) ≡ true → stands_in top (v ∷ us) ≡ true
     way_below v us is there =
         let part = part_of_way e.source way leads v there in
-        let r = way_of v us part.0 top is part.1 in
+        let r = way_of new v us part.0 top is part.1 in
         ap (stands_in top) r.split ∙ stands_ahead (v ∷ part.0) top r.base r.last
       where
         part_of_way : (x : Vertex) (ws : List Vertex) → LeadsUp new x ws top → (u : Vertex) → stands_in u (x ∷ ws) ≡ true → (some : List Vertex) × LeadsUp new u some top

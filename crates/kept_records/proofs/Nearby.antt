@@ -6,39 +6,36 @@ use Rattle.std.specs.List.{AllByRecursion}
 use Rattle.std.proofs.lemmas.Bool.{or_left, or_right, and_parts}
 use Rattle.grove_sorts.specs.declared.sort.Sort.TheVariants.{Top, Exp}
 use Rattle.grove_sorts.specs.Ctor.{sort_of_ctor}
-use Rattle.edge_lattice.specs.declared.state.State.TheVariants.{Absent, Live}
 use Rattle.grove_edits.specs.declared.vertex.Vertex.{Vertex}
 use Rattle.grove_edits.specs.declared.edge.Edge.{Edge}
 use Rattle.grove_edits.specs.Edge.{IsWellFormed}
 use Rattle.grove_edits.specs.Graph.{Graph}
 use Rattle.grove_edits.specs.Vertex.{is_same_vertex, stands_in}
 use Rattle.grove_edits.proofs.Vertices.{same_vertex_exact, same_vertex_itself}
-use Rattle.walks.specs.declared.class.Class.{Class}
-use Rattle.walks.specs.declared.class.Class.TheVariants.{NoParent, Multi, Cycle, Inner}
+use Rattle.walks.specs.declared.class.Class.TheVariants.{Inner}
 use Rattle.walks.specs.Live.{holds_edge, parents_of}
-use Rattle.walks.specs.Walk.{only_source, above, walk}
+use Rattle.walks.specs.Walk.{only_source, walk}
 use Rattle.walks.specs.Class.{class, is_same_class}
 use Rattle.walks.specs.Whole.{IsVertexOf, AreLive}
 use Rattle.walks.proofs.Chains.{IsChain, has_chain, chain_apart, inner_from_test}
-use Rattle.grove_terms.specs.Forest.{Forest, child_edges, edges_under, StandsUnder}
-use Rattle.grove_terms.proofs.WellSorted.{held_first}
+use Rattle.grove_terms.specs.Forest.{Forest, edges_under, StandsUnder}
 use Rattle.mark_step.specs.Expression.{Demanded}
 use Rattle.mark_step.specs.Step.{settled}
 use Rattle.marking.specs.Types.{tree_type}
 use Rattle.marking.specs.Marking.{children_types}
-use Rattle.kept_records.specs.Kept.{Kept, Records, AreKept, alone, kept_of, expression_of, demanded_at, IsTreeIn, Stands, IsKeptOf, children_in}
-use Rattle.kept_records.specs.Local.{is_inner, scope_in, wanted_in, typ_in, kept_demand, demanded_below, demanded_by, demanded_of, settled_at, IsRightAt, AreRight}
-use Rattle.kept_records.specs.Change.{Changes, CyclesStay, is_on_walks, StandOnce, Differs, IsNear}
+use Rattle.kept_records.specs.Kept.{Kept, Records, AreKept, alone, kept_of, expression_of, demanded_at, Stands}
+use Rattle.kept_records.specs.Local.{is_inner, scope_in, wanted_in, typ_in, kept_demand, demanded_below, demanded_by, demanded_of, IsRightAt, AreRight}
+use Rattle.kept_records.specs.Change.{Changes, CyclesStay, is_on_walks, StandOnce, IsNear}
 use Rattle.kept_records.specs.Renewal.{HasToBeJudged, IsLeft, names, put}
-use Rattle.kept_records.specs.Short.{MakesFrom, SourceAloneSees, LeadsUp, IsJudgedAnew, MakesTarget, within, on_way, left, judged, IsShortWalk, TypeStays}
+use Rattle.kept_records.specs.Short.{SourceAloneSees, MakesTarget, within, on_way, left, judged, IsShortWalk, TypeStays}
 use Rattle.kept_records.proofs.Sorts.{IsJudged}
-use Rattle.kept_records.proofs.Children.{held_in_filter, sole_parent, tree_inner, IsTreeOf, under_are_of, children_are_of}
+use Rattle.kept_records.proofs.Children.{sole_parent, IsTreeOf, under_are_of, children_are_of}
 use Rattle.kept_records.proofs.Standing.{stands_under, below_inner, edge_of_child, source_of_child, child_stands, HasPlace, has_place}
-use Rattle.kept_records.proofs.Scratch.{kept_of_any, settled_any, demand_kept, of_head, of_child, top_alone, judged_above, agrees_by_truth, demands_by_truth, target_vertex, above_vertex, kept_there, marking_is_right, own_demand, right_is_marking}
+use Rattle.kept_records.proofs.Scratch.{kept_of_any, settled_any, demand_kept, of_head, top_alone, judged_above, agrees_by_truth, demands_by_truth, target_vertex, above_vertex, marking_is_right, own_demand, right_is_marking}
 use Rattle.kept_records.proofs.Agreement.{AgreesAt, settled_agrees}
 use Rattle.kept_records.proofs.Edits.{under_stay, parents_stay, class_stays}
 use Rattle.kept_records.proofs.OnWalks.{walk_closed, begins_walk, on_new_source, source_on_walks, target_on_walks}
-use Rattle.kept_records.proofs.Near.{Stood, stood_as_kept, stood_below, kept_as_stood, demand_there, differs}
+use Rattle.kept_records.proofs.Near.{Stood, stood_as_kept, stood_below, kept_as_stood, differs}
 use Rattle.kept_records.proofs.Apart.{class_or}
 use Rattle.kept_records.proofs.Decided.{edge_or}
 use Rattle.kept_records.proofs.Names.{has_name, name_left, name_right}
@@ -47,6 +44,7 @@ use Rattle.kept_records.proofs.Once.{once_append}
 use Rattle.kept_records.proofs.Frame.{SeesTheSame, settled_same, below_same}
 use Rattle.kept_records.proofs.Line as line
 use Rattle.kept_records.proofs.Along.{kept_along}
+use Rattle.kept_records.proofs.OffLine.{came_off_line, target_off_line}
 use Rattle.kept_records.proofs.Starting.{judged_or, StartsAt, starts_at, same_forest, start_named, start_made, start_once, start_pass}
 
 clash : (b : Bool) → b ≡ true → b ≡ false → ⊥
@@ -72,7 +70,7 @@ split_names w (x ∷ xs) ys is = by_test (is_same_vertex x.0 w) is (split_names 
   by_test false is later = later is
 
 -- what stands above a vertex of a walk, up to the head of its tree, stands on the walk
-on_walk_up : (live : List Edge) (from x : Vertex) (ws : List Vertex) → IsChain live x ws → stands_in x (walk live from) ≡ true → (v : Vertex) → stands_in v (x ∷ ws) ≡ true → stands_in v (walk live from) ≡ true
+pub on_walk_up : (live : List Edge) (from x : Vertex) (ws : List Vertex) → IsChain live x ws → stands_in x (walk live from) ≡ true → (v : Vertex) → stands_in v (x ∷ ws) ≡ true → stands_in v (walk live from) ≡ true
 on_walk_up live from x [] is there v stands = by_test (is_same_vertex x v) refl stands where
   by_test : (b : Bool) → is_same_vertex x v ≡ b → (b || false) ≡ true → stands_in v (walk live from) ≡ true
   by_test true same stands = ap (λ z. stands_in z (walk live from)) (sym (same_vertex_exact x v same)) ∙ there
@@ -109,7 +107,7 @@ module _ (e : Edge) (old new : List Edge) (change : Changes e old new) (stay : C
   source_inside : stands_in e.source (e.source ∷ way) ≡ true
   source_inside = line.itself_first e.source way
 
-  abbrev up : line.IsWay e old new change stay e.source (line.rises e old new change stay) way top
+  abbrev up : line.IsWay new e.source (line.rises e old new change stay) way top
   up = line.the_way e old new change stay way top w.leads
 
   top_on_line : on_line top ≡ true
@@ -143,39 +141,6 @@ module _ (e : Edge) (old new : List Edge) (change : Changes e old new) (stay : C
   heads_there v outer [] f d s = (refl, s.2)
   heads_there v outer (u ∷ us) f d s = absurd (outer (below_inner new u us v f d s))
 
-  headed_before : (v : Vertex) → (class old v ≡ Inner → ⊥) → (us : List Vertex) (f : Forest) (d : Demanded) → Stands old us v f d → d ≡ alone
-  headed_before v outer [] f d s = s.2
-  headed_before v outer (u ∷ us) f d s = absurd (outer (below_inner old u us v f d s))
-
-  known_demand : (v : Vertex) → IsVertexOf g v → IsJudged v.ctor → (class old v ≡ Inner → ⊥) → kept_demand records v ≡ alone
-  known_demand v is sorted outer =
-      let p = has_place old well_old v in
-      demand_there e old new change stay well_old well_new g h live_old live_new was records kept p.above v p.forest p.demanded p.stands is sorted
-      ∙ headed_before v outer p.above p.forest p.demanded p.stands
-
-  -- what was no vertex has no edge but that of the edit, so it stands on the line only as its source
-  came_off_line : (v : Vertex) → (IsVertexOf g v → ⊥) → (v ≡ e.source → ⊥) → on_line v ≡ true → ⊥
-  came_off_line v outside not_source is = by_list (line.find_on new e.source (line.rises e old new change stay) (has_chain new e.source).is v is) where
-    refuted : (x : Edge) → holds_edge x new ≡ true → x.source ≡ v → ⊥
-    refuted x held source =
-        outside (subst (IsVertexOf g) source (inr (x, present x (held_before x held (λ one. not_source (sym source ∙ ap (λ (y : Edge). y.source) one))), inl refl))) where
-          present : (y : Edge) → holds_edge y old ≡ true → g y ≡ Absent → ⊥
-          present y held absent = let lives = live_old.no_other y held in let x : Absent ≡ Live = sym absent ∙ lives in cc
-
-    by_chain : (x : Vertex) (ws : List Vertex) → IsChain new x ws → stands_in v ws ≡ true → ⊥
-    by_chain x [] chain stands = absurd cc
-    by_chain x (y ∷ ws) chain stands = by_test (is_same_vertex y v) refl stands (by_chain y ws chain.4) where
-      by_test : (b : Bool) → is_same_vertex y v ≡ b → (b || stands_in v ws) ≡ true → (stands_in v ws ≡ true → ⊥) → ⊥
-      by_test true same stands later =
-          refuted chain.0 (held_in_filter (λ z. is_same_vertex z.target x) chain.0 new (ap (holds_edge chain.0) chain.2 ∙ held_first chain.0 [])) (chain.3 ∙ same_vertex_exact y v same)
-      by_test false other stands later = later stands
-
-    by_list : line.IsThere new v (line.line e old new change stay) → ⊥
-    by_list there = by_test (is_same_vertex e.source v) refl is where
-      by_test : (b : Bool) → is_same_vertex e.source v ≡ b → (b || stands_in v (line.rises e old new change stay)) ≡ true → ⊥
-      by_test true same stands = not_source (sym (same_vertex_exact e.source v same))
-      by_test false other stands = by_chain e.source (line.rises e old new change stay) (has_chain new e.source).is stands
-
   target_part : TargetPart
   target_part = by_case w.makes_target where
     none_begun : w.target ≡ [] → (class new e.target ≡ Inner) ⊎ ((stands_in e.target (e.source ∷ way) ≡ true) ⊎ IsLeft on records e.target alone) → TargetPart
@@ -196,7 +161,8 @@ module _ (e : Edge) (old new : List Edge) (change : Changes e old new) (stay : C
     by_case (judged outer not_on_way not_left makes) = record {
       begins = true;
       outer = λ _. outer;
-      off = λ _. off_line (decided e.target);
+      off = λ _.
+          target_off_line e old new change stay well_old well_new g h live_old live_new was decided held_before records kept way on w.anew w.alone_sees outer not_on_way not_left;
       cause = λ _. cause (on e.target) refl (judged_or e.target.ctor);
       starts = λ _. starts_at on new records h live_new well_new [] e.target at_target.forest alone alone_there alone (λ _. refl) w.target makes;
       nothing = λ is. absurd cc;
@@ -206,22 +172,6 @@ module _ (e : Edge) (old new : List Edge) (change : Changes e old new) (stay : C
       alone_there =
           let at = heads_there e.target outer at_target.above at_target.forest at_target.demanded at_target.stands in
           subst (λ x. Stands new [] e.target at_target.forest x) at.1 (subst (λ us. Stands new us e.target at_target.forest at_target.demanded) at.0 at_target.stands)
-
-      known_off : IsVertexOf g e.target → on e.target ≡ false
-      known_off is = unless_true (on e.target) (λ there. by_why (w.anew.no_other e.target there)) where
-        by_why : (stands_in e.target (e.source ∷ way) ≡ true) ⊎ (IsVertexOf h e.target × (IsVertexOf g e.target → ⊥)) → ⊥
-        by_why (inl there) = not_on_way there
-        by_why (inr came) = came.1 is
-
-      off_line : IsVertexOf g e.target ⊎ (IsVertexOf g e.target → ⊥) → on_line e.target ≡ false
-      off_line (inr outside) =
-          unless_true (on_line e.target) (came_off_line e.target outside (λ one. not_on_way (ap (λ x. stands_in x (e.source ∷ way)) one ∙ source_inside)))
-      off_line (inl is) = by_class (class_or (class old e.target) Inner) w.alone_sees where
-        by_class : (class old e.target ≡ Inner) ⊎ (class old e.target ≡ Inner → ⊥) → SourceAloneSees e old new → on_line e.target ≡ false
-        by_class (inr headed) sees = absurd (not_left (known_off is, λ sort. known_demand e.target is (inl sort) headed))
-        by_class (inl inner) (inl unchanged) = absurd (outer (sym (ap (λ live. class live e.target) unchanged) ∙ inner))
-        by_class (inl inner) (inr (inl shared)) = absurd (outer (sym shared.0 ∙ inner))
-        by_class (inl inner) (inr (inr from)) = line.not_above_old e old new change stay from inner
 
       cause : (b : Bool) → on e.target ≡ b → IsJudged e.target.ctor ⊎ (IsJudged e.target.ctor → ⊥) → HasToBeJudged on records e.target alone
       cause true is sorted = inl is
@@ -693,7 +643,7 @@ module _ (e : Edge) (old new : List Edge) (change : Changes e old new) (stay : C
                     by_edge : IsTreeOf new u s''.3.edge → (s''.3.edge ≡ e) ⊎ (s''.3.edge ≡ e → ⊥) → ⊥
                     by_edge of (inr differs) = outside (subst (IsVertexOf g) s''.3.target (target_vertex g old live_old well_old s''.3.edge (held_before s''.3.edge of.held differs)))
                     by_edge of (inl same) =
-                        came_off_line v outside
+                        came_off_line e old new change stay well_old well_new g h live_old live_new was decided held_before records kept way on w.anew v outside
                         (λ source. round (sym s''.3.target ∙ ap (λ (x : Edge). x.target) same) source)
                         (ap on_line (sym one) ∙ top_on_line)
                       where

@@ -345,7 +345,7 @@ module _ (new : List Edge) (order : IsInEdgeOrder new) (well_new : AllByRecursio
 
 -- ---- the vertices of walks
 
-goes_all : (P : Vertex → Type 0) (live : List Edge) → ((x w : Vertex) → above live x ≡ Some w → P w) → (passed : List Vertex) (o : Option Vertex) → ((w : Vertex) → o ≡ Some w → P w) → (xs : List Vertex) → GoesOn live passed o xs
+pub goes_all : (P : Vertex → Type 0) (live : List Edge) → ((x w : Vertex) → above live x ≡ Some w → P w) → (passed : List Vertex) (o : Option Vertex) → ((w : Vertex) → o ≡ Some w → P w) → (xs : List Vertex) → GoesOn live passed o xs
     → (v : Vertex) → stands_in v xs ≡ true → P v
 goes_all P live up passed o first [] g v stands = absurd cc
 goes_all P live up passed o first (x ∷ xs) g v stands = by_test (is_same_vertex x v) refl stands (goes_all P live up (x ∷ passed) (above live x) (up x) xs g.2 v) where
@@ -353,12 +353,12 @@ goes_all P live up passed o first (x ∷ xs) g v stands = by_test (is_same_verte
   by_test true one h later = subst P (same_vertex_exact x v one) (first x g.0)
   by_test false other h later = later h
 
-record IsSource (live : List Edge) (w : Vertex) : Type 0 where
-  edge : Edge
-  held : holds_edge edge live ≡ true
-  source : edge.source ≡ w
+pub record IsSource (live : List Edge) (w : Vertex) : Type 0 where
+  pub edge : Edge
+  pub held : holds_edge edge live ≡ true
+  pub source : edge.source ≡ w
 
-source_above : (live : List Edge) (x w : Vertex) → above live x ≡ Some w → IsSource live w
+pub source_above : (live : List Edge) (x w : Vertex) → above live x ≡ Some w → IsSource live w
 source_above live x w up = by_parents (parents_of x live) refl up where
   some_same : (a b : Vertex) → Some a ≡ Some b → a ≡ b
   some_same a b e = cc

@@ -1,31 +1,23 @@
 -- The records that one walk down the new trees makes, with the kept records of all other vertices, are those of the new graph.
-use Rattle.std.proofs.Common.{◌≡◌, ◌⊎◌, inl, inr, Bool, true, false, cond, List, [], ◌∷◌, ◌++◌, refl, sym, ap, subst, ◌∙◌}
-use Rattle.std.specs.Prelude.{◌||◌, Some, None}
+use Rattle.std.proofs.Common.{◌≡◌, ◌⊎◌, inl, inr, Bool, true, false, List, refl, sym, subst, ◌∙◌}
+use Rattle.std.specs.Prelude.{Some, None}
 use Rattle.std.specs.List.{AllByRecursion}
-use Rattle.std.proofs.lemmas.Bool.{or_left, or_right}
-use Rattle.grove_sorts.specs.declared.position.Position.{Position}
 use Rattle.grove_sorts.specs.declared.sort.Sort.TheVariants.{Exp}
 use Rattle.grove_sorts.specs.Ctor.{sort_of_ctor}
 use Rattle.grove_edits.specs.declared.vertex.Vertex.{Vertex}
 use Rattle.grove_edits.specs.declared.edge.Edge.{Edge}
 use Rattle.grove_edits.specs.Edge.{IsWellFormed}
 use Rattle.grove_edits.specs.Graph.{Graph}
-use Rattle.walks.specs.declared.class.Class.TheVariants.{Inner}
-use Rattle.grove_edits.specs.Vertex.{is_same_vertex, stands_in}
-use Rattle.walks.specs.Class.{class}
+use Rattle.grove_edits.specs.Vertex.{stands_in}
 use Rattle.walks.specs.Whole.{IsVertexOf, AreLive}
-use Rattle.grove_edits.proofs.Vertices.{same_vertex_exact, same_vertex_itself}
-use Rattle.grove_terms.specs.Forest.{Forest, none, multi_ref, cycle_ref, tree}
 use Rattle.mark_step.specs.Expression.{Demanded}
-use Rattle.kept_records.specs.Kept.{Kept, Records, AreKept, alone, kept_of, expression_of, demanded_at, IsTreeIn, Stands, IsKeptOf}
+use Rattle.kept_records.specs.Kept.{Kept, Records, AreKept, Stands, IsKeptOf}
 use Rattle.kept_records.specs.Local.{kept_demand}
 use Rattle.kept_records.specs.Change.{Changes, CyclesStay, is_on_walks, Enters, EntersNoOther, Renews, IsNear}
-use Rattle.kept_records.specs.Renewal.{HasToBeJudged, IsLeft, MakesUnder, MakesTree, MakesTrees, AreHeads, put}
-use Rattle.kept_records.proofs.Children.{IsTreeOf, children_are_of}
-use Rattle.kept_records.proofs.Standing.{ArePlaces, one_place, child_stands, stands_under}
-use Rattle.kept_records.proofs.Scratch.{target_vertex}
+use Rattle.kept_records.specs.Renewal.{HasToBeJudged, IsLeft, MakesTrees, AreHeads, put}
+use Rattle.kept_records.proofs.Standing.{ArePlaces, one_place}
 use Rattle.kept_records.proofs.Made as judged
-use Rattle.kept_records.proofs.Names.{has_name, name_first, name_later, name_left, name_right}
+use Rattle.kept_records.proofs.Names.{has_name}
 use Rattle.kept_records.proofs.Near.{kept_after, near_inside}
 
 module _ (e : Edge) (old new : List Edge) (records : Records) (h : Graph) (live_new : AreLive h new) (well_new : AllByRecursion IsWellFormed new) where

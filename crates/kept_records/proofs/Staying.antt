@@ -1,7 +1,6 @@
 -- After an edit that leaves the roots of cycles as they were, a vertex on none of the walks has under it what it had before.
-use Rattle.std.proofs.Common.{◌≡◌, Bool, true, false, List, [], ◌∷◌, refl, sym, ap, subst, ◌∙◌}
+use Rattle.std.proofs.Common.{◌≡◌, Bool, true, false, List, [], ◌∷◌, refl, sym, ap, ◌∙◌}
 use Rattle.std.specs.Prelude.{Some}
-use Rattle.std.specs.List.{AllByRecursion}
 use Rattle.grove_edits.specs.declared.vertex.Vertex.{Vertex}
 use Rattle.grove_edits.specs.declared.edge.Edge.{Edge}
 use Rattle.walks.specs.declared.class.Class.{Class}
@@ -11,11 +10,11 @@ use Rattle.grove_edits.specs.Vertex.{is_same_vertex}
 use Rattle.walks.specs.Walk.{only_source, above}
 use Rattle.walks.specs.Class.{class, class_by, is_cycle_root}
 use Rattle.grove_edits.proofs.Vertices.{same_vertex_exact}
-use Rattle.grove_terms.specs.Forest.{Forest, none, multi_ref, cycle_ref, tree, child_edges, edges_under, AreChildren, StandsUnder}
-use Rattle.grove_terms.proofs.InLive.{IsFrom, stands_among, target_has_parent, above_target, under_lead}
+use Rattle.grove_terms.specs.Forest.{Forest, StandsUnder}
+use Rattle.grove_terms.proofs.InLive.{stands_among, target_has_parent, above_target}
 use Rattle.kept_records.specs.Change.{Changes, CyclesStay, is_on_walks}
 use Rattle.kept_records.proofs.Children.{held_alone}
-use Rattle.kept_records.proofs.Edits.{change_back, under_stay, class_stays}
+use Rattle.kept_records.proofs.Edits.{change_back, class_stays}
 use Rattle.kept_records.proofs.Off as off
 use Rattle.kept_records.proofs.OnWalks.{on_walks_back, source_on_walks, target_on_walks, above_on_walks}
 
