@@ -16,10 +16,8 @@ use Rattle.walks.proofs.Tops.{HasTop, has_top}
 use Rattle.unicycle_roots.specs.Met.{is_on_cycle, leads_to}
 use Rattle.unicycle_roots.proofs.Cycles.{Reaches, up_through, leads_from_reaches, reaches_from_leads, back_from_cycle, cycle_from_back, leads_back, returns, never_none, back_from_return}
 use Rattle.kept_records.specs.Change.{HasOneMore, Changes, same, comes, goes, CyclesStay}
+use Rattle.kept_records.proofs.Truth.{clash}
 use Rattle.kept_records.proofs.Edits.{change_back, above_stays}
-
-clash : (b : Bool) → b ≡ true → b ≡ false → ⊥
-clash b is not_it = let e : true ≡ false = sym is ∙ not_it in cc
 
 -- ---- walks over vertices above which the same stands
 

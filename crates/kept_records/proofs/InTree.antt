@@ -17,6 +17,7 @@ use Rattle.walks.specs.Class.{class, is_same_class, is_cycle_root}
 use Rattle.walks.specs.Whole.{AreLive}
 use Rattle.grove_edits.proofs.Vertices.{same_vertex_exact}
 use Rattle.walks.proofs.Endings.{walk_is}
+use Rattle.walks.proofs.Returns.{some_same}
 use Rattle.unicycle_roots.proofs.Cycles.{class_is_cycle}
 use Rattle.grove_terms.specs.declared.node.Node.{Node}
 use Rattle.grove_terms.specs.Forest.{Forest}
@@ -34,9 +35,6 @@ use Rattle.kept_records.proofs.Other.{HasOwnEdge, own_edge, root_by}
 use Rattle.kept_records.proofs.Sizes.{sum_within, walk_once}
 use Rattle.kept_records.proofs.Whole.{in_tree}
 use Rattle.kept_records.proofs.Cost.{cost, tree_weighs}
-
-some_same : (x y : Vertex) → Some x ≡ Some y → x ≡ y
-some_same x y e = cc
 
 cycle_from : (c : Class) → is_same_class c Cycle ≡ true → c ≡ Cycle
 cycle_from NoParent h = absurd cc

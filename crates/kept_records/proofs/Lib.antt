@@ -1,3 +1,4 @@
+pub mod Truth
 pub mod Sorts
 pub mod Children
 pub mod Standing

@@ -13,6 +13,7 @@ use Rattle.walks.specs.Live.{holds_edge, parents_of}
 use Rattle.walks.specs.Walk.{only_source, above}
 use Rattle.walks.specs.Class.{class}
 use Rattle.walks.proofs.Chains.{IsChain, has_chain}
+use Rattle.walks.proofs.Returns.{some_same}
 use Rattle.grove_terms.specs.Forest.{Forest, StandsUnder}
 use Rattle.grove_terms.proofs.WellSorted.{held_first}
 use Rattle.mark_step.specs.Expression.{Demanded}
@@ -143,9 +144,7 @@ way_of live v (w ∷ ws) (x ∷ way) top is leads =
       chain = r.chain;
       split = ap (λ xs. v ∷ xs) (r.split ∙ ap (λ z. z ∷ (way ++ r.base)) one);
       last = or_right (is_same_vertex v top) (stands_in top (x ∷ way)) (ap (λ z. stands_in top (z ∷ way)) (sym one) ∙ r.last);
-    } where
-      some_same : (a b : Vertex) → Some a ≡ Some b → a ≡ b
-      some_same a b same = cc
+    }
 
 -- ---- the line
 

@@ -3,7 +3,7 @@
 use Rattle.std.proofs.Common.{◌≡◌, ◌⊎◌, inl, inr, Bool, true, false, cond, List, [], ◌∷◌, ◌++◌, refl, sym, ap, subst, ◌∙◌}
 use Rattle.std.specs.Prelude.{◌||◌, ◌&&◌, Option, Some, None}
 use Rattle.std.specs.List.{AllByRecursion}
-use Rattle.std.proofs.lemmas.Bool.{or_left, or_right, and_parts}
+use Rattle.std.proofs.lemmas.Bool.{or_cases, false_from_ne_true, or_left, or_right, and_parts}
 use Rattle.grove_sorts.specs.declared.sort.Sort.TheVariants.{Top, Exp}
 use Rattle.grove_sorts.specs.Ctor.{sort_of_ctor}
 use Rattle.grove_edits.specs.declared.vertex.Vertex.{Vertex}
@@ -28,6 +28,7 @@ use Rattle.kept_records.specs.Local.{is_inner, scope_in, wanted_in, typ_in, kept
 use Rattle.kept_records.specs.Change.{Changes, CyclesStay, is_on_walks, StandOnce, IsNear}
 use Rattle.kept_records.specs.Renewal.{HasToBeJudged, IsLeft, names, put}
 use Rattle.kept_records.specs.Short.{SourceAloneSees, MakesTarget, within, on_way, left, judged, IsShortWalk, TypeStays}
+use Rattle.kept_records.proofs.Truth.{clash}
 use Rattle.kept_records.proofs.Sorts.{IsJudged}
 use Rattle.kept_records.proofs.Children.{sole_parent, IsTreeOf, under_are_of, children_are_of}
 use Rattle.kept_records.proofs.Standing.{stands_under, below_inner, edge_of_child, source_of_child, child_stands, HasPlace, has_place}
@@ -46,17 +47,6 @@ use Rattle.kept_records.proofs.Line as line
 use Rattle.kept_records.proofs.Along.{kept_along}
 use Rattle.kept_records.proofs.OffLine.{came_off_line, target_off_line}
 use Rattle.kept_records.proofs.Starting.{judged_or, StartsAt, starts_at, same_forest, start_named, start_made, start_once, start_pass}
-
-clash : (b : Bool) → b ≡ true → b ≡ false → ⊥
-clash b is is_not = let e : true ≡ false = sym is ∙ is_not in cc
-
-unless_true : (b : Bool) → (b ≡ true → ⊥) → b ≡ false
-unless_true true refuted = absurd (refuted refl)
-unless_true false refuted = refl
-
-or_cases : (a b : Bool) → (a || b) ≡ true → (a ≡ true) ⊎ (b ≡ true)
-or_cases true b is = inl refl
-or_cases false b is = inr is
 
 or_false : (a b : Bool) → (a || b) ≡ false → (a ≡ false) × (b ≡ false)
 or_false true b is = absurd cc
@@ -256,7 +246,7 @@ module _ (e : Edge) (old new : List Edge) (change : Changes e old new) (stay : C
 
   -- what stands strictly below and is not judged whatever is demanded of it is off the line
   strictly_off : (us : List Vertex) (v : Vertex) (f : Forest) (d : Demanded) → Stands new us v f d → inside us ≡ true → on v ≡ false → on_line v ≡ false
-  strictly_off us v f d s deep off = unless_true (on_line v) refuted where
+  strictly_off us v f d s deep off = false_from_ne_true (on_line v) refuted where
     chain : IsChain new v us
     chain = line.chain_of new well_new us v f d s
 
@@ -286,7 +276,7 @@ module _ (e : Edge) (old new : List Edge) (change : Changes e old new) (stay : C
         ∙ name_left x w.target w.own (ap (λ z. has_name z w.target) (sym one) ∙ start_named on new records h live_new well_new [] e.target at_target.forest alone (target_there begun) w.target (part.starts begun))
 
   not_start : (x : Vertex) → has_name x made ≡ false → is_start x ≡ false
-  not_start x out = unless_true (is_start x) (λ starts. clash (has_name x made) (named_start x starts) out)
+  not_start x out = false_from_ne_true (is_start x) (λ starts. clash (has_name x made) (named_start x starts) out)
 
   known_left : (v : Vertex) → IsVertexOf h v → on v ≡ false → IsVertexOf g v
   known_left v is off = by_known (decided v) where
@@ -396,7 +386,7 @@ module _ (e : Edge) (old new : List Edge) (change : Changes e old new) (stay : C
   outside_keeps : (us : List Vertex) (v : Vertex) (f : Forest) (d : Demanded) → Stands new us v f d → inside (v ∷ us) ≡ false → after v ≡ records v
   outside_keeps us v f d s out =
       judged_again.put_outside on new records h live_new well_new made records v
-      (unless_true (has_name v made) (λ named. clash (inside (v ∷ us)) (named_inside v named us f d s) out))
+      (false_from_ne_true (has_name v made) (λ named. clash (inside (v ∷ us)) (named_inside v named us f d s) out))
 
   -- the source is judged again
   source_deep : (us : List Vertex) (f : Forest) (d : Demanded) → Stands new us e.source f d → inside (e.source ∷ us) ≡ true
@@ -409,7 +399,7 @@ module _ (e : Edge) (old new : List Edge) (change : Changes e old new) (stay : C
       clash (inside (v ∷ us)) (ap (λ x. inside (x ∷ us)) one ∙ source_deep us f d (subst (λ x. Stands new us x f d) one s)) out
 
   not_source : (us : List Vertex) (v : Vertex) (f : Forest) (d : Demanded) → Stands new us v f d → inside (v ∷ us) ≡ false → is_same_vertex e.source v ≡ false
-  not_source us v f d s out = unless_true (is_same_vertex e.source v) (λ same. outside_no_source us v f d s out (sym (same_vertex_exact e.source v same)))
+  not_source us v f d s out = false_from_ne_true (is_same_vertex e.source v) (λ same. outside_no_source us v f d s out (sym (same_vertex_exact e.source v same)))
 
   -- and so is each vertex on the way, since it stands at the top or below it
   way_inside : (us : List Vertex) (v : Vertex) (f : Forest) (d : Demanded) → Stands new us v f d → stands_in v (e.source ∷ way) ≡ true → inside (v ∷ us) ≡ true
@@ -419,7 +409,7 @@ module _ (e : Edge) (old new : List Edge) (change : Changes e old new) (stay : C
 
   -- what stands above the top is not inside
   above_top_out : (u : Vertex) (us : List Vertex) (f : Forest) (d : Demanded) → Stands new (u ∷ us) top f d → inside (u ∷ us) ≡ false
-  above_top_out u us f d s = unless_true (inside (u ∷ us)) (λ deep. by_start (inside_has (u ∷ us) deep).start (inside_has (u ∷ us) deep).starts (inside_has (u ∷ us) deep).stands) where
+  above_top_out u us f d s = false_from_ne_true (inside (u ∷ us)) (λ deep. by_start (inside_has (u ∷ us) deep).start (inside_has (u ∷ us) deep).starts (inside_has (u ∷ us) deep).stands) where
     chain : IsChain new top (u ∷ us)
     chain = line.chain_of new well_new (u ∷ us) top f d s
 

@@ -11,10 +11,8 @@ use Rattle.grove_edits.proofs.Vertices.{same_vertex_exact}
 use Rattle.grove_terms.specs.Forest.{Forest, none, multi_ref, cycle_ref, tree, child_edges, edges_under, AreChildren, StandsUnder}
 use Rattle.grove_terms.proofs.InLive.{IsFrom, under_lead}
 use Rattle.kept_records.specs.Change.{Changes}
+use Rattle.kept_records.proofs.Truth.{clash}
 use Rattle.kept_records.proofs.Edits.{under_stay}
-
-clash : (b : Bool) → b ≡ true → b ≡ false → ⊥
-clash b is not_it = let e : true ≡ false = sym is ∙ not_it in cc
 
 -- some vertices, among them the source of the edge: with an inner vertex the one above it is among them, and what others see keeps its class
 module _ (e : Edge) (old new : List Edge) (change : Changes e old new) (on : Vertex → Bool) (source_on : on e.source ≡ true)

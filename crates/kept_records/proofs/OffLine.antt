@@ -2,6 +2,7 @@
 use Rattle.std.proofs.Common.{◌≡◌, ◌⊎◌, inl, inr, Bool, true, false, List, [], ◌∷◌, refl, sym, ap, subst, ◌∙◌}
 use Rattle.std.specs.Prelude.{◌||◌}
 use Rattle.std.specs.List.{AllByRecursion}
+use Rattle.std.proofs.lemmas.Bool.{false_from_ne_true}
 use Rattle.edge_lattice.specs.declared.state.State.TheVariants.{Absent, Live}
 use Rattle.grove_edits.specs.declared.vertex.Vertex.{Vertex}
 use Rattle.grove_edits.specs.declared.edge.Edge.{Edge}
@@ -28,13 +29,6 @@ use Rattle.kept_records.proofs.Standing.{below_inner, has_place}
 use Rattle.kept_records.proofs.Near.{demand_there}
 use Rattle.kept_records.proofs.Apart.{class_or}
 use Rattle.kept_records.proofs.Line as line
-
-clash : (b : Bool) → b ≡ true → b ≡ false → ⊥
-clash b is is_not = let e : true ≡ false = sym is ∙ is_not in cc
-
-unless_true : (b : Bool) → (b ≡ true → ⊥) → b ≡ false
-unless_true true refuted = absurd (refuted refl)
-unless_true false refuted = refl
 
 module _ (e : Edge) (old new : List Edge) (change : Changes e old new) (stay : CyclesStay old new) (well_old : AllByRecursion IsWellFormed old) (well_new : AllByRecursion IsWellFormed new)
     (g h : Graph) (live_old : AreLive g old) (live_new : AreLive h new) (was : (v : Vertex) → IsVertexOf h v → is_on_walks e old new v ≡ false → IsVertexOf g v)
@@ -83,14 +77,14 @@ module _ (e : Edge) (old new : List Edge) (change : Changes e old new) (stay : C
     source_inside = line.itself_first e.source way
 
     known_off : IsVertexOf g e.target → on e.target ≡ false
-    known_off is = unless_true (on e.target) (λ there. by_why (anew.no_other e.target there)) where
+    known_off is = false_from_ne_true (on e.target) (λ there. by_why (anew.no_other e.target there)) where
       by_why : (stands_in e.target (e.source ∷ way) ≡ true) ⊎ (IsVertexOf h e.target × (IsVertexOf g e.target → ⊥)) → ⊥
       by_why (inl there) = not_on_way there
       by_why (inr came) = came.1 is
 
     off_line : IsVertexOf g e.target ⊎ (IsVertexOf g e.target → ⊥) → on_line e.target ≡ false
     off_line (inr outside) =
-        unless_true (on_line e.target) (came_off_line e.target outside (λ one. not_on_way (ap (λ x. stands_in x (e.source ∷ way)) one ∙ source_inside)))
+        false_from_ne_true (on_line e.target) (came_off_line e.target outside (λ one. not_on_way (ap (λ x. stands_in x (e.source ∷ way)) one ∙ source_inside)))
     off_line (inl is) = by_class (class_or (class old e.target) Inner) sees where
       by_class : (class old e.target ≡ Inner) ⊎ (class old e.target ≡ Inner → ⊥) → SourceAloneSees e old new → on_line e.target ≡ false
       by_class (inr headed) sees = absurd (not_left (known_off is, λ sort. known_demand e.target is (inl sort) headed))

@@ -1,18 +1,16 @@
 -- With a vertex on one of the walks from the ends of an edge, the vertex above it is on one.
 use Rattle.std.proofs.Common.{◌≡◌, ◌⊎◌, inl, inr, Bool, true, false, List, [], ◌∷◌, refl, sym, ap, subst, ◌∙◌}
 use Rattle.std.specs.Prelude.{◌||◌, Option, Some}
-use Rattle.std.proofs.lemmas.Bool.{or_left, or_right}
+use Rattle.std.proofs.lemmas.Bool.{or_cases, or_left, or_right}
 use Rattle.grove_edits.specs.declared.vertex.Vertex.{Vertex}
 use Rattle.grove_edits.specs.declared.edge.Edge.{Edge}
 use Rattle.grove_edits.specs.Vertex.{is_same_vertex, stands_in}
 use Rattle.walks.specs.Walk.{above, GoesOn, walk}
 use Rattle.grove_edits.proofs.Vertices.{same_vertex_exact, same_vertex_itself}
 use Rattle.walks.proofs.Endings.{walk_is}
+use Rattle.walks.proofs.Returns.{some_same}
 use Rattle.kept_records.specs.Change.{Changes, is_on_walks}
 use Rattle.kept_records.proofs.Edits.{above_stays}
-
-some_same : (x y : Vertex) → Some x ≡ Some y → x ≡ y
-some_same x y e = cc
 
 first_stands : (y : Vertex) (ys : List Vertex) (x : Vertex) → y ≡ x → stands_in x (y ∷ ys) ≡ true
 first_stands y ys x one = or_left (is_same_vertex y x) (stands_in x ys) (ap (λ z. is_same_vertex z x) one ∙ same_vertex_itself x)
@@ -56,10 +54,6 @@ pub begins_walk : (live : List Edge) (v : Vertex) → stands_in v (walk live v) 
 begins_walk live v = first_stands v _ v refl
 
 -- ---- the four walks
-
-or_cases : (a b : Bool) → (a || b) ≡ true → (a ≡ true) ⊎ (b ≡ true)
-or_cases true b h = inl refl
-or_cases false b h = inr h
 
 or_swapped : (a b : Bool) → (a || b) ≡ (b || a)
 or_swapped true true = refl

@@ -4,7 +4,7 @@ use Rattle.std.specs.Prelude.{◌||◌, Option, Some}
 use Rattle.std.specs.List.{AllByRecursion}
 use Rattle.std.specs.declared.cmp.Ordering.TheVariants.{Less}
 use Rattle.std.specs.Ordering.{is_eq}
-use Rattle.std.proofs.lemmas.Bool.{or_left, or_right}
+use Rattle.std.proofs.lemmas.Bool.{or_cases, false_from_ne_true, or_left, or_right}
 use Rattle.edge_lattice.specs.declared.state.State.TheVariants.{Absent}
 use Rattle.grove_edits.specs.declared.vertex.Vertex.{Vertex}
 use Rattle.grove_edits.specs.declared.edge.Edge.{Edge}
@@ -19,6 +19,7 @@ use Rattle.walks.specs.Class.{class}
 use Rattle.walks.specs.Whole.{IsVertexOf}
 use Rattle.grove_edits.proofs.Vertices.{same_vertex_exact, same_vertex_itself}
 use Rattle.walks.proofs.Endings.{walk_is}
+use Rattle.walks.proofs.Returns.{some_same}
 use Rattle.grove_terms.specs.Forest.{Forest, none, multi_ref, cycle_ref, tree, child_edges, edges_under, StandsUnder}
 use Rattle.grove_terms.proofs.InLive.{same_edge_itself}
 use Rattle.grove_terms.proofs.Totals.{once, total}
@@ -27,6 +28,7 @@ use Rattle.mark_step.specs.Expression.{Demanded}
 use Rattle.kept_records.specs.Kept.{Kept, Records, alone, kept_of, expression_of, demanded_at, IsTreeIn, Stands}
 use Rattle.kept_records.specs.Change.{is_on_walks, StandOnce}
 use Rattle.kept_records.specs.Renewal.{MakesUnder, MakesTree, MakesTrees, names}
+use Rattle.kept_records.proofs.Truth.{clash}
 use Rattle.kept_records.proofs.Names.{has_name}
 use Rattle.kept_records.proofs.Children.{sole_parent, held_in_filter, IsTreeOf, children_are_of, tree_inner}
 use Rattle.kept_records.proofs.Standing.{one_place, child_stands, stands_under}
@@ -108,18 +110,11 @@ name_split w (x ∷ xs) m ys h = by_test (is_same_vertex x.0 w) refl h (name_spl
   by_test true one h later = inl (or_left (is_same_vertex x.0 w) (has_name w xs) one)
   by_test false other h later = moved (later h)
 
-false_from : (b : Bool) → (b ≡ true → ⊥) → b ≡ false
-false_from true refuted = absurd (refuted refl)
-false_from false refuted = refl
-
-clash : (b : Bool) → b ≡ true → b ≡ false → ⊥
-clash b is not_it = let e : true ≡ false = sym is ∙ not_it in cc
-
 pub once_join : (xs : List (Vertex × Kept)) (m : Vertex × Kept) (ys : List (Vertex × Kept)) → StandOnce (names xs) → StandOnce (names ys) → (has_name m.0 xs ≡ true → ⊥) → (has_name m.0 ys ≡ true → ⊥)
     → ((w : Vertex) → has_name w xs ≡ true → has_name w ys ≡ true → ⊥) → StandOnce (names (xs ++ m ∷ ys))
-once_join [] m ys once_x once_y out_x out_y apart = (false_from (has_name m.0 ys) out_y, once_y)
+once_join [] m ys once_x once_y out_x out_y apart = (false_from_ne_true (has_name m.0 ys) out_y, once_y)
 once_join (x ∷ xs) m ys once_x once_y out_x out_y apart = (
-  false_from (has_name x.0 (xs ++ m ∷ ys)) (λ h. refuted (name_split x.0 xs m ys h)),
+  false_from_ne_true (has_name x.0 (xs ++ m ∷ ys)) (λ h. refuted (name_split x.0 xs m ys h)),
   once_join xs m ys once_x.1 once_y (λ h. out_x (or_right (is_same_vertex x.0 m.0) (has_name m.0 xs) h)) out_y (λ w h k. apart w (or_right (is_same_vertex x.0 w) (has_name w xs) h) k),
 ) where
   itself : has_name x.0 (x ∷ xs) ≡ true
@@ -360,9 +355,6 @@ pub record IsSource (live : List Edge) (w : Vertex) : Type 0 where
 
 pub source_above : (live : List Edge) (x w : Vertex) → above live x ≡ Some w → IsSource live w
 source_above live x w up = by_parents (parents_of x live) refl up where
-  some_same : (a b : Vertex) → Some a ≡ Some b → a ≡ b
-  some_same a b e = cc
-
   by_parents : (ps : List Edge) → parents_of x live ≡ ps → only_source ps ≡ Some w → IsSource live w
   by_parents [] are up = absurd cc
   by_parents (p ∷ []) are up = record {
@@ -372,17 +364,10 @@ source_above live x w up = by_parents (parents_of x live) refl up where
   }
   by_parents (p ∷ q ∷ ps) are up = absurd cc
 
-or_cases : (a b : Bool) → (a || b) ≡ true → (a ≡ true) ⊎ (b ≡ true)
-or_cases true b h = inl refl
-or_cases false b h = inr h
-
 module _ (e : Edge) (old new : List Edge) (h : Graph) (there : h e ≢ Absent) (present_old : (x : Edge) → holds_edge x old ≡ true → h x ≢ Absent) (present_new : (x : Edge) → holds_edge x new ≡ true → h x ≢ Absent) where
   on_walk_of : (live : List Edge) → ((x : Edge) → holds_edge x live ≡ true → h x ≢ Absent) → (from : Vertex) → IsVertexOf h from → (v : Vertex) → stands_in v (walk live from) ≡ true → IsVertexOf h v
   on_walk_of live present from vertex v stands =
       goes_all (IsVertexOf h) live (λ x w up. let s = source_above live x w up in inr (s.edge, present s.edge s.held, inl s.source)) [] (Some from) (λ w is. subst (IsVertexOf h) (some_same from w is) vertex) (walk live from) (walk_is live from) v stands
-    where
-      some_same : (a b : Vertex) → Some a ≡ Some b → a ≡ b
-      some_same a b e = cc
 
   source_vertex : IsVertexOf h e.source
   source_vertex = inr (e, there, inl refl)

@@ -36,9 +36,6 @@ use Rattle.kept_records.proofs.Raised.{gone_without, changed}
 
 -- ---- an edge that came or went is live in one of both graphs
 
-clash : (b : Bool) → b ≡ true → b ≡ false → ⊥
-clash b is not_it = let e : true ≡ false = sym is ∙ not_it in cc
-
 held_between : (e : Edge) (before behind : List Edge) → holds_edge e (before ++ e ∷ behind) ≡ true
 held_between e [] behind = held_first e behind
 held_between e (x ∷ xs) behind = or_right (is_same_edge x e) (holds_edge e (xs ++ e ∷ behind)) (held_between e xs behind)

@@ -1,7 +1,7 @@
 -- Short walks after an edit of a graph of edits: the records that they make, what is demanded where they begin, and what is left below.
 use Rattle.std.proofs.Common.{◌≡◌, ◌⊎◌, inl, inr, ◌≤◌, suc, Bool, true, false, List, [], ◌∷◌, ◌++◌, length, sum_by, refl, sym, ap, subst, ◌∙◌, arith}
 use Rattle.std.specs.Prelude.{◌||◌, Option, Some, None}
-use Rattle.std.proofs.lemmas.Bool.{or_right}
+use Rattle.std.proofs.lemmas.Bool.{false_from_ne_true, or_right}
 use Rattle.grove_edits.specs.declared.vertex.Vertex.{Vertex}
 use Rattle.grove_edits.specs.declared.edge.Edge.{Edge}
 use Rattle.grove_edits.specs.declared.edit.Edit.{Edit}
@@ -18,6 +18,7 @@ use Rattle.walks.specs.Class.{class}
 use Rattle.walks.specs.Whole.{IsVertexOf, AreVertices, AreLive}
 use Rattle.walks.proofs.Endings.{walk_is}
 use Rattle.walks.proofs.Chains.{IsChain, has_chain, chain_apart}
+use Rattle.walks.proofs.Returns.{some_same}
 use Rattle.grove_terms.specs.Forest.{Forest, edges_under}
 use Rattle.grove_terms.proofs.WellSorted.{live_well_formed}
 use Rattle.grove_terms.proofs.OneGrove.{vertices_of, vertices_are}
@@ -27,6 +28,7 @@ use Rattle.kept_records.specs.Local.{kept_demand}
 use Rattle.kept_records.specs.Change.{Changes, CyclesStay, IsNear, StandOnce, AreNear, weight, near_size}
 use Rattle.kept_records.specs.Renewal.{IsLeft, names, put}
 use Rattle.kept_records.specs.Short.{SourceAloneSees, LeadsUp, IsJudgedAnew, IsShortWalk, TypeStays}
+use Rattle.kept_records.proofs.Truth.{clash}
 use Rattle.kept_records.proofs.Sorts.{IsJudged}
 use Rattle.kept_records.proofs.Children.{all_held, held_under}
 use Rattle.kept_records.proofs.Standing.{stands_under}
@@ -42,13 +44,6 @@ use Rattle.kept_records.proofs.Line as line
 use Rattle.kept_records.proofs.Along.{kept_along}
 use Rattle.kept_records.proofs.Nearby.{nearby_kept, nearby_near, nearby_once, on_walk_up}
 use Rattle.kept_records.proofs.OffLine.{target_off_line}
-
-clash : (b : Bool) → b ≡ true → b ≡ false → ⊥
-clash b is is_not = let e : true ≡ false = sym is ∙ is_not in cc
-
-unless_true : (b : Bool) → (b ≡ true → ⊥) → b ≡ false
-unless_true true refuted = absurd (refuted refl)
-unless_true false refuted = refl
 
 -- a vertex is one of a graph of edits or not
 pub vertex_or : (edits : List Edit) (v : Vertex) → IsVertexOf (graph edits) v ⊎ (IsVertexOf (graph edits) v → ⊥)
@@ -84,7 +79,7 @@ module _ (edits : List Edit) (edit : Edit) (old new : List Edge) (live_old : Are
 
   held_before : (x : Edge) → holds_edge x new ≡ true → (x ≡ e → ⊥) → holds_edge x old ≡ true
   held_before x held differs =
-      live_old.each x (sym (other_state edits edit x (unless_true (is_same_edge e x) (λ same. differs (sym (one_edge e x same))))) ∙ live_new.no_other x held)
+      live_old.each x (sym (other_state edits edit x (false_from_ne_true (is_same_edge e x) (λ same. differs (sym (one_edge e x same))))) ∙ live_new.no_other x held)
 
   module _ (stay : CyclesStay old new) (records : Records) (kept : AreKept (graph edits) old records) where
     module _ (way : List Vertex) (top : Vertex) (on : Vertex → Bool) (made : List (Vertex × Kept)) (w : IsShortWalk (edit_edge edit) (graph edits) (graph (edit ∷ edits)) old new records way top on made) where
@@ -129,7 +124,7 @@ module _ (edits : List Edit) (edit : Edit) (old new : List Edge) (live_old : Are
 
         -- what is left below the top has its record still
         pub left_below_top : (us vs : List Vertex) (v : Vertex) (f : Forest) (d : Demanded) → Stands new (us ++ top ∷ vs) v f d → IsVertexOf (graph (edit ∷ edits)) v → IsLeft on records v d → records v ≡ Some (kept_of v f d)
-        left_below_top us vs v f d s is left = left_off_line (us ++ top ∷ vs) v f d s is left (unless_true (line.on_line e old new change stay v) refuted) where
+        left_below_top us vs v f d s is left = left_off_line (us ++ top ∷ vs) v f d s is left (false_from_ne_true (line.on_line e old new change stay v) refuted) where
           refuted : line.on_line e old new change stay v ≡ true → ⊥
           refuted there =
               clash (on v)
@@ -141,7 +136,7 @@ module _ (edits : List Edit) (edit : Edit) (old new : List Edge) (live_old : Are
             → (us vs : List Vertex) (v : Vertex) (f : Forest) (d : Demanded) → Stands new (us ++ (edit_edge edit).target ∷ vs) v f d → IsVertexOf (graph (edit ∷ edits)) v → IsLeft on records v d
             → records v ≡ Some (kept_of v f d)
         left_below_target outer not_on_way not_left us vs v f d s is left =
-            left_off_line (us ++ e.target ∷ vs) v f d s is left (unless_true (line.on_line e old new change stay v) refuted) where
+            left_off_line (us ++ e.target ∷ vs) v f d s is left (false_from_ne_true (line.on_line e old new change stay v) refuted) where
               off : line.on_line e old new change stay e.target ≡ false
               off =
                   target_off_line e old new change stay (well_old edits edit old new live_old live_new) (well_new edits edit old new live_old live_new) g h live_old live_new (vertex_was edits edit old new)
@@ -165,7 +160,7 @@ chain_once live v (w ∷ ws) is = (chain_apart live v (w ∷ ws) is, chain_once 
 
 part_once : (xs ys : List Vertex) → StandOnce (xs ++ ys) → StandOnce xs
 part_once [] ys once = tt
-part_once (x ∷ xs) ys once = (unless_true (stands_in x xs) (λ is. clash (stands_in x (xs ++ ys)) (line.stands_ahead xs x ys is) once.0), part_once xs ys once.1)
+part_once (x ∷ xs) ys once = (false_from_ne_true (stands_in x xs) (λ is. clash (stands_in x (xs ++ ys)) (line.stands_ahead xs x ys is) once.0), part_once xs ys once.1)
 
 -- a way is part of the walk up
 pub way_within_walk : (live : List Edge) (v : Vertex) (way : List Vertex) (top : Vertex) → LeadsUp live v way top → suc (length way) ≤ length (walk live v)
@@ -187,9 +182,6 @@ way_closed live v [] top leads ends x w stands up = by_test (is_same_vertex v x)
       let clashing : None ≡ Some w = sym ends ∙ ap (above live) (sym leads ∙ same_vertex_exact v x same) ∙ up in cc
   by_test false other h = absurd cc
 way_closed live v (y ∷ ys) top leads ends x w stands up = by_test (is_same_vertex v x) refl stands (way_closed live y ys top leads.2 ends x w) where
-  some_same : (a b : Vertex) → Some a ≡ Some b → a ≡ b
-  some_same a b same = cc
-
   by_test : (b : Bool) → is_same_vertex v x ≡ b → (b || stands_in x (y ∷ ys)) ≡ true → (stands_in x (y ∷ ys) ≡ true → above live x ≡ Some w → stands_in w (y ∷ ys) ≡ true) → stands_in w (v ∷ y ∷ ys) ≡ true
   by_test true same h later =
       let next : y ≡ w = some_same y w (sym leads.1 ∙ ap (above live) (same_vertex_exact v x same) ∙ up) in
@@ -207,21 +199,15 @@ goes_within live within closed passed o first (x ∷ xs) g v stands =
 
 pub off_walk_by_way : (live : List Edge) (target v : Vertex) (way : List Vertex) (top : Vertex) → LeadsUp live v way top → above live top ≡ None → stands_in target (v ∷ way) ≡ false → stands_in target (walk live v) ≡ false
 off_walk_by_way live target v way top leads ends off =
-    unless_true (stands_in target (walk live v))
+    false_from_ne_true (stands_in target (walk live v))
     (λ there. clash (stands_in target (v ∷ way))
     (goes_within live (v ∷ way) (way_closed live v way top leads ends) [] (Some v) (λ w is. ap (λ z. stands_in z (v ∷ way)) (sym (some_same v w is)) ∙ line.itself_first v way) (walk live v) (walk_is live v) target there) off)
-  where
-    some_same : (a b : Vertex) → Some a ≡ Some b → a ≡ b
-    some_same a b same = cc
 
 -- a vertex with nothing under it is above no other
 pub off_walk_by_leaf : (edits : List Edit) (live : List Edge) → AreLive (graph edits) live → (target v : Vertex) → edges_under live target ≡ [] → (target ≡ v → ⊥) → stands_in target (walk live v) ≡ false
 off_walk_by_leaf edits live are target v leaf other =
-    unless_true (stands_in target (walk live v))
+    false_from_ne_true (stands_in target (walk live v))
     (λ there. refuted (goes_all (λ w. (w ≡ v) ⊎ IsSource live w) live (λ x w up. inr (source_above live x w up)) [] (Some v) (λ w is. inl (sym (some_same v w is))) (walk live v) (walk_is live v) target there)) where
-      some_same : (a b : Vertex) → Some a ≡ Some b → a ≡ b
-      some_same a b same = cc
-
       refuted : (target ≡ v) ⊎ IsSource live target → ⊥
       refuted (inl same) = other same
       refuted (inr s) =
