@@ -1,6 +1,6 @@
 -- For the words of a generated session one status and one text are due, whatever the journals are.
 use Rattle.std.specs.declared.alloc.Global.{Global}
-use Rattle.std.proofs.Common.{◌≡◌, ◌⊎◌, inl, inr, ℕ, List, refl, sym, subst, ◌∙◌}
+use Rattle.std.proofs.Common.{◌≡◌, inl, inr, ℕ, List, refl, sym, subst, ◌∙◌}
 use Rattle.std.specs.Prelude.{String}
 use Rattle.replica_core.specs.Content.{Content}
 use Rattle.session_report.specs.Taken.{Journals}

@@ -8,7 +8,7 @@ use Rattle.grove_top.specs.declared.outcome.Status.{Status}
 use Rattle.grove_top.specs.declared.outcome.Status.TheVariants.{Done, Usage, Malformed, TooLong, ReadFault, WriteFault, NoMemory}
 use Rattle.grove_top.specs.declared.command.Command.{Command}
 use Rattle.grove_top.specs.declared.command.Command.TheVariants.{Ask, Run, Generate}
-use Rattle.grove_top.specs.Words.{AreOf, AreOfNone, Reads, AskToRead, IsWithinLimits}
+use Rattle.grove_top.specs.Words.{AreOf, AreOfNone, Reads}
 use Rattle.replica_core.specs.Content.{Content}
 use Rattle.session_report.specs.Taken.{Journals}
 use Rattle.grove_top.specs.Due.{IsDue, IsCommandDue, IsFirstFault, HasReading, usage_text, too_long_text}

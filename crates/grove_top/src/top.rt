@@ -1,11 +1,11 @@
-ghost use Rattle.std.specs.Prelude.{◌≡◌, ◌≢◌, ◌⊎◌, ◌+◌, ◌<◌, ◌≤◌, ◌↔◌, ℕ, List, [], ◌∷◌, Some, length, take, map, vec_len, string_bytes, codes, decimal, IsTrue, IfSome, IfNone, IfOk, IsErrOf};
+ghost use Rattle.std.specs.Prelude.{◌≡◌, ◌⊎◌, ◌+◌, ◌<◌, ◌≤◌, ◌↔◌, ℕ, List, [], ◌∷◌, Some, length, take, map, vec_len, string_bytes, codes, decimal, IsTrue, IfSome, IfNone, IfOk, IsErrOf};
 ghost use Rattle.grove_io.specs.Outside.{HasRisen, Gave, Took};
 ghost use Rattle.replica_core.specs.Content.{Content};
 ghost use Rattle.session_report.specs.Taken.{Journals};
 ghost use Rattle.grove_top.specs.declared.command.Command.{Command};
 ghost use Rattle.grove_top.specs.declared.command.Command.TheVariants.{Generate};
 ghost use Rattle.grove_top.specs.Words.{AreOf, AreOfNone, AskToRead, IsPlain, Reads, most_loads};
-ghost use Rattle.grove_top.specs.Due.{IsDue, HasReading, most_bytes, usage_text, too_long_text};
+ghost use Rattle.grove_top.specs.Due.{IsDue, HasReading, most_bytes};
 ghost use Rattle.grove_top.specs.Meets.{Meets, IsReadBy};
 
 use crate::command::{Command, Question};

@@ -1,5 +1,5 @@
 -- What stands behind some items of a session stands behind one more.
-use Rattle.std.proofs.Common.{◌≡◌, ◌≢◌, ◌⊎◌, inl, inr, ℕ, zero, suc, ◌+◌, ◌<◌, ◌≤◌, Bool, true, false, ◌==◌, cond, List, [], ◌∷◌, ◌++◌, length, map, slice_get, Some, refl, sym, ap, subst, ◌∙◌, arith, append-nil, length-append}
+use Rattle.std.proofs.Common.{◌≡◌, ◌≢◌, ◌⊎◌, inl, inr, ℕ, zero, suc, ◌+◌, ◌<◌, ◌≤◌, true, false, ◌==◌, cond, List, [], ◌∷◌, ◌++◌, length, map, slice_get, Some, refl, sym, ap, subst, ◌∙◌, arith, append-nil, length-append}
 use Rattle.std.proofs.Math.ListN.{set, length-set, replicate}
 use Rattle.std.proofs.lemmas.List.{length-replicate}
 use Rattle.std.specs.List.{AllByRecursion, count_by, sum_by, zip}
@@ -14,13 +14,11 @@ use Rattle.grove_edits.specs.Graph.{graph, IsSame, IsCanonical}
 use Rattle.user_actions.specs.Lists.{ArePresent}
 use Rattle.user_actions.proofs.Openings.{canonical_present}
 use Rattle.grove_answers.proofs.SameGraph.{printed_along}
-use Rattle.session_script.specs.declared.line.Line.{Line}
 use Rattle.session_script.specs.declared.item.Block.{Block}
 use Rattle.session_script.specs.declared.item.Item.{Item}
 use Rattle.session_script.specs.declared.item.Item.TheVariants as item
 use Rattle.session_script.specs.declared.session.Session.{Session}
-use Rattle.session_script.specs.Session.{IsSession, IsLine, is_block, is_send, is_show, send_count}
-use Rattle.session_run.specs.Calls.{Stage}
+use Rattle.session_script.specs.Session.{IsSession, IsLine, is_block, is_show, send_count}
 use Rattle.session_run.specs.Run.{HasRun}
 use Rattle.replica_core.specs.Canonical.{with_edits}
 use Rattle.replica_core.specs.Content.{Content, IsContent, no_edits, with_taken, with_block}
@@ -29,8 +27,8 @@ use Rattle.replica_core.proofs.WithEdits.{with_edits-append, ascends-with_edits}
 use Rattle.replica_core.proofs.Contents.{content_empty, content_taken, content_opened}
 use Rattle.session_report.specs.Journal.{Entries, IsLegal, edits_of}
 use Rattle.session_report.specs.Taken.{Journals, entries_at, taken}
-use Rattle.session_report.specs.Legal.{next_block, next_send, next_show, stage_at, IsLegalAt, AreLegalFor}
-use Rattle.session_report.specs.Report.{IsSection, AreSections, IsItemText, AreItemTexts, entries_from, block_heading, show_heading, journals_text}
+use Rattle.session_report.specs.Legal.{next_block, next_send, stage_at, IsLegalAt, AreLegalFor}
+use Rattle.session_report.specs.Report.{IsSection, AreSections, IsItemText, AreItemTexts, block_heading, show_heading, journals_text}
 use Rattle.session_answers.specs.BlockJournals.{block_journals}
 use Rattle.session_answers.specs.Running.{HaveTaken, IsBehind, HasLoaded, HaveRun, HasRunBlock, HasShown, AreShown, sources_of, stage_of}
 use Rattle.session_answers.specs.declared.running.Running.{Running}

@@ -1,5 +1,5 @@
 -- What the entries of a block ask of a replica can be planned: each is an author's action, with numbers in their ranges, or a piece.
-use Rattle.std.proofs.Common.{◌≡◌, ℕ, ◌+◌, ◌<◌, ◌≤◌, ◌^◌, Bool, true, false, ◌==◌, cond, List, [], ◌∷◌, map, get_or, length, refl, sym, subst, lit<}
+use Rattle.std.proofs.Common.{◌≡◌, ℕ, ◌+◌, ◌<◌, ◌^◌, Bool, true, false, ◌==◌, cond, List, [], ◌∷◌, map, refl, sym, subst, lit<}
 use Rattle.std.specs.List.{AllByRecursion, Contains}
 use Rattle.std.proofs.lemmas.Bool.{eq-eqb}
 use Rattle.std.proofs.lemmas.List.Elements.{All-from_recursion}
@@ -15,7 +15,7 @@ use Rattle.grove_edits.specs.declared.command.Command.{Command}
 use Rattle.grove_edits.specs.declared.command.Command.TheVariants.{Act, Take}
 use Rattle.grove_edits.specs.Vertex.{literal}
 use Rattle.user_actions.specs.Good.{HasLiteralInRange}
-use Rattle.shared_replica.specs.Passes.{Call, call_of, same_actor, calls_by}
+use Rattle.shared_replica.specs.Passes.{call_of, same_actor, calls_by}
 use Rattle.session_script.specs.declared.author.Declared.{Declared}
 use Rattle.session_script.specs.declared.line.Line.{Line}
 use Rattle.session_script.specs.declared.line.Line.TheVariants as line

@@ -1,9 +1,8 @@
 -- In generated sessions nobody meets anybody: each replica has one author in the first block, and one sender in each later one.
-use Rattle.std.proofs.Common.{◌≡◌, ◌≢◌, ◌⊎◌, inl, inr, ℕ, zero, suc, ◌+◌, ◌<◌, ◌≤◌, Bool, true, false, List, [], ◌∷◌, ◌++◌, length, slice_get, Some, refl, sym, ap, subst, ◌∙◌, arith}
+use Rattle.std.proofs.Common.{◌≡◌, ◌⊎◌, inl, inr, ℕ, zero, suc, ◌+◌, ◌<◌, Bool, true, false, List, [], ◌∷◌, ◌++◌, slice_get, Some, refl, sym, ap, subst, ◌∙◌, arith}
 use Rattle.std.specs.Prelude.{slice_index_or}
 use Rattle.std.specs.List.{AllByRecursion, Contains}
 use Rattle.grove_edits.specs.declared.edit.Edit.{Edit}
-use Rattle.grove_edits.specs.declared.actor.Actor.{Actor}
 use Rattle.grove_edits.specs.declared.actor.Actor.TheVariants.{Host, Author, Send}
 use Rattle.session_script.specs.declared.author.Declared.{Declared}
 use Rattle.session_script.specs.declared.item.Block.{Block}
@@ -12,9 +11,9 @@ use Rattle.session_script.specs.declared.item.Item.TheVariants as item
 use Rattle.session_script.specs.declared.line.Line.{Line}
 use Rattle.session_script.specs.declared.line.SendLine.{SendLine}
 use Rattle.session_script.specs.declared.session.Session.{Session}
-use Rattle.session_run.specs.Calls.{Stage, SendsHere, sends_of}
-use Rattle.session_report.specs.Legal.{next_send, stage_at}
-use Rattle.session_report.specs.Alone.{Asks, HasOneActor, IsWithoutMeetings}
+use Rattle.session_run.specs.Calls.{Stage, sends_of}
+use Rattle.session_report.specs.Legal.{next_send}
+use Rattle.session_report.specs.Alone.{HasOneActor, IsWithoutMeetings}
 use Rattle.session_gen.specs.Items.{IsLoad, declared, acting, sending}
 use Rattle.session_gen.specs.Parts.{HasParts, blocks}
 

@@ -1,6 +1,6 @@
 -- The items of a session by their index, and what holds of one.
-use Rattle.std.proofs.Common.{◌≡◌, ℕ, zero, suc, ◌+◌, ◌<◌, ◌≤◌, ◌^◌, cond, List, [], ◌∷◌, ◌++◌, length, take, slice_get, Some, Result, Ok, Err, refl, sym, ap, subst, ◌∙◌, arith}
-use Rattle.std.specs.Prelude.{IfOk, replicate}
+use Rattle.std.proofs.Common.{◌≡◌, ℕ, zero, suc, ◌+◌, ◌<◌, ◌≤◌, ◌^◌, cond, List, [], ◌∷◌, ◌++◌, length, take, slice_get, Some, Result, Ok, Err, sym, ap, subst, ◌∙◌, arith}
+use Rattle.std.specs.Prelude.{IfOk}
 use Rattle.std.specs.List.{AllByRecursion, count_by, sum_by}
 use Rattle.std.proofs.lemmas.List.{take_more}
 use Rattle.std.proofs.lemmas.List.Sums.{sum_by-cons, sum_by-append}
@@ -10,10 +10,9 @@ use Rattle.session_script.specs.declared.item.Block.{Block}
 use Rattle.session_script.specs.declared.item.Item.{Item}
 use Rattle.session_script.specs.declared.item.Item.TheVariants as item
 use Rattle.session_script.specs.declared.session.Session.{Session}
-use Rattle.session_script.specs.Session.{IsSession, IsLine, IsItem, is_block, is_send, is_show, send_count}
+use Rattle.session_script.specs.Session.{IsSession, IsLine, IsItem, is_block, is_send, is_show}
 use Rattle.session_run.specs.Run.{CanRun}
 use Rattle.session_run.proofs.OfSessions.{block_can_run, few_numbers, sends_counted}
-use Rattle.replica_core.specs.Content.{Content, no_edits}
 use Rattle.session_answers.specs.declared.running.Running.{Running}
 use Rattle.session_answers.specs.Running.{IsBehind, HasLoaded, HasRunBlock, HasShown}
 use Rattle.session_answers.proofs.Behind.{load_behind, show_behind, block_behind}

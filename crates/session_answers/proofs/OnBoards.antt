@@ -128,12 +128,6 @@ can_cut stage boards cuts up are openings at firsts own is =
     can_cut_at stage own opening (all_found Ascends stage.sources stage.replica (opening_edits own) up opening) (are.each stage.replica (opening_edits own) (board_of own) opening board)
     (same_Some (seat_of own) (option_map first_board_seat (board_of own)) (sym seat ∙ first))
 
--- the same boards, told by lists that are the same
-pub boards_along : (authors authors' : List Declared) (lines lines' : List Line) (sources : List (List Edit)) (boards : List (Option BoardOf)) → authors ≡ authors' → lines ≡ lines'
-    → AreBoards authors lines sources boards → AreBoards authors' lines' sources boards
-boards_along authors authors' lines lines' sources boards same_authors same_lines are =
-    subst (λ (ls : List Line). AreBoards authors' ls sources boards) same_lines (subst (λ (as' : List Declared). AreBoards as' lines sources boards) same_authors are)
-
 -- ---- behind the block
 
 whole_behind : (own back : Cuts) → seat_of own ≡ option_map first_board_seat (board_of own) → KeepsSeat own back → IsWholeSeat (board_of own) (seat_of back)

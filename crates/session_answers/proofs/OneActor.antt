@@ -1,5 +1,5 @@
 -- Where one actor at most asks of a replica, a block has one legal journal there.
-use Rattle.std.proofs.Common.{◌≡◌, ◌≢◌, ℕ, ◌≤◌, Bool, true, false, cond, List, [], ◌∷◌, map, nat_eq, refl, sym, ap, subst, ◌∙◌}
+use Rattle.std.proofs.Common.{◌≡◌, ◌≢◌, ℕ, ◌≤◌, Bool, true, false, cond, List, [], ◌∷◌, map, refl, sym, ap, ◌∙◌}
 use Rattle.std.proofs.Common.{eq-eqb}
 use Rattle.std.specs.List.{AllByRecursion}
 use Rattle.std.proofs.lemmas.Bool.{false≢true}
@@ -12,7 +12,7 @@ use Rattle.grove_edits.specs.declared.command.Command.{Command}
 use Rattle.grove_edits.specs.declared.command.Command.TheVariants.{Act}
 use Rattle.grove_edits.specs.declared.action.Action.{Action}
 use Rattle.shared_replica.specs.declared.journal.Entry.{Entry}
-use Rattle.shared_replica.specs.Passes.{Call, call_of, same_actor, calls_by, AreBy}
+use Rattle.shared_replica.specs.Passes.{call_of, same_actor, calls_by, AreBy}
 use Rattle.session_run.specs.Calls.{Stage, ActsHere, MayCall, AreCalls, actions_of, sends_of, commands_by}
 use Rattle.session_run.proofs.SameCommands.{same_commands}
 use Rattle.session_report.specs.Journal.{Entries, IsLegal, asked}

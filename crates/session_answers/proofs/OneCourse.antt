@@ -1,5 +1,5 @@
 -- A session without meetings takes one course: whatever its legal journals are, each replica takes the same edits.
-use Rattle.std.proofs.Common.{◌≡◌, ℕ, zero, suc, ◌+◌, ◌<◌, ◌≤◌, Bool, ◌==◌, cond, List, [], ◌∷◌, ◌++◌, length, slice_get, Some, refl, sym, ap, subst, ◌∙◌, arith, append_assoc, append-nil}
+use Rattle.std.proofs.Common.{◌≡◌, ℕ, suc, ◌+◌, ◌<◌, ◌≤◌, ◌==◌, cond, List, [], ◌∷◌, ◌++◌, length, slice_get, Some, refl, sym, ap, subst, ◌∙◌, arith, append_assoc, append-nil}
 use Rattle.std.specs.List.{AllByRecursion}
 use Rattle.std.proofs.lemmas.Option.{slice_get_within}
 use Rattle.grove_edits.specs.declared.edit.Edit.{Edit}
@@ -18,7 +18,7 @@ use Rattle.session_run.specs.Run.{CanRun}
 use Rattle.session_run.proofs.OfSessions.{block_can_run}
 use Rattle.session_report.specs.Journal.{Entries, IsLegal, edits_of}
 use Rattle.session_report.specs.Taken.{Journals, entries_at, taken}
-use Rattle.session_report.specs.Legal.{next_block, stage_at, AreSources, IsLegalAt, AreLegal}
+use Rattle.session_report.specs.Legal.{next_block, stage_at, AreSources, AreLegal}
 use Rattle.session_report.specs.Alone.{IsWithoutMeetings}
 use Rattle.session_answers.proofs.MoreItems.{taken_load, taken_block, taken_show}
 use Rattle.session_answers.proofs.OneActor.{one_legal_journal}

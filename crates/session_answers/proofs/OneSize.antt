@@ -1,5 +1,5 @@
 -- A size has one summary.
-use Rattle.std.proofs.Common.{◌≡◌, ℕ, ◌≤◌, List, refl, sym, ap, subst, ◌∙◌, arith}
+use Rattle.std.proofs.Common.{◌≡◌, ℕ, ◌≤◌, List, subst, arith}
 use Rattle.session_script.specs.declared.session.Session.{Session}
 use Rattle.session_script.specs.Session.{Spells}
 use Rattle.session_script.proofs.OneSession.{one_session}

@@ -1,14 +1,12 @@
 -- A replica that ran a block has a journal of plans, and has taken its edits.
-use Rattle.std.proofs.Common.{◌≡◌, ℕ, ◌<◌, Bool, true, cond, List, [], ◌∷◌, ◌++◌, length, refl, sym, ap, subst, ◌∙◌, append_assoc, append-nil}
+use Rattle.std.proofs.Common.{◌≡◌, ℕ, List, [], ◌∷◌, ◌++◌, refl, sym, ap, subst, ◌∙◌, append_assoc, append-nil}
 use Rattle.std.specs.List.{AllByRecursion}
 use Rattle.edge_lattice.proofs.States.{Absent-state_join}
-use Rattle.grove_edits.specs.declared.edge.Edge.{Edge}
 use Rattle.grove_edits.specs.declared.edit.Edit.{Edit}
 use Rattle.grove_edits.specs.declared.action.Action.{Action}
 use Rattle.grove_edits.specs.declared.actor.Actor.{Actor}
-use Rattle.grove_edits.specs.declared.actor.Actor.TheVariants.{Host, Author, Send}
+use Rattle.grove_edits.specs.declared.actor.Actor.TheVariants.{Author, Send}
 use Rattle.grove_edits.specs.declared.answer.Answer.{Answer}
-use Rattle.grove_edits.specs.declared.answer.Answer.TheVariants.{Taken}
 use Rattle.grove_edits.specs.declared.command.Command.{Command}
 use Rattle.grove_edits.specs.declared.command.Command.TheVariants.{Act, Take}
 use Rattle.grove_edits.specs.Graph.{Graph, graph, IsSame}

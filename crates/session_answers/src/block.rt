@@ -38,12 +38,7 @@ pub(crate) fn run_on_boards<R: Threads + Wait + Sync, G: Gate>(
 {
     let lists = sources_of(alloc, &replicas)?;
     let sources = lists.as_slice();
-    let (boards, seats) = boards_of(
-        alloc,
-        sources,
-        session.authors.as_slice(),
-        block.lines.as_slice(),
-    )?;
+    let (boards, seats) = boards_of(alloc, sources, &session.authors, block.lines.as_slice())?;
     let mut cuts = cuts_on(alloc, sources, &boards, seats)?;
     let ran = run_block(
         rt,

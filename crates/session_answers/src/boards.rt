@@ -1,12 +1,10 @@
 //! The boards of a block: one for each replica that opens with edges, on which its authors raise the slots of those that they cut.
-ghost use Rattle.std.specs.Prelude.{◌≡◌, ℕ, ◌≤◌, [], length, map, slice_get, Some, None, IfOk};
-ghost use Rattle.std.specs.List.{AllZip, list_any};
+ghost use Rattle.std.specs.Prelude.{◌≡◌, ◌≤◌, [], map, Some, None, IfOk};
+ghost use Rattle.std.specs.List.{AllZip};
 ghost use Rattle.std.specs.Option.{option_map};
 ghost use Rattle.edge_board.specs.Seats.{first_board_seat};
 ghost use Rattle.author_desk.specs.Cuts.{opening_edits, seat_of};
-ghost use Rattle.grove_edits.specs.Edit.{edit_kind};
 ghost use Rattle.grove_edits.specs.Graph.{state_of};
-ghost use Rattle.session_run.specs.Boards.{is_line_of, is_at_work};
 ghost use Rattle.session_answers.specs.Boards.{states_of as are_states_of, parts_at as all_parts_at, IsBoardFor, AreBoards, board_of as board_under, IsWholeSeat};
 
 use crate::no_memory::NoMemory;
@@ -14,14 +12,15 @@ use author_desk::Cuts;
 use edge_board::{Board, BoardSeat};
 use edge_lattice::State;
 use grove_edits::{Edit, EditKind, EditList};
-use session_script::{Declared, Line};
+use session_run::authors_at_work;
+use session_script::{AuthorList, Line};
 use std::alloc::Global;
 
 /// The boards of replicas that open with these lists, each with its first seat.
 pub(crate) fn boards_of(
     alloc: Global,
     sources: &[EditList],
-    authors: &[Declared],
+    authors: &AuthorList,
     lines: &[Line],
 ) -> Result<(Vec<Option<Board>>, Vec<Option<BoardSeat>>), NoMemory>
     ensures boards { IfOk result (λ made. AreBoards authors.now lines.now sources.now made.0.items) }
@@ -78,37 +77,12 @@ fn state_by(kind: EditKind) -> State
 }
 
 // How many parts a replica's board has: authors with lines take one each for the block, and one stays with its first seat.
-fn parts_at(authors: &[Declared], lines: &[Line], replica: u64) -> u64
+fn parts_at(authors: &AuthorList, lines: &[Line], replica: u64) -> u64
     ensures { result ≡ all_parts_at authors.now lines.now replica }
 {
-    let at_work = authors
-        .iter()
-        .filter(|declared| is_working_at(declared, replica, lines))
-        .count();
-    at_work as u64 + 1
-}
-
-// Whether an author acts on a replica, and has a line.
-fn is_working_at(declared: &Declared, replica: u64, lines: &[Line]) -> bool
-    ensures { result ≡ is_at_work lines.now replica declared.now }
-{
-    declared.replica == replica && has_line(lines, declared.author)
-}
-
-// Whether an author has a line.
-fn has_line(lines: &[Line], author: u32) -> bool
-    ensures { result ≡ list_any (is_line_of author) lines.now }
-{
-    lines.iter().any(|line| is_author_line(line, author))
-}
-
-fn is_author_line(line: &Line, of: u32) -> bool
-    ensures { result ≡ is_line_of of line.now }
-{
-    match *line {
-        Line::Author { author, .. } => author == of,
-        Line::Send(_) => false,
-    }
+    // At most all authors are at work, and a slice has so few items that one more fits.
+    let _authors = authors.as_slice();
+    authors_at_work(authors, lines, replica) as u64 + 1
 }
 
 /// The cuts of replicas that open with these lists, at their boards.

@@ -103,19 +103,6 @@ workers_at_work replica lines (d ∷ authors) (l ∷ all) workers are (inr works
     let all_of = ap length works.5 in
     omega (arith, rest, sum, is, all_of)
 
--- at most all are at work
-pub few_at_work : (authors : List Declared) (lines : List Line) (replica : ℕ) → authors_at_work authors lines replica ≤ length authors
-few_at_work [] lines replica = omega arith
-few_at_work (d ∷ authors) lines replica =
-    let rest = few_at_work authors lines replica in
-    let sum = sum_by-cons (λ (e : Declared). cond (is_at_work lines replica e) 1 0) d authors in
-    let one = at_most_one (is_at_work lines replica d) in
-    omega (arith, rest, sum, one)
-  where
-    at_most_one : (b : Bool) → cond b 1 0 ≤ 1
-    at_most_one true = omega arith
-    at_most_one false = omega arith
-
 pub fits_plan : (stage : Stage) (plan : Plan) (cuts : Cuts) → AreLinesOf stage.authors stage.lines plan.lines.now → CanCutAt stage cuts → FitsPlan plan stage.replica cuts
 fits_plan stage plan cuts are can = record {
   can_raise = can.can_raise;

@@ -4,12 +4,11 @@ ghost use Rattle.std.specs.List.{AllByRecursion};
 ghost use Rattle.grove_edits.specs.declared.command.Command.{Command};
 ghost use Rattle.grove_edits.specs.declared.answer.Answer.{Answer};
 ghost use Rattle.shared_replica.specs.declared.journal.Entry.{Entry};
-ghost use Rattle.session_script.specs.declared.author.Declared.{Declared};
 ghost use Rattle.session_script.specs.Session.{AllDiffer, author_numbers};
 ghost use Rattle.author_desk.specs.declared.cuts.Cuts.{Cuts};
 ghost use Rattle.author_desk.specs.Cuts.{opening_edits, Raises, KeepsSeat};
 ghost use Rattle.session_run.specs.Boards.{CanCutAt, slots_at, TurnsStand};
-ghost use Rattle.session_run.specs.Calls.{Stage, sends_of};
+ghost use Rattle.session_run.specs.Calls.{sends_of};
 ghost use Rattle.session_run.specs.Plans.{CanRunPlan, FitsPlan, EachFits, HasRunPlan, HaveRunPlan, AppendsReplica};
 ghost use Rattle.session_run.specs.Run.{IsPlaced, CanRun, HasRun};
 

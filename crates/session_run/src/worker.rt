@@ -1,4 +1,4 @@
-ghost use Rattle.std.specs.Prelude.{◌≡◌, length, sum_by, IfSome};
+ghost use Rattle.std.specs.Prelude.{◌≡◌, sum_by, IfSome};
 ghost use Rattle.session_run.specs.Workers.{actor_of, calls_of};
 
 use crate::author_lines::AuthorLines;

@@ -1,5 +1,5 @@
 //! The calls of one worker.
-ghost use Rattle.std.specs.Prelude.{◌≡◌, ◌≤◌, List, [], length, None, IfOk, OnOk};
+ghost use Rattle.std.specs.Prelude.{◌≡◌, ◌≤◌, List, length, None, IfOk, OnOk};
 ghost use Rattle.grove_edits.specs.declared.edit.Edit.{Edit};
 ghost use Rattle.grove_edits.specs.declared.command.Command.{Command};
 ghost use Rattle.edit_text.specs.Text.{text_of};

@@ -1,17 +1,19 @@
-use Rattle.std.proofs.Common.{map, refl, sym, ap, subst, ◌∙◌, arith}
+use Rattle.std.proofs.Common.{List, map, refl, sym, ap, subst, ◌∙◌, arith}
 use Rattle.std.specs.Option.{option_map}
 use Rattle.std.specs.List.{AllByRecursion}
 use Rattle.grove_edits.specs.Graph.{Ascends}
 use Rattle.edge_board.specs.Seats.{first_board_seat}
+use Rattle.session_script.specs.declared.line.Line.{Line}
 use Rattle.session_run.proofs.OfSessions.{sends_counted}
+use Rattle.session_answers.specs.Boards.{AreBoards}
 use Rattle.session_answers.specs.Running.{sources_of, stage_of}
-use Rattle.session_answers.proofs.OnBoards.{all_empty_without, boards_along, can_cut, all_whole_among}
+use Rattle.session_answers.proofs.OnBoards.{all_empty_without, can_cut, all_whole_among}
 use Rattle.session_answers.proofs.Steps.{have_run}
 use Rattle.session_answers.proofs.block.run_on_boards.Goals as goal
 
 pub cuts_on-requires-clause-boards : goal.cuts_on-requires-clause-boards
 cuts_on-requires-clause-boards g c =
-    all_empty_without c.as_slice.result.now c.as_slice-2.result.now c.as_slice-sources.result.now c.in_ok-boards.boards.items c.deref-2.result.now c.deref-2.ensures.value c.in_ok-boards.ensures.boards
+    all_empty_without c.args.session.now.authors c.as_slice.result.now c.as_slice-sources.result.now c.in_ok-boards.boards.items c.deref-2.result.now c.deref-2.ensures.value c.in_ok-boards.ensures.boards
 
 pub cuts_on-requires-clause-seats : goal.cuts_on-requires-clause-seats
 cuts_on-requires-clause-seats g c = c.in_ok-boards.ensures.seats ∙ ap (map (option_map first_board_seat)) (sym c.deref-2.ensures.value)
@@ -23,8 +25,7 @@ pub run_block-requires-clause-boards : goal.run_block-requires-clause-boards
 run_block-requires-clause-boards g c κs within = λ replica own is.
     can_cut (stage_of c.args.session.now c.args.block.now c.args.first_send c.as_slice-sources.result.now replica) c.in_ok-boards.boards.items c.in_ok-cuts.cuts.items
     (subst (AllByRecursion Ascends) (sym c.as_slice-sources.ensures.value) c.in_ok-lists.ensures.ascend)
-    (boards_along c.as_slice.result.now c.args.session.now.authors c.as_slice-2.result.now c.args.block.now.lines c.as_slice-sources.result.now c.in_ok-boards.boards.items c.as_slice.ensures c.as_slice-2.ensures
-    c.in_ok-boards.ensures.boards)
+    (subst (λ (lines : List Line). AreBoards c.args.session.now.authors lines c.as_slice-sources.result.now c.in_ok-boards.boards.items) c.as_slice.ensures c.in_ok-boards.ensures.boards)
     c.in_ok-cuts.ensures.opening (c.in_ok-cuts.ensures.boards ∙ c.deref-2.ensures.value) (c.in_ok-cuts.ensures.seats ∙ c.in_ok-boards.ensures.seats) own is
 
 pub close_all-requires : goal.close_all-requires

@@ -1,4 +1,4 @@
-use Rattle.std.proofs.Common.{◌≡◌, ◌+◌, ◌≤◌, ◌<◌, arith}
+use Rattle.std.proofs.Common.{arith}
 use Rattle.session_answers.proofs.Numbers.{fit_more, fit_none}
 use Rattle.session_answers.proofs.counting.can_number.Goals as goal
 

@@ -1,4 +1,4 @@
-use Rattle.std.proofs.Common.{[], ◌∷◌, ◌++◌, length, arith, length-append}
+use Rattle.std.proofs.Common.{[], ◌∷◌, arith, length-append}
 use Rattle.session_answers.proofs.Steps.{kept_more}
 use Rattle.session_answers.proofs.replicas.append_journals.Goals as goal
 

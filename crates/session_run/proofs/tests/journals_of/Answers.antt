@@ -1,13 +1,13 @@
 use Rattle.std.proofs.Common.{◌≡◌, List, [], ◌∷◌, Some, ℕ, zero, suc, drop, slice_get, length, sym, ap, subst, ◌∙◌, arith, rules}
 use Rattle.std.specs.List.{AllByRecursion}
 use Rattle.std.specs.Option.{option_map}
+use Rattle.std.proofs.lemmas.List.Sums.{count_by-le-length}
 use Rattle.std.proofs.lemmas.Option.{same_Some, none-some, slice_get-map}
 use Rattle.session_script.specs.declared.item.Item.{Item}
 use Rattle.session_script.specs.declared.item.Item.TheVariants.{Block}
 use Rattle.author_desk.specs.Cuts.{opening_edits, CanRaise, HasPartsFor}
-use Rattle.session_run.specs.Boards.{authors_at_work}
+use Rattle.session_run.specs.Boards.{is_at_work, authors_at_work}
 use Rattle.session_run.specs.Run.{CanRun}
-use Rattle.session_run.proofs.AtReplica.{few_at_work}
 use Rattle.session_run.proofs.Seats.{fewer_parts}
 use Rattle.session_run.proofs.OfSessions.{few_numbers, block_can_run}
 use Rattle.session_run.proofs.tests.journals_of.Goals as goal
@@ -26,7 +26,7 @@ run_block-requires-clause-boards g c κs within = λ replica own is.
     let can = at_index (λ cuts. CanRaise cuts × HasPartsFor 2 cuts) c.args.cuts.now.items replica own c.requires.boards is in
     let authors = c.args.session.now.authors in
     let lines = c.in-Some-Block.block.lines in
-    let few = few_at_work authors lines replica in
+    let few = count_by-le-length (is_at_work lines replica) authors in
     let two = c.requires.authors in
     let opening = ap (λ zs. slice_get zs replica) (sym c.requires.openings) ∙ slice_get-map opening_edits c.args.cuts.now.items replica ∙ ap (option_map opening_edits) is in
     record { opening = opening; can_raise = can.0; parts = fewer_parts own (authors_at_work authors lines replica) 2 (omega arith) can.1 }

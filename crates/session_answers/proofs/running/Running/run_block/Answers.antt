@@ -1,6 +1,6 @@
-use Rattle.std.proofs.Common.{◌≡◌, ◌+◌, ◌++◌, List, map, refl, ap, subst, ◌∙◌}
+use Rattle.std.proofs.Common.{◌+◌, ◌++◌, List, refl, ap, subst, ◌∙◌}
 use Rattle.session_report.specs.Report.{block_heading, journals_text}
-use Rattle.replica_core.specs.Content.{Content, with_block}
+use Rattle.replica_core.specs.Content.{Content}
 use Rattle.session_answers.specs.Running.{HaveRun}
 use Rattle.session_answers.proofs.running.Running.run_block.Goals as goal
 
