@@ -1,0 +1,14 @@
+use Rattle.std.proofs.Common.{subst, ◌∙◌}
+use Rattle.grove_edits.specs.Graph.{graph}
+use Rattle.user_actions.specs.Plan.{IsPlan}
+use Rattle.replica_core.specs.Content.{Content}
+use Rattle.replica_core.proofs.PlansTold.{refused_stays}
+use Rattle.replica_core.proofs.marked.MarkedReplica.act.Goals as goal
+
+pub returns-clause-refused : goal.returns-clause-refused
+returns-clause-refused g c = λ fault is.
+    let told = refused_stays c.args.self.now c.args.author c.args.action.now c.in_ok-edits.edits c.in_ok-edits.answer fault
+    (subst (λ (content : Content). IsPlan (graph content.edits) content.opening c.args.author c.args.action.now c.in_ok-edits.edits c.in_ok-edits.answer) c.replica.ensures
+    c.in_ok-edits.ensures.plan)
+    is in
+    (told.0, c.in_ok-apply_all.ensures.taken ∙ told.1)
