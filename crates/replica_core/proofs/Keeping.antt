@@ -1,5 +1,6 @@
 -- What is seen of a kept graph and opening edges.
 use Rattle.std.proofs.Common.{◌≡◌, ◌≢◌, ℕ, Bool, true, false, cond, List, [], map, is_none, refl, sym, ap, subst, ◌∙◌}
+use Rattle.std.specs.Prelude.{Result, Ok, Err, OnErr}
 use Rattle.edge_lattice.specs.declared.state.State.TheVariants.{Absent}
 use Rattle.grove_edits.specs.declared.edge.Edge.{Edge}
 use Rattle.grove_edits.specs.declared.edit.Edit.{Edit}
@@ -26,6 +27,10 @@ use Rattle.replica_core.proofs.WithEdits.{graph-with_edits}
 use Rattle.replica_core.proofs.StoredLists.{ascends-edits_among, stored_is}
 use Rattle.replica_core.proofs.Standing.{stands_along}
 use Rattle.replica_core.proofs.Contents.{content_empty, content_taken, content_opened}
+
+pub after_error : {T E P : Type 0} (r : Result T E) → P → OnErr r P
+after_error (Ok x) p = tt
+after_error (Err e) p = p
 
 -- kept so, and seen as this content
 pub record IsSeenAs (kept : LiveGraph) (opening : List Edge) (content : Content) : Type 0 where
@@ -67,6 +72,10 @@ seen_taken before after opening edits of joined =
     (stands_along (graph_join (graph (edits_in before.store)) (graph edits)) (graph (with_taken edits (content_of before opening)).edits) after
     (λ e. sym (graph-with_edits edits (edits_in before.store) e)) (joined (graph (edits_in before.store)) of.stands))
     refl
+
+-- a store has the graph of the content that is seen of it
+pub store_seen : (kept : LiveGraph) (opening : List Edge) (content : Content) → IsKept kept opening → content_of kept opening ≡ content → IsSame (state_in kept.store) (graph content.edits)
+store_seen kept opening content of view = subst (λ (c : Content). IsSame (state_in kept.store) (graph c.edits)) view of.stands.store
 
 -- ---- what the store lists
 

@@ -6,6 +6,9 @@ pub mod PlansTold
 pub mod LiveChanges
 pub mod Rooms
 pub mod Contents
+pub mod MarkingCosts
+pub mod OneRecord
 pub mod Standing
 pub mod Keeping
+pub mod MarksTaken
 pub mod Raising

@@ -10,7 +10,9 @@ use Rattle.graph_store.specs.declared.change.Change.{Change}
 use Rattle.graph_store.specs.Change.{IsChange}
 use Rattle.graph_store.specs.Store.{Entries, state_in}
 use Rattle.edge_index.specs.Lists.{live}
+use Rattle.grove_terms.proofs.OneGrove.{one_live}
 use Rattle.user_actions.proofs.PlanLaws.{live_along}
+use Rattle.mark_incremental.specs.Raising.{AreIndexed}
 use Rattle.replica_core.specs.declared.live_graph.LiveGraph.{LiveGraph}
 use Rattle.replica_core.specs.Indexes.{live_change, changed_edges, CanChange, StandsFor}
 use Rattle.replica_core.proofs.LiveChanges.{can_change, live_changed}
@@ -31,6 +33,17 @@ stands_along g h kept same of = record {
   children = live_along g h (live kept.children) same of.children;
   parents = live_along g h (live kept.parents) same of.parents;
 }
+
+-- both indexes hold the same edges, those that are live in the store
+pub indexed : (g : Graph) (kept : LiveGraph) → StandsFor g kept → AreIndexed kept.store kept.children kept.parents
+indexed g kept of =
+    let parents = live_along g (state_in kept.store) (live kept.parents) (λ e. sym (of.store e)) of.parents in
+    record { live_edges = parents; same = one_live g (live kept.children) (live kept.parents) of.children of.parents }
+
+pub stands_indexed : (g : Graph) (kept : LiveGraph) → IsSame (state_in kept.store) g → AreIndexed kept.store kept.children kept.parents → StandsFor g kept
+stands_indexed g kept same of =
+    let parents = live_along (state_in kept.store) g (live kept.parents) same of.live_edges in
+    record { store = same; children = subst (AreLive g) (sym of.same) parents; parents = parents }
 
 -- what stands for a graph stands for that of its store
 pub stands_itself : (g : Graph) (kept : LiveGraph) → StandsFor g kept → StandsFor (state_in kept.store) kept

@@ -6,5 +6,6 @@ pub mod Lists
 pub mod Step
 pub mod Cost
 pub mod Calls
+pub mod MarkingCost
 pub mod Indexes
 pub mod Kept

@@ -50,6 +50,12 @@ impl From<parent_index::NoMemory> for NoMemory {
     }
 }
 
+impl From<mark_incremental::NoMemory> for NoMemory {
+    fn from(_error: mark_incremental::NoMemory) -> NoMemory {
+        NoMemory
+    }
+}
+
 impl From<user_actions::NoMemory> for NoMemory {
     fn from(_error: user_actions::NoMemory) -> NoMemory {
         NoMemory

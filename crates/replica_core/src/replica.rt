@@ -4,15 +4,18 @@ ghost use Rattle.grove_edits.specs.Edit.{edit_edge};
 ghost use Rattle.grove_edits.specs.Graph.{graph, IsCanonical};
 ghost use Rattle.user_actions.specs.Plan.{IsPlan};
 ghost use Rattle.grove_answers.specs.Texts.{IsPrintText, IsCanonicalText};
+ghost use Rattle.mark_incremental.specs.Standing.{StandFor};
 ghost use Rattle.replica_core.specs.Content.{IsContent, no_edits, with_taken, with_block};
 ghost use Rattle.replica_core.specs.Plain.{as_edits};
 ghost use Rattle.replica_core.specs.Step.{plan_of};
 ghost use Rattle.replica_core.specs.Cost.{edit_cost, edits_cost};
+ghost use Rattle.replica_core.specs.MarkingCost.{edits_marking_cost};
 
 use crate::live_graph::LiveGraph;
 use crate::no_memory::NoMemory;
 use grove_answers::{append_canonical_text, print_text};
 use grove_edits::{Action, Answer, Edge, Edit, EditList};
+use mark_incremental::Marks;
 use seeded_hash::HashSeed;
 use std::alloc::Global;
 use std::marker::Model;
@@ -151,8 +154,8 @@ impl Replica {
         Ok(())
     }
 
-    // The edits of an action and what is answered, before any of them is taken.
-    fn planned(
+    /// The edits of an action and what is answered, before any of them is taken.
+    pub(crate) fn planned(
         &self,
         alloc: Global,
         author: u32,
@@ -174,6 +177,30 @@ impl Replica {
             Err(PlanFault::Refused(fault)) => Ok((EditList::new(alloc), Answer::Refused(fault))),
             Err(PlanFault::NoMemory) => Err(NoMemory),
         }
+    }
+
+    /// Takes edits, all of them or none, and renews marks that stand for the graph.
+    pub(crate) fn take_marked<L: Ledger>(
+        &mut self,
+        edits: &[Edit],
+        marks: &mut Marks,
+        steps: &mut Steps<L>,
+    ) -> Result<(), NoMemory>
+        requires { StandFor (graph self.old.edits) marks.old }
+        ensures taken { OnOk result (self.new ≡ with_taken edits.now self.old) }
+        ensures unchanged { OnErr result (self.new ≡ self.old) }
+        ensures stand { StandFor (graph self.new.edits) marks.new }
+        ensures bounded { steps.new ≤ steps.old + edits_marking_cost self.old edits.now }
+    {
+        let graph = &mut self.graph;
+        marks.apply_all(
+            edits,
+            &mut graph.store,
+            &mut graph.children,
+            &mut graph.parents,
+            steps,
+        )?;
+        Ok(())
     }
 
     // Takes edits, whose edges these are. Room for all is made before the first is raised, so that want of memory leaves none.

@@ -1,15 +1,10 @@
 use Rattle.std.proofs.Common.{ap, ◌∙◌}
-use Rattle.std.specs.Prelude.{Result, Ok, Err, OnErr}
 use Rattle.grove_edits.specs.Graph.{graph}
 use Rattle.replica_core.specs.Content.{with_taken}
 use Rattle.replica_core.specs.Stored.{edits_in}
-use Rattle.replica_core.proofs.Keeping.{seen_unchanged, seen_taken}
+use Rattle.replica_core.proofs.Keeping.{after_error, seen_unchanged, seen_taken}
 use Rattle.replica_core.proofs.Standing.{stands_itself}
 use Rattle.replica_core.proofs.replica.Replica.take.Goals as goal
-
-after_error : {T E P : Type 0} (r : Result T E) → P → OnErr r P
-after_error (Ok x) p = tt
-after_error (Err e) p = p
 
 pub invariant_of-self : goal.invariant_of-self
 invariant_of-self c = (seen_unchanged c.self.inside.graph c.reserve_for.new.self c.self.inside.opening c.self.invariant c.reserve_for.ensures.unchanged).invariant

@@ -1,0 +1,193 @@
+ghost use Rattle.std.specs.Prelude.{◌≡◌, ◌<◌};
+
+use super::*;
+use edit_text::read_line;
+use grove_edits::{Action, Actor, Answer, Bytes, Command, EditList};
+use grove_sorts::Version;
+use mark_step::Mark;
+use shared_replica::Machine;
+use std::alloc::Global;
+use std::marker::Brand;
+use std::sync::ledger::{Blank, Ledger};
+use std::test::Fail;
+use walks::Steps;
+
+const SUM: [&str; 3] = [
+    "+1.2 0.0 root main 1.1 plus",
+    "+1.4 1.1 plus left 1.3 num:1",
+    "+1.6 1.1 plus right 1.5 true",
+];
+
+// The replica after it took the edits of lines.
+fn after_counting<L: Ledger>(
+    alloc: Global,
+    mut marked: MarkedReplica,
+    lines: &[&str],
+    blank: Blank,
+) -> Result<MarkedReplica, Fail>
+    requires name { blank.name ≡ L.name }
+    requires parts { blank.parts ≡ L.parts }
+    requires some { 0 < blank.parts }
+{
+    let mut steps = Steps::<L>::new(blank);
+    for line in lines {
+        let edit = read_line(Version::One, line.as_bytes())?;
+        marked.apply(alloc, &edit, &mut steps)?;
+    }
+    Ok(marked)
+}
+
+fn after(alloc: Global, marked: MarkedReplica, lines: &[&str]) -> Result<MarkedReplica, Fail> {
+    after_counting::<Brand>(alloc, marked, lines, Blank::new(1))
+}
+
+// A replica that took the edits of these lines before its block opened.
+fn opened(alloc: Global, lines: &[&str]) -> Result<MarkedReplica, Fail> {
+    let mut marked = after(alloc, MarkedReplica::new(alloc)?, lines)?;
+    marked.begin_block(alloc)?;
+    Ok(marked)
+}
+
+// The mark that a replica keeps of the vertex to which the edge of a line leads.
+fn mark_at(marked: &mut MarkedReplica, line: &str) -> Result<Option<Mark>, Fail> {
+    let edge = read_line(Version::One, line.as_bytes())?.edge();
+    Ok(marked.kept(&edge.target).map(|record| record.mark))
+}
+
+fn mark_in(mut marked: MarkedReplica, line: &str) -> Result<Option<Mark>, Fail> {
+    mark_at(&mut marked, line)
+}
+
+// The mark that is kept once the edits of lines are taken, the last of them in a block that opened before.
+fn mark_after(alloc: Global, lines: &[&str], last: &str, line: &str) -> Result<Option<Mark>, Fail> {
+    mark_in(after(alloc, opened(alloc, lines)?, &[last])?, line)
+}
+
+#[test]
+fn a_mark_goes_as_its_fault_is_mended(rt: HostRuntime) -> Result<(), Fail> {
+    let wrong = mark_after(rt.alloc(), &SUM, SUM[0], SUM[2])?;
+    let cut = "-1.6 1.1 plus right 1.5 true";
+    let mended = mark_after(rt.alloc(), &SUM, cut, SUM[2])?;
+    assert_eq!(rt; wrong, Some(Mark::Inconsistent));
+    assert_eq!(rt; mended, Some(Mark::None));
+    Ok(())
+}
+
+#[test]
+fn replicas_keep_the_same_marks(rt: HostRuntime) -> Result<(), Fail> {
+    let turned = [SUM[2], SUM[0], SUM[2]];
+    let sum = mark_after(rt.alloc(), &turned, SUM[1], SUM[0])?;
+    let wrong = mark_after(rt.alloc(), &turned, SUM[1], SUM[2])?;
+    assert_eq!(rt; sum, Some(Mark::None));
+    assert_eq!(rt; wrong, Some(Mark::Inconsistent));
+    Ok(())
+}
+
+// What is answered to an action of the first author.
+fn answer_counting<L: Ledger>(
+    alloc: Global,
+    marked: &mut MarkedReplica,
+    action: &Action,
+    blank: Blank,
+) -> Result<Answer, Fail>
+    requires name { blank.name ≡ L.name }
+    requires parts { blank.parts ≡ L.parts }
+    requires some { 0 < blank.parts }
+{
+    let mut steps = Steps::<L>::new(blank);
+    let (_edits, answer) = marked.act(alloc, 1, action, &mut steps)?;
+    Ok(answer)
+}
+
+// What is answered to a cut of the edge of a line, and the mark of its target then.
+fn mark_once_cut(
+    alloc: Global,
+    mut marked: MarkedReplica,
+    line: &str,
+) -> Result<(Answer, Option<Mark>), Fail> {
+    let cut = Action::Cut {
+        edge: read_line(Version::One, line.as_bytes())?.edge().name,
+    };
+    let answer = answer_counting::<Brand>(alloc, &mut marked, &cut, Blank::new(1))?;
+    Ok((answer, mark_at(&mut marked, line)?))
+}
+
+#[test]
+fn what_an_action_leaves_is_marked(rt: HostRuntime) -> Result<(), Fail> {
+    let (answer, mark) = mark_once_cut(rt.alloc(), opened(rt.alloc(), &SUM)?, SUM[2])?;
+    assert_eq!(rt; answer, Answer::Done);
+    assert_eq!(rt; mark, Some(Mark::None));
+    Ok(())
+}
+
+// Whether the record of the target of the edge of a line has the type of numbers, in the scope of no name.
+fn is_number(marked: &MarkedReplica, line: &str) -> Result<bool, Fail> {
+    let edge = read_line(Version::One, line.as_bytes())?.edge();
+    let Some(record) = marked.kept(&edge.target) else {
+        return Ok(false);
+    };
+    let in_no_scope = record.ctx == marked.contexts().empty();
+    Ok(in_no_scope && record.typ == Some(marked.types().num()))
+}
+
+#[test]
+fn a_sum_is_a_number(rt: HostRuntime) -> Result<(), Fail> {
+    let marked = opened(rt.alloc(), &SUM)?;
+    assert!(rt; is_number(&marked, SUM[0])?);
+    Ok(())
+}
+
+// The edits of these lines.
+fn edits_of(alloc: Global, lines: &[&str]) -> Result<EditList, Fail> {
+    let mut edits = EditList::new(alloc);
+    for line in lines {
+        edits.push(read_line(Version::One, line.as_bytes())?)?;
+    }
+    Ok(edits)
+}
+
+// The answer to edits that a send brings.
+fn sent_counting<L: Ledger>(
+    alloc: Global,
+    marked: &mut MarkedReplica,
+    edits: EditList,
+    blank: Blank,
+) -> Result<Answer, Fail>
+    requires name { blank.name ≡ L.name }
+    requires parts { blank.parts ≡ L.parts }
+    requires some { 0 < blank.parts }
+{
+    let mut steps = Steps::<L>::new(blank);
+    let command = Command::Take {
+        piece: 1,
+        bytes: Bytes::of(Vec::new(alloc)),
+        edits,
+    };
+    let (_edits, answer) = marked.step(alloc, Actor::Send(1), &command, &mut steps)?;
+    Ok(answer)
+}
+
+// The answer to edits that a send brings, and the canonical text then.
+fn text_once_sent(
+    alloc: Global,
+    mut marked: MarkedReplica,
+    edits: EditList,
+) -> Result<(Answer, Vec<u8>), Fail> {
+    let answer = sent_counting::<Brand>(alloc, &mut marked, edits, Blank::new(1))?;
+    let mut text = Vec::new(alloc);
+    marked.replica().canonical(alloc, &mut text)?;
+    Ok((answer, text))
+}
+
+#[test]
+fn a_step_takes_edits(rt: HostRuntime) -> Result<(), Fail> {
+    let alloc = rt.alloc();
+    let edits = edits_of(alloc, &[SUM[0], SUM[2]])?;
+    let (answer, text) = text_once_sent(alloc, MarkedReplica::new(alloc)?, edits)?;
+    assert_eq!(rt; answer, Answer::Taken { edits: 2 });
+    assert_eq!(rt;
+        text.as_slice(),
+        b"+1.2 0.0 root main 1.1 plus\n+1.6 1.1 plus right 1.5 true\n".as_slice()
+    );
+    Ok(())
+}
