@@ -120,23 +120,6 @@ fn what_an_action_leaves_is_marked(rt: HostRuntime) -> Result<(), Fail> {
     Ok(())
 }
 
-// Whether the record of the target of the edge of a line has the type of numbers, in the scope of no name.
-fn is_number(marked: &MarkedReplica, line: &str) -> Result<bool, Fail> {
-    let edge = read_line(Version::One, line.as_bytes())?.edge();
-    let Some(record) = marked.kept(&edge.target) else {
-        return Ok(false);
-    };
-    let in_no_scope = record.ctx == marked.contexts().empty();
-    Ok(in_no_scope && record.typ == Some(marked.types().num()))
-}
-
-#[test]
-fn a_sum_is_a_number(rt: HostRuntime) -> Result<(), Fail> {
-    let marked = opened(rt.alloc(), &SUM)?;
-    assert!(rt; is_number(&marked, SUM[0])?);
-    Ok(())
-}
-
 // The edits of these lines.
 fn edits_of(alloc: Global, lines: &[&str]) -> Result<EditList, Fail> {
     let mut edits = EditList::new(alloc);
