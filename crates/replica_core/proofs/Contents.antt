@@ -1,25 +1,20 @@
 -- What calls make of the contents of a replica.
-use Rattle.std.proofs.Common.{◌≡◌, ◌≢◌, true, List, [], ◌∷◌, ◌++◌, refl, sym, ap, subst, ◌∙◌}
-use Rattle.edge_lattice.specs.declared.state.State.{State}
-use Rattle.edge_lattice.specs.declared.state.State.TheVariants.{Absent, Live, Deleted}
-use Rattle.edge_lattice.specs.State.{state_join}
+use Rattle.std.proofs.Common.{◌≡◌, List, [], ◌∷◌, ◌++◌, refl, sym, ap, subst, ◌∙◌}
 use Rattle.edge_lattice.proofs.States.{Absent-state_join}
 use Rattle.grove_edits.specs.declared.edit.Edit.{Edit}
-use Rattle.grove_edits.specs.declared.actor.Actor.{Actor}
 use Rattle.grove_edits.specs.declared.answer.Answer.{Answer}
 use Rattle.grove_edits.specs.declared.command.Command.{Command}
-use Rattle.grove_edits.specs.Edit.{edit_edge}
 use Rattle.grove_edits.specs.Graph.{graph, graph_join, IsSame, Ascends, IsCanonical, HasSameEdits}
-use Rattle.grove_edits.proofs.Graphs.{graph-append, graph-same_edits}
+use Rattle.grove_edits.proofs.Graphs.{graph-same_edits}
 use Rattle.grove_edits.proofs.Unique.{canonical_once}
-use Rattle.user_actions.proofs.Openings.{edges_in_order, canonical_present}
+use Rattle.user_actions.proofs.Openings.{canonical_present}
 use Rattle.user_actions.proofs.PlainGraphs.{both_absent}
 use Rattle.shared_replica.specs.declared.journal.Entry.{Entry}
 use Rattle.shared_replica.specs.Replays.{machine_after, AreSteps}
 use Rattle.replica_core.specs.Canonical.{with_edits}
 use Rattle.replica_core.specs.Content.{Content, IsContent, no_edits, with_taken, with_block}
 use Rattle.replica_core.specs.Step.{after, effect, reply}
-use Rattle.replica_core.specs.Calls.{Call, Opens, Takes, after_call, after_calls, edits_of_call, edits_of_calls, edits_of_entries}
+use Rattle.replica_core.specs.Calls.{Call, Opens, Takes, after_calls, edits_of_calls, edits_of_entries}
 use Rattle.replica_core.proofs.WithEdits.{graph-with_edits, ascends-with_edits, canonical_itself, with_edits-append}
 
 -- ---- what holds of each replica

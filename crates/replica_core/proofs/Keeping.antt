@@ -1,5 +1,5 @@
 -- What is seen of a kept graph and opening edges.
-use Rattle.std.proofs.Common.{◌≡◌, ◌≢◌, ℕ, Bool, true, false, cond, List, [], map, is_none, refl, sym, ap, subst, ◌∙◌}
+use Rattle.std.proofs.Common.{◌≡◌, ℕ, Bool, true, false, cond, List, [], map, is_none, refl, sym, ap, subst, ◌∙◌}
 use Rattle.std.specs.Prelude.{Result, Ok, Err, OnErr}
 use Rattle.edge_lattice.specs.declared.state.State.TheVariants.{Absent}
 use Rattle.grove_edits.specs.declared.edge.Edge.{Edge}
@@ -13,7 +13,6 @@ use Rattle.grove_edits.proofs.Graphs.{unnamed}
 use Rattle.grove_edits.proofs.Unique.{canonical_once}
 use Rattle.walks.specs.Live.{IsInEdgeOrder, holds_edge}
 use Rattle.graph_store.specs.Store.{Entries, state_in, well_formed}
-use Rattle.user_actions.specs.Good.{AreOpening}
 use Rattle.user_actions.specs.Lists.{ArePresent}
 use Rattle.user_actions.specs.Plan.{IsPlan}
 use Rattle.user_actions.proofs.OnePlan.{one_present, plan_along}

@@ -1,6 +1,6 @@
 -- The live edges after an edit was raised.
-use Rattle.std.proofs.Common.{◌≡◌, ◌<◌, ◌≤◌, Bool, true, false, cond, List, [], ◌∷◌, refl, sym, ap, subst, ◌∙◌, arith}
-use Rattle.std.specs.Prelude.{◌||◌, ◌&&◌, not, filter}
+use Rattle.std.proofs.Common.{◌≡◌, Bool, true, false, cond, List, [], ◌∷◌, refl, sym, ap, ◌∙◌, arith}
+use Rattle.std.specs.Prelude.{◌||◌, ◌&&◌, not}
 use Rattle.edge_lattice.specs.declared.state.State.{State}
 use Rattle.edge_lattice.specs.declared.state.State.TheVariants.{Absent, Live, Deleted}
 use Rattle.edge_lattice.specs.State.{state_join}
@@ -17,7 +17,6 @@ use Rattle.walks.specs.Whole.{AreLive}
 use Rattle.graph_store.specs.declared.change.Change.{Change}
 use Rattle.graph_store.specs.declared.change.Change.TheVariants.{Same, Raised}
 use Rattle.graph_store.specs.Change.{IsChange}
-use Rattle.edge_index.specs.Ordered.{with_edge, without_edge}
 use Rattle.edge_index.proofs.Ordered.{holds-with_edge, holds-filter, in_order-with_edge, in_order-filter}
 use Rattle.user_actions.specs.NamedEdges.{is_live}
 use Rattle.user_actions.proofs.SomeLists.{live_from_test}

@@ -1,5 +1,5 @@
 -- Marks that stand for a graph keep what marking it says, so those of one graph keep the same.
-use Rattle.std.proofs.Common.{◌≡◌, List, sym, subst, ◌∙◌}
+use Rattle.std.proofs.Common.{◌≡◌, List, subst}
 use Rattle.grove_edits.specs.declared.vertex.Vertex.{Vertex}
 use Rattle.grove_edits.specs.declared.edge.Edge.{Edge}
 use Rattle.grove_edits.specs.declared.edit.Edit.{Edit}
@@ -10,7 +10,7 @@ use Rattle.kept_records.specs.Kept.{AreKept}
 use Rattle.kept_records.proofs.Edited.{one_record}
 use Rattle.kept_records.proofs.OneSize.{same_graph, live_along, kept_along}
 use Rattle.mark_incremental.specs.Standing.{KeptMarks, StandFor, records_in}
-use Rattle.replica_core.specs.Content.{Content, no_edits}
+use Rattle.replica_core.specs.Content.{no_edits}
 use Rattle.replica_core.specs.Calls.{Call, after_calls, edits_of_calls}
 use Rattle.replica_core.proofs.Contents.{calls_canonical, same_calls}
 

@@ -1,7 +1,6 @@
 -- The plan on the graph of a canonical list, as a function of the list.
-use Rattle.std.proofs.Common.{◌≡◌, ℕ, ◌<◌, ◌^◌, cond, List, [], map, refl, sym, ap, subst, ◌∙◌}
+use Rattle.std.proofs.Common.{◌≡◌, ℕ, ◌<◌, ◌^◌, cond, List, [], refl, sym, ap, subst, ◌∙◌}
 use Rattle.std.proofs.lemmas.Bool.{lt-ltb}
-use Rattle.grove_edits.specs.declared.edge.Edge.{Edge}
 use Rattle.grove_edits.specs.declared.edit.Edit.{Edit}
 use Rattle.grove_edits.specs.declared.act_fault.ActFault.{ActFault}
 use Rattle.grove_edits.specs.declared.action.Action.{Action}
@@ -9,9 +8,8 @@ use Rattle.grove_edits.specs.declared.actor.Actor.TheVariants.{Author}
 use Rattle.grove_edits.specs.declared.answer.Answer.{Answer}
 use Rattle.grove_edits.specs.declared.answer.Answer.TheVariants.{Refused}
 use Rattle.grove_edits.specs.declared.command.Command.TheVariants.{Act}
-use Rattle.grove_edits.specs.Graph.{graph, Ascends}
+use Rattle.grove_edits.specs.Graph.{graph}
 use Rattle.user_actions.specs.Good.{HasLiteralInRange}
-use Rattle.user_actions.specs.PlainEdits.{plain}
 use Rattle.user_actions.specs.Plan.{Planned, plan, IsPlan}
 use Rattle.user_actions.proofs.OnePlan.{one_lists, refusal_has_none}
 use Rattle.user_actions.proofs.SomePlan.{some_plan}

@@ -1,7 +1,6 @@
 -- A store and its indexes stand for a graph.
-use Rattle.std.proofs.Common.{◌≡◌, List, [], ◌∷◌, refl, sym, ap, subst, ◌∙◌}
+use Rattle.std.proofs.Common.{◌≡◌, [], ◌∷◌, sym, ap, subst, ◌∙◌}
 use Rattle.edge_lattice.specs.State.{state_join}
-use Rattle.grove_edits.specs.declared.edge.Edge.{Edge}
 use Rattle.grove_edits.specs.declared.edit.Edit.{Edit}
 use Rattle.grove_edits.specs.Edit.{edit_edge, edit_kind}
 use Rattle.grove_edits.specs.Graph.{Graph, graph, graph_join, state_of, IsSame}

@@ -1,5 +1,5 @@
 -- The canonical list of a store's graph.
-use Rattle.std.proofs.Common.{◌≡◌, ◌≢◌, Bool, true, false, cond, List, [], ◌∷◌, map, refl, sym, ap, subst, ◌∙◌}
+use Rattle.std.proofs.Common.{◌≡◌, ◌≢◌, Bool, true, false, cond, List, [], ◌∷◌, map, refl, sym, ap, ◌∙◌}
 use Rattle.std.specs.Prelude.{◌||◌, Option, None, Some}
 use Rattle.edge_lattice.specs.declared.state.State.{State}
 use Rattle.edge_lattice.specs.declared.state.State.TheVariants.{Absent, Live, Deleted}
@@ -10,7 +10,7 @@ use Rattle.grove_edits.specs.declared.edit.Edit.{Edit}
 use Rattle.grove_edits.specs.declared.edit.EditKind.{EditKind}
 use Rattle.grove_edits.specs.declared.edit.EditKind.TheVariants.{Insert, Delete}
 use Rattle.grove_edits.specs.Edge.{IsWellFormed, EdgeInRange}
-use Rattle.grove_edits.specs.Edit.{edit_edge, edit_kind}
+use Rattle.grove_edits.specs.Edit.{edit_kind}
 use Rattle.grove_edits.specs.Graph.{Graph, graph, state_of, is_same_edge, IsSame, Ascends, IsCanonical}
 use Rattle.grove_edits.proofs.Graphs.{asked}
 use Rattle.grove_edits.proofs.Orders.{one_edge}

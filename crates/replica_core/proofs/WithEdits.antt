@@ -14,10 +14,9 @@ use Rattle.grove_edits.specs.declared.edit.EditKind.{EditKind}
 use Rattle.grove_edits.specs.declared.edit.EditKind.TheVariants.{Insert, Delete}
 use Rattle.grove_edits.specs.Edge.{edge_cmp}
 use Rattle.grove_edits.specs.Edit.{edit_edge, edit_kind}
-use Rattle.grove_edits.specs.Graph.{Graph, graph, graph_join, state_of, is_same_edge, IsSame, Ascends, IsCanonical}
+use Rattle.grove_edits.specs.Graph.{Graph, graph, graph_join, state_of, is_same_edge, Ascends, IsCanonical}
 use Rattle.grove_edits.proofs.Graphs.{asked}
 use Rattle.grove_edits.proofs.Orders.{edge_cmp_exact}
-use Rattle.grove_edits.proofs.Unique.{canonical_once}
 use Rattle.walks.specs.Live.{IsInEdgeOrder}
 use Rattle.edge_index.specs.Ordered.{put_before, with_edge}
 use Rattle.edge_index.proofs.Ordered.{in_order-with_edge}

@@ -1,7 +1,6 @@
 -- Calls of a replica, one after the other.
 use Rattle.std.specs.Prelude.{List, [], ◌∷◌, ◌++◌}
 use Rattle.grove_edits.specs.declared.edit.Edit.{Edit}
-use Rattle.grove_edits.specs.declared.actor.Actor.{Actor}
 use Rattle.grove_edits.specs.declared.answer.Answer.{Answer}
 use Rattle.grove_edits.specs.declared.command.Command.{Command}
 use Rattle.shared_replica.specs.declared.journal.Entry.{Entry}

@@ -3,6 +3,7 @@ ghost use Rattle.std.specs.Prelude.{◌≡◌, ◌<◌};
 use super::*;
 use edit_text::read_line;
 use grove_edits::{Action, Actor, Answer, Bytes, Command, EditList};
+use grove_names::Name;
 use grove_sorts::Version;
 use mark_step::Mark;
 use shared_replica::Machine;
@@ -83,57 +84,37 @@ fn replicas_keep_the_same_marks(rt: HostRuntime) -> Result<(), Fail> {
     Ok(())
 }
 
-// What is answered to an action of the first author.
-fn answer_counting<L: Ledger>(
+// The replica after an action of the first author.
+fn acted_counting<L: Ledger>(
     alloc: Global,
-    marked: &mut MarkedReplica,
+    mut marked: MarkedReplica,
     action: &Action,
     blank: Blank,
-) -> Result<Answer, Fail>
+) -> Result<MarkedReplica, Fail>
     requires name { blank.name ≡ L.name }
     requires parts { blank.parts ≡ L.parts }
     requires some { 0 < blank.parts }
 {
     let mut steps = Steps::<L>::new(blank);
-    let (_edits, answer) = marked.act(alloc, 1, action, &mut steps)?;
-    Ok(answer)
+    let (_edits, _answer) = marked.act(alloc, 1, action, &mut steps)?;
+    Ok(marked)
 }
 
-// What is answered to a cut of the edge of a line, and the mark of its target then.
-fn mark_once_cut(
-    alloc: Global,
-    mut marked: MarkedReplica,
-    line: &str,
-) -> Result<(Answer, Option<Mark>), Fail> {
-    let cut = Action::Cut {
-        edge: read_line(Version::One, line.as_bytes())?.edge().name,
-    };
-    let answer = answer_counting::<Brand>(alloc, &mut marked, &cut, Blank::new(1))?;
-    Ok((answer, mark_at(&mut marked, line)?))
+fn acted(alloc: Global, marked: MarkedReplica, action: &Action) -> Result<MarkedReplica, Fail> {
+    acted_counting::<Brand>(alloc, marked, action, Blank::new(1))
 }
 
 #[test]
 fn what_an_action_leaves_is_marked(rt: HostRuntime) -> Result<(), Fail> {
-    let (answer, mark) = mark_once_cut(rt.alloc(), opened(rt.alloc(), &SUM)?, SUM[2])?;
-    assert_eq!(rt; answer, Answer::Done);
-    assert_eq!(rt; mark, Some(Mark::None));
-    Ok(())
-}
-
-// Whether the record of the target of the edge of a line has the type of numbers, in the scope of no name.
-fn is_number(marked: &MarkedReplica, line: &str) -> Result<bool, Fail> {
-    let edge = read_line(Version::One, line.as_bytes())?.edge();
-    let Some(record) = marked.kept(&edge.target) else {
-        return Ok(false);
+    let cut = Action::Cut {
+        edge: Name {
+            author: 1,
+            counter: 6,
+        },
     };
-    let in_no_scope = record.ctx == marked.contexts().empty();
-    Ok(in_no_scope && record.typ == Some(marked.types().num()))
-}
-
-#[test]
-fn a_sum_is_a_number(rt: HostRuntime) -> Result<(), Fail> {
-    let marked = opened(rt.alloc(), &SUM)?;
-    assert!(rt; is_number(&marked, SUM[0])?);
+    let mended = acted(rt.alloc(), opened(rt.alloc(), &SUM)?, &cut)?;
+    let mark = mark_in(mended, SUM[2])?;
+    assert_eq!(rt; mark, Some(Mark::None));
     Ok(())
 }
 

@@ -1,4 +1,3 @@
-use Rattle.replica_core.specs.Content.{IsContent}
 use Rattle.replica_core.proofs.ListsOf.{lists_are}
 use Rattle.replica_core.proofs.PlansTold.{step_is_plan}
 use Rattle.replica_core.proofs.laws.an_authors_step_is_the_plan.Goals as goal

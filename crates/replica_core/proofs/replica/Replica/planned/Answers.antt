@@ -1,4 +1,4 @@
-use Rattle.std.proofs.Common.{List, [], ap, sym, subst, ◌∙◌}
+use Rattle.std.proofs.Common.{List, [], sym, subst, ◌∙◌}
 use Rattle.grove_edits.specs.declared.edit.Edit.{Edit}
 use Rattle.grove_edits.specs.declared.answer.Answer.TheVariants.{Refused}
 use Rattle.grove_edits.specs.Graph.{graph}

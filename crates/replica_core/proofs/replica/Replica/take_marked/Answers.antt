@@ -1,5 +1,4 @@
 use Rattle.std.proofs.Common.{ap, ◌∙◌}
-use Rattle.grove_edits.specs.Graph.{graph}
 use Rattle.graph_store.specs.Store.{state_in}
 use Rattle.replica_core.specs.Content.{with_taken}
 use Rattle.replica_core.specs.Kept.{content_of}
