@@ -84,6 +84,13 @@ fn replicas_keep_the_same_marks(rt: HostRuntime) -> Result<(), Fail> {
     Ok(())
 }
 
+#[test]
+fn nothing_is_kept_of_what_is_no_vertex(rt: HostRuntime) -> Result<(), Fail> {
+    let none = mark_after(rt.alloc(), &SUM, SUM[1], "+9.8 0.0 root main 9.9 true")?;
+    assert_eq!(rt; none, None);
+    Ok(())
+}
+
 // The replica after an action of the first author.
 fn acted_counting<L: Ledger>(
     alloc: Global,
