@@ -15,7 +15,6 @@ use Rattle.grove_terms.specs.Forest.{Forest, StandsUnder}
 use Rattle.mark_step.specs.Expression.{Demanded}
 use Rattle.kept_records.specs.Kept.{Kept, Records, alone, kept_of, expression_of, demanded_at}
 use Rattle.kept_records.specs.Local.{typ_in, kept_demand}
-use Rattle.kept_records.specs.Change.{is_on_walks}
 use Rattle.kept_records.specs.Renewal.{MakesUnder, IsLeft}
 
 -- what is made where a vertex is judged again of which this is demanded: the records under it, and then its own
@@ -37,12 +36,11 @@ abbrev pub LeadsUp : List Edge → Vertex → List Vertex → Vertex → Type 0
 LeadsUp live v [] top = v ≡ top
 LeadsUp live v (w ∷ ws) top = (class live v ≡ Inner) × (above live v ≡ Some w) × LeadsUp live w ws top
 
--- The vertices that are judged again whatever is demanded of them: the way up from the source, and what was no vertex before. All of
--- them stand on the walks from the ends of the edge.
-pub record IsJudgedAnew (e : Edge) (before after : Graph) (old new : List Edge) (way : List Vertex) (on : Vertex → Bool) : Type 0 where
+-- The vertices that are judged again whatever is demanded of them: those on the way up from the source, and what was no vertex before.
+pub record IsJudgedAnew (e : Edge) (before after : Graph) (way : List Vertex) (on : Vertex → Bool) : Type 0 where
   pub way_on : (v : Vertex) → stands_in v (e.source ∷ way) ≡ true → on v ≡ true
   pub came_on : (v : Vertex) → IsVertexOf after v → (IsVertexOf before v → ⊥) → on v ≡ true
-  pub on_walks : (v : Vertex) → on v ≡ true → is_on_walks e old new v ≡ true
+  pub no_other : (v : Vertex) → on v ≡ true → (stands_in v (e.source ∷ way) ≡ true) ⊎ (IsVertexOf after v × (IsVertexOf before v → ⊥))
 
 -- What is made for the target where it heads a tree: nothing where it stands on the way, or has what it had.
 pub data MakesTarget (e : Edge) (new : List Edge) (records : Records) (way : List Vertex) (on : Vertex → Bool) (made : List (Vertex × Kept)) : Type 0 where
@@ -57,7 +55,7 @@ pub data MakesTarget (e : Edge) (new : List Edge) (records : Records) (way : Lis
 pub record IsShortWalk (e : Edge) (before after : Graph) (old new : List Edge) (records : Records) (way : List Vertex) (top : Vertex) (on : Vertex → Bool) (made : List (Vertex × Kept)) : Type 0 where
   pub alone_sees : SourceAloneSees e old new
   pub leads : LeadsUp new e.source way top
-  pub anew : IsJudgedAnew e before after old new way on
+  pub anew : IsJudgedAnew e before after way on
   pub target : List (Vertex × Kept)
   pub makes_target : MakesTarget e new records way on target
   pub own : List (Vertex × Kept)
