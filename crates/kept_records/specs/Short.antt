@@ -25,11 +25,13 @@ pub record MakesFrom (on : Vertex → Bool) (new : List Edge) (records : Records
   pub made_are : made ≡ inner ++ (start, kept_of start forest d) ∷ []
   pub under : MakesUnder on records (demanded_at (expression_of start forest d) forest) forest inner
 
--- no vertex but the source of the edge sees its target in another class after the edit
+-- No vertex but the source of the edge sees that its target is of another class after the edit: no live edge comes or goes, or the target
+-- heads a tree as before, or each parent edge that it has or had is from the source.
 abbrev pub SourceAloneSees : Edge → List Edge → List Edge → Type 0
 SourceAloneSees e old new =
-    (class old e.target ≡ class new e.target)
-    ⊎ ((d : Edge) → (holds_edge d old ≡ true) ⊎ (holds_edge d new ≡ true) → d.target ≡ e.target → d.source ≡ e.source)
+    (old ≡ new)
+    ⊎ (((class old e.target ≡ class new e.target) × (class new e.target ≡ Inner → ⊥))
+    ⊎ ((d : Edge) → (holds_edge d old ≡ true) ⊎ (holds_edge d new ≡ true) → d.target ≡ e.target → d.source ≡ e.source))
 
 -- from a vertex one comes up to the last of some others, each above the one before it in the tree of the same head
 abbrev pub LeadsUp : List Edge → Vertex → List Vertex → Vertex → Type 0
