@@ -5,6 +5,7 @@ pub mod Steps
 pub mod Stack
 pub mod Ticks
 pub mod Paid
+pub mod ShortWalks
 pub mod NearCost
 pub mod WalksUp
 pub mod Raised

@@ -40,7 +40,7 @@ use Rattle.mark_incremental.proofs.Steps.{are_left, edges_left, child_agrees, ch
 one_more : {X : Type 0} (live : List Edge) (made : List (Vertex × X)) (m : Vertex × X) → weight_of live (made ++ m ∷ []) ≡ weight_of live made + weight live m.0
 one_more live made m = sum_by-append (λ n. weight live n.0) made (m ∷ []) ∙ ap (λ w. weight_of live made + w) (sum_by-cons (λ n. weight live n.0) m [] ∙ add-zero (weight live m.0))
 
-joined : {X : Type 0} (live : List Edge) (a b : List (Vertex × X)) → weight_of live (a ++ b) ≡ weight_of live a + weight_of live b
+pub joined : {X : Type 0} (live : List Edge) (a b : List (Vertex × X)) → weight_of live (a ++ b) ≡ weight_of live a + weight_of live b
 joined live a b = sum_by-append (λ n. weight live n.0) a b
 
 pub meant_weighs : (live : List Edge) (types : List Typ) (ctxs : List Context) (made : List (Vertex × Record)) → weight_of live (meant types ctxs made) ≡ weight_of live made

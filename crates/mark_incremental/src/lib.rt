@@ -16,7 +16,9 @@ mod renewal;
 mod replacing;
 mod rooting;
 mod settling;
+mod short;
 mod walks_up;
+mod way;
 
 pub use applying::{Applied, OldRecords};
 pub use marks::Marks;
