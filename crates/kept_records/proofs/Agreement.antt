@@ -205,6 +205,13 @@ type_made_alike TProd a b same sort = ap (λ t. typ.Pair Product t (a Right)) (s
 type_made_alike TSum a b same sort = ap (λ t. typ.Pair Sum t (a Right)) (same Left refl) ∙ ap (typ.Pair Sum (b Left)) (same Right refl)
 type_made_alike _ a b same sort = refl
 
+-- the types at all positions make the type
+pub type_made_any : (c : Ctor) (a b : Position → Typ) → ((p : Position) → a p ≡ b p) → type_made c a ≡ type_made c b
+type_made_any TArrow a b same = ap (λ t. typ.Pair Arrow t (a Cod)) (same Dom) ∙ ap (typ.Pair Arrow (b Dom)) (same Cod)
+type_made_any TProd a b same = ap (λ t. typ.Pair Product t (a Right)) (same Left) ∙ ap (typ.Pair Product (b Left)) (same Right)
+type_made_any TSum a b same = ap (λ t. typ.Pair Sum t (a Right)) (same Left) ∙ ap (typ.Pair Sum (b Left)) (same Right)
+type_made_any _ a b same = refl
+
 -- ---- at one vertex
 
 some_sort : (s t : Sort) → Some s ≡ Some t → s ≡ t

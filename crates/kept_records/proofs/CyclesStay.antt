@@ -92,6 +92,33 @@ cycles_stay e old new change off_old off_new v = by_tests (is_cycle_root old v) 
   by_tests false true is_a is_b = absurd (clash (is_cycle_root old v) (root_stays e new old (change_back e old new change) v is_b off_new) is_a)
   by_tests false false is_a is_b = is_a ∙ sym is_b
 
+-- a vertex that nothing is above is on no cycle
+pub headed_off_cycle : (live : List Edge) (v : Vertex) → above live v ≡ None → is_on_cycle live v ≡ false
+headed_off_cycle live v ends = by_test (is_on_cycle live v) refl where
+  by_test : (b : Bool) → is_on_cycle live v ≡ b → is_on_cycle live v ≡ false
+  by_test true on = absurd (never_none live v (walk_len live v - 1) (returns live v (back_from_cycle live v on)) 1 ends)
+  by_test false off = off
+
+-- nor is one that stands below another alone, and not above it
+pub off_cycle_by_source : (live : List Edge) (s v : Vertex) → ((w : Vertex) → above live v ≡ Some w → w ≡ s) → stands_in v (walk live s) ≡ false → is_on_cycle live v ≡ false
+off_cycle_by_source live s v below off = by_test (is_on_cycle live v) (above live v) refl refl where
+  by_test : (b : Bool) (o : Option Vertex) → is_on_cycle live v ≡ b → above live v ≡ o → is_on_cycle live v ≡ false
+  by_test true None on up = absurd (never_none live v (walk_len live v - 1) (returns live v (back_from_cycle live v on)) 1 up)
+  by_test true (Some w) on up =
+      let there = leads_back live v s (back_from_cycle live v on) (1, up ∙ ap Some (below w up)) in
+      absurd (clash (stands_in v (walk live s)) (leads_from_reaches live s v (there.0, there.2)) off)
+  by_test false o off_cycle up = off_cycle
+
+-- a walk that does not pass the target of the edge is the same in both graphs
+pub walk_past : (e : Edge) (old new : List Edge) → Changes e old new → (v : Vertex) → stands_in e.target (walk old v) ≡ false → walk old v ≡ walk new v
+walk_past e old new change v off = walk_alike old new v alike where
+  other : (x : Vertex) → stands_in x (walk old v) ≡ true → (b : Bool) → is_same_vertex e.target x ≡ b → is_same_vertex e.target x ≡ false
+  other x there true one = absurd (clash (stands_in e.target (walk old v)) (ap (λ z. stands_in z (walk old v)) (same_vertex_exact e.target x one) ∙ there) off)
+  other x there false differs = differs
+
+  alike : AlikeOn old new (walk old v)
+  alike x there = above_stays e old new change x (other x there (is_same_vertex e.target x) refl)
+
 -- where the target was on a cycle and is on none, the root of its cycle is one no more
 pub cycle_ends : (e : Edge) (old new : List Edge) → Changes e old new → is_on_cycle old e.target ≡ true → is_on_cycle new e.target ≡ false → CyclesStay old new → ⊥
 cycle_ends e old new change on off stay = by_above (above old t.top) refl where

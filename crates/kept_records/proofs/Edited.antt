@@ -161,13 +161,13 @@ module _ (edits : List Edit) (edit : Edit) (old new : List Edge) (live_old : Are
   present_new : (x : Edge) → holds_edge x new ≡ true → graph (edit ∷ edits) x ≢ Absent
   present_new x held = live_present (graph (edit ∷ edits) x) (live_new.no_other x held)
 
-  on_vertex : (v : Vertex) → is_on_walks (edit_edge edit) old new v ≡ true → IsVertexOf (graph (edit ∷ edits)) v
+  pub on_vertex : (v : Vertex) → is_on_walks (edit_edge edit) old new v ≡ true → IsVertexOf (graph (edit ∷ edits)) v
   on_vertex = on_walks_vertex (edit_edge edit) old new (graph (edit ∷ edits)) there present_old present_new
 
-  well_old : AllByRecursion IsWellFormed old
+  pub well_old : AllByRecursion IsWellFormed old
   well_old = live_well_formed edits old live_old
 
-  well_new : AllByRecursion IsWellFormed new
+  pub well_new : AllByRecursion IsWellFormed new
   well_new = live_well_formed (edit ∷ edits) new live_new
 
   -- ---- there is a walk, and a list of the vertices near
@@ -225,7 +225,7 @@ module _ (edits : List Edit) (edit : Edit) (old new : List Edge) (live_old : Are
         (changed edits edit old new live_old live_new) stay well_old live_old (vertex_was edits edit old new)
 
     pub made_once : StandOnce (names made)
-    made_once = (once_of new live_new.in_order well_new (edit_edge edit) old records heads are_heads.once (λ v stands. (are_heads.no_other v stands).0) made makes).once_each
+    made_once = (once_of new live_new.in_order well_new (is_on_walks (edit_edge edit) old new) records heads are_heads.once (λ v stands. (are_heads.no_other v stands).0) made makes).once_each
 
     -- what the vertices weigh that were judged again is within the size of the edit
     pub made_within : (near : List Vertex) → AreNear (edit_edge edit) old new near → sum_by (weight old new) (names made) ≤ near_size old new near

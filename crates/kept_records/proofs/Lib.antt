@@ -5,6 +5,7 @@ pub mod Agreement
 pub mod Scratch
 pub mod Edits
 pub mod OnWalks
+pub mod Off
 pub mod Staying
 pub mod Near
 pub mod Apart
@@ -16,6 +17,7 @@ pub mod Sizes
 pub mod Balanced
 pub mod Names
 pub mod Once
+pub mod Made
 pub mod Renewal
 pub mod Other
 pub mod Decided
@@ -30,5 +32,13 @@ pub mod Cost
 pub mod OneSize
 pub mod SoFar
 pub mod InTree
+pub mod Alike
+pub mod Line
+pub mod Along
+pub mod Frame
+pub mod Starting
+pub mod OffLine
+pub mod Nearby
+pub mod Short
 mod AllMade
 pub mod Before

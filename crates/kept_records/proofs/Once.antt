@@ -67,7 +67,7 @@ total_held d (x ∷ xs) held = by_test (is_same_edge x d) refl held (total_held 
   by_test false other h rest = let later = rest h in omega (arith, later)
 
 -- no edge stands among those after it
-abbrev EdgesOnce : List Edge → Type 0
+abbrev pub EdgesOnce : List Edge → Type 0
 EdgesOnce [] = Unit {0}
 EdgesOnce (e ∷ es) = (holds_edge e es ≡ false) × EdgesOnce es
 
@@ -82,7 +82,7 @@ edges_once (e ∷ es) few = (by_test (holds_edge e es) refl, edges_once es (λ d
       absurd (omega (arith, all, here, again))
   by_test false other = other
 
-under_once : (live : List Edge) → IsInEdgeOrder live → AllByRecursion IsWellFormed live → (v : Vertex) → EdgesOnce (edges_under live v)
+pub under_once : (live : List Edge) → IsInEdgeOrder live → AllByRecursion IsWellFormed live → (v : Vertex) → EdgesOnce (edges_under live v)
 under_once live order well v = edges_once (edges_under live v) few where
   few : (d : Edge) → total (λ x. once (is_same_edge d x)) (edges_under live v) ≤ 1
   few d =
@@ -93,7 +93,7 @@ under_once live order well v = edges_once (edges_under live v) few where
 
 -- ---- names
 
-name_split : (w : Vertex) (xs : List (Vertex × Kept)) (m : Vertex × Kept) (ys : List (Vertex × Kept)) → has_name w (xs ++ m ∷ ys) ≡ true → (has_name w xs ≡ true) ⊎ ((m.0 ≡ w) ⊎ (has_name w ys ≡ true))
+pub name_split : (w : Vertex) (xs : List (Vertex × Kept)) (m : Vertex × Kept) (ys : List (Vertex × Kept)) → has_name w (xs ++ m ∷ ys) ≡ true → (has_name w xs ≡ true) ⊎ ((m.0 ≡ w) ⊎ (has_name w ys ≡ true))
 name_split w [] m ys h = by_test (is_same_vertex m.0 w) refl h where
   by_test : (b : Bool) → is_same_vertex m.0 w ≡ b → (b || has_name w ys) ≡ true → (has_name w [] ≡ true) ⊎ ((m.0 ≡ w) ⊎ (has_name w ys ≡ true))
   by_test true one h = inr (inl (same_vertex_exact m.0 w one))
@@ -115,7 +115,7 @@ false_from false refuted = refl
 clash : (b : Bool) → b ≡ true → b ≡ false → ⊥
 clash b is not_it = let e : true ≡ false = sym is ∙ not_it in cc
 
-once_join : (xs : List (Vertex × Kept)) (m : Vertex × Kept) (ys : List (Vertex × Kept)) → StandOnce (names xs) → StandOnce (names ys) → (has_name m.0 xs ≡ true → ⊥) → (has_name m.0 ys ≡ true → ⊥)
+pub once_join : (xs : List (Vertex × Kept)) (m : Vertex × Kept) (ys : List (Vertex × Kept)) → StandOnce (names xs) → StandOnce (names ys) → (has_name m.0 xs ≡ true → ⊥) → (has_name m.0 ys ≡ true → ⊥)
     → ((w : Vertex) → has_name w xs ≡ true → has_name w ys ≡ true → ⊥) → StandOnce (names (xs ++ m ∷ ys))
 once_join [] m ys once_x once_y out_x out_y apart = (false_from (has_name m.0 ys) out_y, once_y)
 once_join (x ∷ xs) m ys once_x once_y out_x out_y apart = (
@@ -130,7 +130,7 @@ once_join (x ∷ xs) m ys once_x once_y out_x out_y apart = (
   refuted (inr (inl one)) = out_x (or_left (is_same_vertex x.0 m.0) (has_name m.0 xs) (ap (is_same_vertex x.0) one ∙ same_vertex_itself x.0))
   refuted (inr (inr h)) = apart x.0 itself h
 
-once_append : (xs ys : List (Vertex × Kept)) → StandOnce (names xs) → StandOnce (names ys) → ((w : Vertex) → has_name w xs ≡ true → has_name w ys ≡ true → ⊥) → StandOnce (names (xs ++ ys))
+pub once_append : (xs ys : List (Vertex × Kept)) → StandOnce (names xs) → StandOnce (names ys) → ((w : Vertex) → has_name w xs ≡ true → has_name w ys ≡ true → ⊥) → StandOnce (names (xs ++ ys))
 once_append xs [] once_x once_y apart = none_behind xs once_x where
   none_behind : (zs : List (Vertex × Kept)) → StandOnce (names zs) → StandOnce (names (zs ++ []))
   none_behind [] o = tt
@@ -153,13 +153,13 @@ tail_of x y xs ys e = cc
 head_of : (x y : Vertex) (xs ys : List Vertex) → x ∷ xs ≡ y ∷ ys → x ≡ y
 head_of x y xs ys e = cc
 
-longer : (base ps : List Vertex) (t : Vertex) → base ≡ ps ++ t ∷ base → ⊥
+pub longer : (base ps : List Vertex) (t : Vertex) → base ≡ ps ++ t ∷ base → ⊥
 longer base ps t e =
     let long : length base ≡ length (ps ++ t ∷ base) = ap (λ (xs : List Vertex). length xs) e in
     let sum : length (ps ++ t ∷ base) ≡ length ps + length (t ∷ base) = length-append ps (t ∷ base) in
     omega (arith, long, sum)
 
-same_turn : (ps qs base : List Vertex) (t u : Vertex) → ps ++ t ∷ base ≡ qs ++ u ∷ base → t ≡ u
+pub same_turn : (ps qs base : List Vertex) (t u : Vertex) → ps ++ t ∷ base ≡ qs ++ u ∷ base → t ≡ u
 same_turn [] [] base t u e = head_of t u base base e
 same_turn [] (q ∷ qs) base t u e = absurd (longer base qs u (tail_of t q base (qs ++ u ∷ base) e))
 same_turn (p ∷ ps) [] base t u e = absurd (longer base ps t (sym (tail_of p u (ps ++ t ∷ base) base e)))
@@ -175,19 +175,19 @@ module _ (new : List Edge) (order : IsInEdgeOrder new) (well_new : AllByRecursio
     pub before : List Vertex
     pub chain : w ∷ above_it ≡ before ++ t ∷ base
 
-  one_turn : (w t u : Vertex) (base : List Vertex) → Passes w t base → Passes w u base → t ≡ u
+  pub one_turn : (w t u : Vertex) (base : List Vertex) → Passes w t base → Passes w u base → t ≡ u
   one_turn w t u base a b =
       let one = one_place new well_new a.above_it b.above_it w a.forest b.forest a.demanded b.demanded a.stands b.stands in
       same_turn a.before b.before base t u (sym a.chain ∙ ap (λ xs. w ∷ xs) one.above ∙ b.chain)
 
   -- a vertex does not stand below itself
-  not_below : (t : Vertex) (base : List Vertex) (f : Forest) (d : Demanded) → Stands new base t f d → (u : Vertex) → Passes t u (t ∷ base) → ⊥
+  pub not_below : (t : Vertex) (base : List Vertex) (f : Forest) (d : Demanded) → Stands new base t f d → (u : Vertex) → Passes t u (t ∷ base) → ⊥
   not_below t base f d s u a =
       let one = one_place new well_new a.above_it base t a.forest f a.demanded d a.stands s in
       longer (t ∷ base) a.before u (ap (λ xs. t ∷ xs) (sym one.above) ∙ a.chain)
 
   -- what goes up through a vertex goes up through the one above it
-  passes_on : (w t u : Vertex) (base : List Vertex) → Passes w u (t ∷ base) → Passes w t base
+  pub passes_on : (w t u : Vertex) (base : List Vertex) → Passes w u (t ∷ base) → Passes w t base
   passes_on w t u base a = record {
     above_it = a.above_it;
     forest = a.forest;
@@ -197,19 +197,19 @@ module _ (new : List Edge) (order : IsInEdgeOrder new) (well_new : AllByRecursio
     chain = a.chain ∙ sym (append_assoc a.before (u ∷ []) (t ∷ base));
   }
 
-  module _ (e : Edge) (old : List Edge) (records : Records) where
-    record PassesSome (v : Vertex) (us : List Vertex) (some : Forest) (w : Vertex) : Type 0 where
-      edge : Edge
-      below : Forest
-      is_tree : IsTreeIn some edge below
-      passes : Passes w edge.target (v ∷ us)
+  module _ (on : Vertex → Bool) (records : Records) where
+    pub record PassesSome (v : Vertex) (us : List Vertex) (some : Forest) (w : Vertex) : Type 0 where
+      pub edge : Edge
+      pub below : Forest
+      pub is_tree : IsTreeIn some edge below
+      pub passes : Passes w edge.target (v ∷ us)
 
-    record OnceUnder (v : Vertex) (us : List Vertex) (some : Forest) (made : List (Vertex × Kept)) : Type 0 where
-      once_each : StandOnce (names made)
-      pass : (w : Vertex) → has_name w made ≡ true → PassesSome v us some w
+    pub record OnceUnder (v : Vertex) (us : List Vertex) (some : Forest) (made : List (Vertex × Kept)) : Type 0 where
+      pub once_each : StandOnce (names made)
+      pub pass : (w : Vertex) → has_name w made ≡ true → PassesSome v us some w
 
-    once_under : (us : List Vertex) (v : Vertex) (f : Forest) (d : Demanded) → Stands new us v f d → (some : Forest) → ((x : Edge) (b : Forest) → IsTreeIn some x b → IsTreeIn f x b) → EdgesOnce (child_edges some)
-        → (made : List (Vertex × Kept)) → MakesUnder (is_on_walks e old new) records (demanded_at (expression_of v f d) f) some made → OnceUnder v us some made
+    pub once_under : (us : List Vertex) (v : Vertex) (f : Forest) (d : Demanded) → Stands new us v f d → (some : Forest) → ((x : Edge) (b : Forest) → IsTreeIn some x b → IsTreeIn f x b) → EdgesOnce (child_edges some)
+        → (made : List (Vertex × Kept)) → MakesUnder on records (demanded_at (expression_of v f d) f) some made → OnceUnder v us some made
     once_under us v f d s none among distinct made makes = record { once_each = subst (λ ms. StandOnce (names ms)) (sym makes) tt; pass = λ w h. absurd (clash (has_name w made) h (ap (has_name w) makes)) }
     once_under us v f d s (multi_ref x rest) among distinct made makes =
         let r = once_under us v f d s rest among distinct.1 made makes in
@@ -287,11 +287,11 @@ module _ (new : List Edge) (order : IsInEdgeOrder new) (well_new : AllByRecursio
       pub once_each : StandOnce (names made)
       pub pass : (w : Vertex) → has_name w made ≡ true → (head : Vertex) × (stands_in head heads ≡ true) × Passes w head []
 
-    pub once_of : (heads : List Vertex) → StandOnce heads → ((v : Vertex) → stands_in v heads ≡ true → class new v ≡ Inner → ⊥) → (made : List (Vertex × Kept)) → MakesTrees (is_on_walks e old new) new records heads made → OnceOf heads made
+    pub once_of : (heads : List Vertex) → StandOnce heads → ((v : Vertex) → stands_in v heads ≡ true → class new v ≡ Inner → ⊥) → (made : List (Vertex × Kept)) → MakesTrees on new records heads made → OnceOf heads made
     once_of [] distinct outer made makes = record { once_each = subst (λ ms. StandOnce (names ms)) (sym makes) tt; pass = λ w h. absurd (clash (has_name w made) h (ap (has_name w) makes)) }
     once_of (head ∷ heads) distinct outer made makes =
         joined (once_of heads distinct.1 (λ v stands. outer v (or_right (is_same_vertex head v) (stands_in v heads) stands)) makes.1 makes.4) where
-          t : MakesTree (is_on_walks e old new) new records head makes.0
+          t : MakesTree on new records head makes.0
           t = makes.3
 
           m : Vertex × Kept
@@ -345,7 +345,7 @@ module _ (new : List Edge) (order : IsInEdgeOrder new) (well_new : AllByRecursio
 
 -- ---- the vertices of walks
 
-goes_all : (P : Vertex → Type 0) (live : List Edge) → ((x w : Vertex) → above live x ≡ Some w → P w) → (passed : List Vertex) (o : Option Vertex) → ((w : Vertex) → o ≡ Some w → P w) → (xs : List Vertex) → GoesOn live passed o xs
+pub goes_all : (P : Vertex → Type 0) (live : List Edge) → ((x w : Vertex) → above live x ≡ Some w → P w) → (passed : List Vertex) (o : Option Vertex) → ((w : Vertex) → o ≡ Some w → P w) → (xs : List Vertex) → GoesOn live passed o xs
     → (v : Vertex) → stands_in v xs ≡ true → P v
 goes_all P live up passed o first [] g v stands = absurd cc
 goes_all P live up passed o first (x ∷ xs) g v stands = by_test (is_same_vertex x v) refl stands (goes_all P live up (x ∷ passed) (above live x) (up x) xs g.2 v) where
@@ -353,12 +353,12 @@ goes_all P live up passed o first (x ∷ xs) g v stands = by_test (is_same_verte
   by_test true one h later = subst P (same_vertex_exact x v one) (first x g.0)
   by_test false other h later = later h
 
-record IsSource (live : List Edge) (w : Vertex) : Type 0 where
-  edge : Edge
-  held : holds_edge edge live ≡ true
-  source : edge.source ≡ w
+pub record IsSource (live : List Edge) (w : Vertex) : Type 0 where
+  pub edge : Edge
+  pub held : holds_edge edge live ≡ true
+  pub source : edge.source ≡ w
 
-source_above : (live : List Edge) (x w : Vertex) → above live x ≡ Some w → IsSource live w
+pub source_above : (live : List Edge) (x w : Vertex) → above live x ≡ Some w → IsSource live w
 source_above live x w up = by_parents (parents_of x live) refl up where
   some_same : (a b : Vertex) → Some a ≡ Some b → a ≡ b
   some_same a b e = cc

@@ -29,7 +29,7 @@ join_absent Live = refl
 join_absent Deleted = refl
 
 -- an edge that is not the edit's keeps its state
-other_state : (edits : List Edit) (edit : Edit) (x : Edge) → is_same_edge (edit_edge edit) x ≡ false → graph (edit ∷ edits) x ≡ graph edits x
+pub other_state : (edits : List Edit) (edit : Edit) (x : Edge) → is_same_edge (edit_edge edit) x ≡ false → graph (edit ∷ edits) x ≡ graph edits x
 other_state edits edit x other = ap (λ b. state_join (cond b (state_of (edit_kind edit)) Absent) (graph edits x)) other ∙ join_absent (graph edits x)
 
 pub vertex_was : (edits : List Edit) (edit : Edit) (old new : List Edge) (v : Vertex) → IsVertexOf (graph (edit ∷ edits)) v → is_on_walks (edit_edge edit) old new v ≡ false → IsVertexOf (graph edits) v

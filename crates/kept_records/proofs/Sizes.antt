@@ -77,7 +77,7 @@ goes_once live passed o (x ∷ xs) g = step (goes_once live (x ∷ passed) _ xs 
 pub walk_once : (live : List Edge) (v : Vertex) → StandOnce (walk live v)
 walk_once live v = (goes_once live [] _ (walk live v) (walk_is live v)).0
 
-sum_of_ones : (xs : List Vertex) → sum_by (λ v. 1) xs ≡ length xs
+pub sum_of_ones : (xs : List Vertex) → sum_by (λ v. 1) xs ≡ length xs
 sum_of_ones [] = refl
 sum_of_ones (x ∷ xs) = let rest = sum_of_ones xs in let first = sum_by-cons (λ v. 1) x xs in omega (arith, rest, first)
 

@@ -50,13 +50,13 @@ module _ (live : List Edge) (well : AllByRecursion IsWellFormed live) where
       one_forest live f f' (a.edges ∙ sym b.edges) a.children b.children
 
   -- the edge to a child is the only parent edge of the child
-  edge_of_child : (u : Vertex) (us : List Vertex) (v : Vertex) (f : Forest) (d : Demanded) → (s : Stands live (u ∷ us) v f d) → parents_of v live ≡ s.3.edge ∷ []
+  pub edge_of_child : (u : Vertex) (us : List Vertex) (v : Vertex) (f : Forest) (d : Demanded) → (s : Stands live (u ∷ us) v f d) → parents_of v live ≡ s.3.edge ∷ []
   edge_of_child u us v f d s =
       let above : StandsUnder live u s.0 = stands_under live us u s.0 s.1 s.2 in
       let of : IsTreeOf live u s.3.edge = children_are_of live well u s.0 above.edges s.3.edge f s.3.is_tree in
       ap (λ w. parents_of w live) (sym s.3.target) ∙ sole_parent live s.3.edge of.held (tree_inner live s.0 above.children s.3.edge f s.3.is_tree)
 
-  source_of_child : (u : Vertex) (us : List Vertex) (v : Vertex) (f : Forest) (d : Demanded) → (s : Stands live (u ∷ us) v f d) → s.3.edge.source ≡ u
+  pub source_of_child : (u : Vertex) (us : List Vertex) (v : Vertex) (f : Forest) (d : Demanded) → (s : Stands live (u ∷ us) v f d) → s.3.edge.source ≡ u
   source_of_child u us v f d s =
       let above : StandsUnder live u s.0 = stands_under live us u s.0 s.1 s.2 in
       let of : IsTreeOf live u s.3.edge = children_are_of live well u s.0 above.edges s.3.edge f s.3.is_tree in

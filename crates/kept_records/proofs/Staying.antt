@@ -1,7 +1,6 @@
 -- After an edit that leaves the roots of cycles as they were, a vertex on none of the walks has under it what it had before.
-use Rattle.std.proofs.Common.{◌≡◌, Bool, true, false, List, [], ◌∷◌, refl, sym, ap, subst, ◌∙◌}
+use Rattle.std.proofs.Common.{◌≡◌, Bool, true, false, List, [], ◌∷◌, refl, sym, ap, ◌∙◌}
 use Rattle.std.specs.Prelude.{Some}
-use Rattle.std.specs.List.{AllByRecursion}
 use Rattle.grove_edits.specs.declared.vertex.Vertex.{Vertex}
 use Rattle.grove_edits.specs.declared.edge.Edge.{Edge}
 use Rattle.walks.specs.declared.class.Class.{Class}
@@ -11,11 +10,12 @@ use Rattle.grove_edits.specs.Vertex.{is_same_vertex}
 use Rattle.walks.specs.Walk.{only_source, above}
 use Rattle.walks.specs.Class.{class, class_by, is_cycle_root}
 use Rattle.grove_edits.proofs.Vertices.{same_vertex_exact}
-use Rattle.grove_terms.specs.Forest.{Forest, none, multi_ref, cycle_ref, tree, child_edges, edges_under, AreChildren, StandsUnder}
-use Rattle.grove_terms.proofs.InLive.{IsFrom, stands_among, target_has_parent, above_target, under_lead}
+use Rattle.grove_terms.specs.Forest.{Forest, StandsUnder}
+use Rattle.grove_terms.proofs.InLive.{stands_among, target_has_parent, above_target}
 use Rattle.kept_records.specs.Change.{Changes, CyclesStay, is_on_walks}
 use Rattle.kept_records.proofs.Children.{held_alone}
-use Rattle.kept_records.proofs.Edits.{change_back, under_stay, class_stays}
+use Rattle.kept_records.proofs.Edits.{change_back, class_stays}
+use Rattle.kept_records.proofs.Off as off
 use Rattle.kept_records.proofs.OnWalks.{on_walks_back, source_on_walks, target_on_walks, above_on_walks}
 
 one_above : (d : Edge) (ps : List Edge) (b : Bool) (c : Class) → holds_edge d ps ≡ true → class_by ps b ≡ c → (c ≡ Multi → ⊥) → only_source ps ≡ Some d.source
@@ -37,12 +37,6 @@ module _ (e : Edge) (old new : List Edge) (change : Changes e old new) where
 
   clash : (b : Bool) → b ≡ true → b ≡ false → ⊥
   clash b yes_it not_it = let e : true ≡ false = sym yes_it ∙ not_it in cc
-
-  pub not_source : (v : Vertex) → on v ≡ false → is_same_vertex e.source v ≡ false
-  not_source v off = by_test (is_same_vertex e.source v) refl where
-    by_test : (b : Bool) → is_same_vertex e.source v ≡ b → is_same_vertex e.source v ≡ false
-    by_test true same = absurd (clash (on v) (ap on (sym (same_vertex_exact e.source v same)) ∙ source_on_walks e old new) off)
-    by_test false other = other
 
   pub not_target : (v : Vertex) → on v ≡ false → is_same_vertex e.target v ≡ false
   not_target v off = by_test (is_same_vertex e.target v) refl where
@@ -75,55 +69,20 @@ module _ (e : Edge) (old new : List Edge) (change : Changes e old new) where
     by_class Cycle is = absurd (unless (λ m. let x : Cycle ≡ Multi = sym is ∙ m in cc))
     by_class Inner is = absurd (unless (λ m. let x : Inner ≡ Multi = sym is ∙ m in cc))
 
-  -- an edge in both graphs, from a vertex on none of the walks
-  record IsOff (d : Edge) : Type 0 where
-    held_old : holds_edge d old ≡ true
-    held_new : holds_edge d new ≡ true
-    off : on d.source ≡ false
-
-  all_off : (v : Vertex) (es : List Edge) → on v ≡ false → AllByRecursion (IsFrom old v) es → AllByRecursion (IsFrom new v) es → AllByRecursion IsOff es
-  all_off v [] off in_old in_new = tt
-  all_off v (d ∷ es) off in_old in_new =
-      (record { held_old = in_old.0.held; held_new = in_new.0.held; off = ap on in_new.0.source ∙ off }, all_off v es off in_old.1 in_new.1)
-
-  off_under : (v : Vertex) → on v ≡ false → AllByRecursion IsOff (edges_under new v)
-  off_under v off =
-      all_off v (edges_under new v) off
-      (subst (AllByRecursion (IsFrom old v)) (under_stay e old new change v (not_source v off)) (under_lead old v)) (under_lead new v)
-
   module _ (stay : CyclesStay old new) where
-    class_below : (d : Edge) → IsOff d → class old d.target ≡ class new d.target
-    class_below d off = by_test (is_same_vertex e.target d.target) refl where
+    seen : (d : Edge) → holds_edge d old ≡ true → holds_edge d new ≡ true → on d.source ≡ false → class old d.target ≡ class new d.target
+    seen d held_old held_new off = by_test (is_same_vertex e.target d.target) refl where
       by_test : (b : Bool) → is_same_vertex e.target d.target ≡ b → class old d.target ≡ class new d.target
       by_test true same =
           let one : d.target ≡ e.target = sym (same_vertex_exact e.target d.target same) in
-          shared_old d off.held_old one off.off ∙ sym (shared_new d off.held_new one off.off)
+          shared_old d held_old one off ∙ sym (shared_new d held_new one off)
       by_test false other = class_stays e old new change d.target other (stay d.target)
-
-    target_off : (d : Edge) → IsOff d → class new d.target ≡ Inner → on d.target ≡ false
-    target_off d off inner = by_test (on d.target) refl where
-      by_test : (b : Bool) → on d.target ≡ b → on d.target ≡ false
-      by_test true is = absurd (clash (on d.source) (above_on_walks e old new change d.target d.source is (above_target new d off.held_new inner)) off.off)
-      by_test false is = is
-
-    children_as_before : (f : Forest) → AllByRecursion IsOff (child_edges f) → AreChildren new f → AreChildren old f
-    children_as_before none off are = tt
-    children_as_before (multi_ref d rest) off are = (class_below d off.0 ∙ are.0, children_as_before rest off.1 are.1)
-    children_as_before (cycle_ref d rest) off are = (class_below d off.0 ∙ are.0, children_as_before rest off.1 are.1)
-    children_as_before (tree d below rest) off are =
-        let there = target_off d off.0 are.0 in (
-          class_below d off.0 ∙ are.0,
-          are.1 ∙ sym (under_stay e old new change d.target (not_source d.target there)),
-          children_as_before below (subst (AllByRecursion IsOff) (sym are.1) (off_under d.target there)) are.2,
-          children_as_before rest off.1 are.3,
-        )
 
     -- what stands under a vertex on none of the walks stood under it before
     pub stood_under : (v : Vertex) (f : Forest) → on v ≡ false → StandsUnder new v f → StandsUnder old v f
-    stood_under v f off stands = record {
-      edges = stands.edges ∙ sym (under_stay e old new change v (not_source v off));
-      children = children_as_before f (subst (AllByRecursion IsOff) (sym stands.edges) (off_under v off)) stands.children;
-    }
+    stood_under =
+        off.stood_under e old new change on (source_on_walks e old new)
+        (λ d held inner is. above_on_walks e old new change d.target d.source is (above_target new d held inner)) seen
 
     pub class_as_before : (v : Vertex) → on v ≡ false → class old v ≡ class new v
     class_as_before v off = class_stays e old new change v (not_target v off) (stay v)

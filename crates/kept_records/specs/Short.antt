@@ -1,7 +1,5 @@
 -- A walk down that begins near the edit, and not at the heads of trees: where it may begin, and what it makes.
-use Rattle.std.specs.Prelude.{◌≡◌, ◌⊎◌, Bool, true, false, List, [], ◌∷◌, ◌++◌, Some}
-use Rattle.grove_sorts.specs.declared.sort.Sort.TheVariants.{Exp}
-use Rattle.grove_sorts.specs.Ctor.{sort_of_ctor}
+use Rattle.std.specs.Prelude.{◌≡◌, ◌⊎◌, Bool, true, List, [], ◌∷◌, ◌++◌, Some}
 use Rattle.grove_edits.specs.declared.vertex.Vertex.{Vertex}
 use Rattle.grove_edits.specs.declared.edge.Edge.{Edge}
 use Rattle.grove_edits.specs.Graph.{Graph}

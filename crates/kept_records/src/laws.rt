@@ -1,4 +1,4 @@
-ghost use Rattle.std.specs.Prelude.{◌≡◌, ◌≤◌, ℕ, Bool, ◌+◌, ◌*◌, true, false, List, [], ◌∷◌, ◌++◌, length, sum_by, Some, None};
+ghost use Rattle.std.specs.Prelude.{◌≡◌, ◌⊎◌, ◌≤◌, ℕ, Bool, ◌+◌, ◌*◌, true, false, List, [], ◌∷◌, ◌++◌, length, sum_by, Some, None};
 ghost use Rattle.std.specs.List.{AllByRecursion};
 ghost use Rattle.grove_edits.specs.declared.edge.Edge.{Edge};
 ghost use Rattle.grove_edits.specs.declared.edit.Edit.{Edit};
@@ -8,8 +8,10 @@ ghost use Rattle.grove_edits.specs.Graph.{Graph, IsSame, graph};
 ghost use Rattle.walks.specs.declared.class.Class.TheVariants.{Inner};
 ghost use Rattle.walks.specs.Class.{class, is_cycle_root};
 ghost use Rattle.grove_edits.specs.Vertex.{stands_in};
+ghost use Rattle.grove_sorts.specs.declared.sort.Sort.TheVariants.{Top, Exp};
+ghost use Rattle.grove_sorts.specs.Ctor.{sort_of_ctor};
 ghost use Rattle.grove_sorts.specs.Position.{is_same_position};
-ghost use Rattle.walks.specs.Walk.{walk};
+ghost use Rattle.walks.specs.Walk.{above, walk};
 ghost use Rattle.walks.specs.Whole.{AreLive, IsVertexOf};
 ghost use Rattle.unicycle_roots.specs.Met.{is_on_cycle, leads_to};
 ghost use Rattle.grove_terms.specs.declared.grove.Grove.{Grove};
@@ -29,11 +31,12 @@ ghost use Rattle.mark_step.specs.Expression.{Demanded};
 ghost use Rattle.mark_step.specs.Step.{settled};
 ghost use Rattle.marking.specs.Types.{type_in, tree_type, name_in, pattern_name};
 ghost use Rattle.marking.specs.Marking.{marked_tree, judged_in, children_types};
-ghost use Rattle.kept_records.specs.Kept.{Kept, Records, AreKept, Stands, IsTreeIn, kept_of, expression_of, demanded_at};
-ghost use Rattle.kept_records.specs.Local.{AreRight};
+ghost use Rattle.kept_records.specs.Kept.{Kept, Records, AreKept, Stands, IsTreeIn, alone, kept_of, expression_of, demanded_at};
+ghost use Rattle.kept_records.specs.Local.{AreRight, kept_demand};
 ghost use Rattle.kept_records.specs.Told.{Tells};
 ghost use Rattle.kept_records.specs.Change.{is_on_walks, CyclesStay, IsAmong, trees_in, AreTouched, node_count, leaving, StandsIn, IsConcerned, IsNear, StandOnce, AreNear, weight, near_size};
 ghost use Rattle.kept_records.specs.Size.{AreNearIn, IsSize};
+ghost use Rattle.kept_records.specs.Short.{SourceAloneSees, LeadsUp, IsJudgedAnew, IsShortWalk, TypeStays};
 ghost use Rattle.kept_records.specs.Renewal.{IsLeft, HasToBeJudged, MakesUnder, AreMadeSoFar, MakesTrees, AreHeads, names, put, CoverConcerned, AreAllInTrees};
 
 /// Law: every graph of edits has records of its vertices, and only one of each.
@@ -175,6 +178,63 @@ pub fn one_walk_renews_the_records()
         → CyclesStay old new → (records : Records) → AreKept (graph edits) old records → (heads : List Vertex) → AreHeads (edit_edge edit) old new heads
         → (made : List (Vertex × Kept)) → MakesTrees (is_on_walks (edit_edge edit) old new) new records heads made
         → (near : List Vertex) → AreNear (edit_edge edit) old new near → sum_by (weight old new) (names made) ≤ near_size old new near }
+{}
+
+/// Law: after an edit of which the source of its edge alone sees what becomes of the target, and by which no vertex becomes the root of a
+/// cycle or ceases to be one, a walk down may begin at any vertex on the way up from the source: where the type at its top stays, or no
+/// vertex sees it, the records that it makes, put in place of those that were kept, are those of the new graph. Whether or not the type
+/// stays, each vertex for which one is made is near the edit and has only one, so together they weigh no more than the size of the edit.
+pub fn a_short_walk_renews_the_records()
+    ensures kept { (edits : List Edit) (edit : Edit) (old new : List Edge) → AreLive (graph edits) old → AreLive (graph (edit ∷ edits)) new
+        → CyclesStay old new → (records : Records) → AreKept (graph edits) old records → (way : List Vertex) (top : Vertex) (on : Vertex → Bool) (made : List (Vertex × Kept))
+        → (w : IsShortWalk (edit_edge edit) (graph edits) (graph (edit ∷ edits)) old new records way top on made) → TypeStays new records top w.makes_own.forest
+        → AreKept (graph (edit ∷ edits)) new (put made records) }
+    ensures near { (edits : List Edit) (edit : Edit) (old new : List Edge) → AreLive (graph edits) old → AreLive (graph (edit ∷ edits)) new
+        → CyclesStay old new → (records : Records) → AreKept (graph edits) old records → (way : List Vertex) (top : Vertex) (on : Vertex → Bool) (made : List (Vertex × Kept))
+        → IsShortWalk (edit_edge edit) (graph edits) (graph (edit ∷ edits)) old new records way top on made
+        → (v : Vertex) → stands_in v (names made) ≡ true → IsNear (edit_edge edit) old new v }
+    ensures once { (edits : List Edit) (edit : Edit) (old new : List Edge) → AreLive (graph edits) old → AreLive (graph (edit ∷ edits)) new
+        → CyclesStay old new → (records : Records) → AreKept (graph edits) old records → (way : List Vertex) (top : Vertex) (on : Vertex → Bool) (made : List (Vertex × Kept))
+        → IsShortWalk (edit_edge edit) (graph edits) (graph (edit ∷ edits)) old new records way top on made → StandOnce (names made) }
+    ensures within { (edits : List Edit) (edit : Edit) (old new : List Edge) → AreLive (graph edits) old → AreLive (graph (edit ∷ edits)) new
+        → CyclesStay old new → (records : Records) → AreKept (graph edits) old records → (way : List Vertex) (top : Vertex) (on : Vertex → Bool) (made : List (Vertex × Kept))
+        → IsShortWalk (edit_edge edit) (graph edits) (graph (edit ∷ edits)) old new records way top on made
+        → (near : List Vertex) → AreNear (edit_edge edit) old new near → sum_by (weight old new) (names made) ≤ near_size old new near }
+{}
+
+/// Law: after such an edit the same is demanded of the vertices on the way up from the source as before.
+pub fn what_is_demanded_above_an_edit_stays()
+    ensures { (edits : List Edit) (edit : Edit) (old new : List Edge) → AreLive (graph edits) old → AreLive (graph (edit ∷ edits)) new
+        → CyclesStay old new → (records : Records) → AreKept (graph edits) old records → SourceAloneSees (edit_edge edit) old new
+        → (way : List Vertex) (top : Vertex) → LeadsUp new (edit_edge edit).source way top → (above : List Vertex) (forest : Forest) (d : Demanded) → Stands new above top forest d
+        → (sort_of_ctor top.ctor ≡ Exp) ⊎ (sort_of_ctor top.ctor ≡ Top) → kept_demand records top ≡ d }
+{}
+
+/// Law: below the vertices where a short walk begins, what is left as it is has its record still.
+pub fn what_is_left_near_an_edit_keeps_its_record()
+    ensures top { (edits : List Edit) (edit : Edit) (old new : List Edge) → AreLive (graph edits) old → AreLive (graph (edit ∷ edits)) new
+        → CyclesStay old new → (records : Records) → AreKept (graph edits) old records → SourceAloneSees (edit_edge edit) old new
+        → (way : List Vertex) (top : Vertex) → LeadsUp new (edit_edge edit).source way top
+        → (on : Vertex → Bool) → IsJudgedAnew (edit_edge edit) (graph edits) (graph (edit ∷ edits)) way on
+        → (between above : List Vertex) (v : Vertex) (forest : Forest) (d : Demanded) → Stands new (between ++ top ∷ above) v forest d → IsVertexOf (graph (edit ∷ edits)) v
+        → IsLeft on records v d → records v ≡ Some (kept_of v forest d) }
+    ensures target { (edits : List Edit) (edit : Edit) (old new : List Edge) → AreLive (graph edits) old → AreLive (graph (edit ∷ edits)) new
+        → CyclesStay old new → (records : Records) → AreKept (graph edits) old records → SourceAloneSees (edit_edge edit) old new
+        → (way : List Vertex) (top : Vertex) → LeadsUp new (edit_edge edit).source way top
+        → (on : Vertex → Bool) → IsJudgedAnew (edit_edge edit) (graph edits) (graph (edit ∷ edits)) way on
+        → (class new (edit_edge edit).target ≡ Inner → ⊥) → (stands_in (edit_edge edit).target ((edit_edge edit).source ∷ way) ≡ true → ⊥) → (IsLeft on records (edit_edge edit).target alone → ⊥)
+        → (between above : List Vertex) (v : Vertex) (forest : Forest) (d : Demanded) → Stands new (between ++ (edit_edge edit).target ∷ above) v forest d → IsVertexOf (graph (edit ∷ edits)) v
+        → IsLeft on records v d → records v ≡ Some (kept_of v forest d) }
+{}
+
+/// Law: an edit leaves the roots of cycles as they were where its target is not above its source before the edit, and no other vertex
+/// is above the target before it or after it; and where none is above the target both times.
+pub fn cycles_stay_where_the_target_is_apart()
+    ensures apart { (edits : List Edit) (edit : Edit) (old new : List Edge) → AreLive (graph edits) old → AreLive (graph (edit ∷ edits)) new
+        → stands_in (edit_edge edit).target (walk old (edit_edge edit).source) ≡ false → ((u : Vertex) → above old (edit_edge edit).target ≡ Some u → u ≡ (edit_edge edit).source)
+        → ((u : Vertex) → above new (edit_edge edit).target ≡ Some u → u ≡ (edit_edge edit).source) → CyclesStay old new }
+    ensures headed { (edits : List Edit) (edit : Edit) (old new : List Edge) → AreLive (graph edits) old → AreLive (graph (edit ∷ edits)) new
+        → above old (edit_edge edit).target ≡ None → above new (edit_edge edit).target ≡ None → CyclesStay old new }
 {}
 
 /// Law: after any edit the records of all vertices of the trees whose heads the edit concerns, or came with it, put in place of those
