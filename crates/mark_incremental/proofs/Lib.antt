@@ -19,6 +19,9 @@ pub mod RootChange
 pub mod WholeTrees
 pub mod Roots
 pub mod Puts
+pub mod ShortRenewed
+pub mod ApartFrom
+pub mod AppliedOver
 pub mod Edited
 pub mod Empty
 pub mod Room

@@ -81,7 +81,7 @@ next_in P (q ∷ row) (suc n) p ps all e = next_in P row n p ps all.1 e
 some_part : {X : Type 0} (x y : X) → Some x ≡ Some y → x ≡ y
 some_part x y e = cc
 
-held_in : (p : Edge → Bool) (e : Edge) (es : List Edge) → p e ≡ true → holds_edge e es ≡ true → holds_edge e (filter p es) ≡ true
+pub held_in : (p : Edge → Bool) (e : Edge) (es : List Edge) → p e ≡ true → holds_edge e es ≡ true → holds_edge e (filter p es) ≡ true
 held_in p e [] is held = held
 held_in p e (x ∷ es) is held = by_test (is_same_edge x e) refl held (held_in p e es is) where
   keeps : (a b : Bool) → (a ≡ true → b ≡ true) → holds_edge e (filter p es) ≡ true → holds_edge e (cond b (x ∷ filter p es) (filter p es)) ≡ true
@@ -253,7 +253,7 @@ demand_kept types ctxs r = ap (λ (w : Wanted). let d : Demanded = record { scop
   by None = refl
   by (Some m) = refl
 
-kept_demand_of : (types : List Typ) (ctxs : List Context) (records : Records) (v : Vertex) (r : Record) → records v ≡ Some (kept_by types ctxs r) → kept_demand records v ≡ node.demanded_at types ctxs (demand_of r)
+pub kept_demand_of : (types : List Typ) (ctxs : List Context) (records : Records) (v : Vertex) (r : Record) → records v ≡ Some (kept_by types ctxs r) → kept_demand records v ≡ node.demanded_at types ctxs (demand_of r)
 kept_demand_of types ctxs records v r is =
     ap (λ (k : Option Kept). kept_demand (λ u. k) v) is ∙ demand_kept types ctxs r
 

@@ -1,6 +1,7 @@
 //! The marks of a live graph, kept from edit to edit.
 #![tactic(auto)]
 
+mod apart;
 mod applying;
 mod applying_all;
 mod frame;

@@ -1,15 +1,17 @@
-ghost use Rattle.std.specs.Prelude.{◌≡◌, ℕ, ◌+◌, ◌*◌, ◌≤◌, List, length, IfOk};
+ghost use Rattle.std.specs.Prelude.{◌≡◌, ◌||◌, ℕ, ◌+◌, ◌*◌, ◌≤◌, List, length, IfOk};
 ghost use Rattle.grove_edits.specs.declared.vertex.Vertex.{Vertex};
+ghost use Rattle.grove_edits.specs.Vertex.{is_same_vertex, stands_in};
 ghost use Rattle.edge_index.specs.Lists.{live};
 ghost use Rattle.kept_records.specs.Short.{LeadsUp};
-ghost use Rattle.mark_incremental.specs.Looking.{AreRoots};
+ghost use Rattle.mark_incremental.specs.Looking.{holds, AreRoots};
 ghost use Rattle.mark_incremental.specs.ShortWalks.{IsAboveInner};
 
 use crate::no_memory::NoMemory;
-use crate::walks_up::holds;
+use crate::walks_up::{enter, holds};
 use grove_edits::Vertex;
 use mark_store::VertexMap;
 use parent_index::ParentIndex;
+use seeded_hash::HashSeed;
 use std::alloc::Global;
 use std::sync::ledger::Ledger;
 use walks::{Few, ParentOf, Steps};
@@ -68,4 +70,23 @@ pub(crate) fn way_up<L: Ledger>(
         top = next;
     }
     Ok(Way { vertices, top })
+}
+
+/// A vertex with the way up from it, and one further vertex.
+pub(crate) fn judged_with(
+    alloc: Global,
+    seed: HashSeed,
+    start: &Vertex,
+    way: &[Vertex],
+    further: &Vertex,
+) -> Result<VertexMap<bool>, NoMemory>
+    ensures { IfOk result (λ set. (v : Vertex) → holds set v ≡ (stands_in v way.now || (is_same_vertex further.now v || is_same_vertex start.now v))) }
+{
+    let mut set = VertexMap::with_seed(alloc, seed);
+    enter(&mut set, start)?;
+    enter(&mut set, further)?;
+    for vertex in way {
+        enter(&mut set, vertex)?;
+    }
+    Ok(set)
 }
