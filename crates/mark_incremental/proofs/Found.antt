@@ -1,5 +1,8 @@
 -- What is found of the child of a vertex.
 use Rattle.std.proofs.Common.{◌≡◌, Bool, true, false, not, List, [], ◌∷◌, Option, Some, None, IfSome, refl, sym, ap, subst, ◌∙◌}
+use Rattle.grove_sorts.specs.declared.sort.Sort.{Sort}
+use Rattle.grove_sorts.specs.declared.sort.Sort.TheVariants.{Top, Exp, Pat, Typ as TypeSort}
+use Rattle.grove_sorts.specs.contracts.sort.SortPartialEq.TheImpl as sort_eq
 use Rattle.grove_edits.specs.declared.vertex.Vertex.{Vertex}
 use Rattle.grove_edits.specs.declared.edge.Edge.{Edge}
 use Rattle.walks.specs.declared.class.Class.{Class}
@@ -84,3 +87,10 @@ demand_numbers types ctxs r is = record { ctx = is.ctx; mode = by r.mode is.mode
 pub other_demand : (table : List Typ) (ctxs : List Context) → type_table.AreDistinct table → context_table.AreDistinct ctxs → (r : Record) (d : Demand) → IsRecordOf table ctxs r → IsDemandOf table ctxs d
     → (demand_of r ≡ d → ⊥) → demanded_at table ctxs (demand_of r) ≡ demanded_at table ctxs d → ⊥
 other_demand table ctxs distinct distinct_ctxs r d of_r of_d other same = other (one_demand table distinct ctxs distinct_ctxs (demand_of r) d (demand_numbers table ctxs r of_r) of_d same)
+
+-- the test finds the sort of expressions
+pub exp_found : (s : Sort) → true ≡ sort_eq.eq-value.it s Exp → s ≡ Exp
+exp_found Exp e = refl
+exp_found Top e = absurd cc
+exp_found Pat e = absurd cc
+exp_found TypeSort e = absurd cc

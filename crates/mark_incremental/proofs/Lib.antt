@@ -5,6 +5,7 @@ pub mod Steps
 pub mod Stack
 pub mod Ticks
 pub mod Paid
+pub mod ShortWalks
 pub mod NearCost
 pub mod WalksUp
 pub mod Raised
@@ -18,6 +19,9 @@ pub mod RootChange
 pub mod WholeTrees
 pub mod Roots
 pub mod Puts
+pub mod ShortRenewed
+pub mod ApartFrom
+pub mod AppliedOver
 pub mod Edited
 pub mod Empty
 pub mod Room

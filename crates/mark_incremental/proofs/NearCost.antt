@@ -32,7 +32,7 @@ use Rattle.mark_incremental.proofs.Renewed.{leaves_right, near_heads}
 
 module _ (edits : List Edit) (edit : Edit) (old new : List Edge) (are_old : AreLive (graph edits) old) (are_new : AreLive (graph (edit ∷ edits)) new) where
   -- the new graph alone weighs no more than both
-  lighter : (made : List (Vertex × Kept)) → weight_of new made ≤ sum_by (change.weight old new) (names made)
+  pub lighter : (made : List (Vertex × Kept)) → weight_of new made ≤ sum_by (change.weight old new) (names made)
   lighter [] = omega arith
   lighter (m ∷ ms) =
       let rest = lighter ms in

@@ -13,7 +13,7 @@ use Rattle.grove_edits.specs.declared.edge.Edge.{Edge}
 use Rattle.grove_edits.specs.Edge.{IsWellFormed}
 use Rattle.walks.specs.declared.class.Class.TheVariants.{Inner}
 use Rattle.walks.specs.Class.{class}
-use Rattle.grove_terms.specs.Forest.{Forest, none, multi_ref, cycle_ref, tree, edges_from}
+use Rattle.grove_terms.specs.Forest.{Forest, none, multi_ref, cycle_ref, tree, edges_from, StandsUnder}
 use Rattle.grove_terms.proofs.Forests.{forest_of, root_stands}
 use Rattle.type_core.specs.Typ.{Typ}
 use Rattle.ctx_table.specs.Context.{Context}
@@ -28,9 +28,10 @@ use Rattle.mark_store.specs.Places.{Places}
 use Rattle.mark_incremental.specs.declared.frame.Frame.{Frame}
 use Rattle.mark_incremental.specs.Reading.{kept_by, AreRecordsOf}
 use Rattle.mark_incremental.specs.Looking.{IsFound}
-use Rattle.mark_incremental.specs.Walking.{Level, demands, made_of, behind, Awaits, GoesOn, AreLevels, IsLevel, IsUnderWay, HasMade, meant}
-use Rattle.mark_incremental.specs.Ticks.{weight, weight_of, weight_open, places_cost, after_next, open_cost, AreCounted, IsPaid, IsPaidFor, IsTreePaid, AreTreesPaid}
+use Rattle.mark_incremental.specs.Walking.{Level, demands, made_of, behind, Awaits, GoesOn, AreLevels, IsLevel, Start, start_at, StandBelow, IsUnderWay, HasMade, meant}
+use Rattle.mark_incremental.specs.Ticks.{weight, weight_of, weight_open, places_cost, after_next, open_cost, AreCounted, IsPaid, IsPaidFor, IsWalkPaid, AreTreesPaid}
 use Rattle.mark_incremental.proofs.Tails.{BeginsWithTree, first_tree, down}
+use Rattle.mark_incremental.proofs.Trees.{as_tree}
 use Rattle.mark_incremental.proofs.Steps.{are_left, edges_left, child_agrees, child_stands_there, again, on_top}
 
 -- ---- weights
@@ -39,7 +40,7 @@ use Rattle.mark_incremental.proofs.Steps.{are_left, edges_left, child_agrees, ch
 one_more : {X : Type 0} (live : List Edge) (made : List (Vertex × X)) (m : Vertex × X) → weight_of live (made ++ m ∷ []) ≡ weight_of live made + weight live m.0
 one_more live made m = sum_by-append (λ n. weight live n.0) made (m ∷ []) ∙ ap (λ w. weight_of live made + w) (sum_by-cons (λ n. weight live n.0) m [] ∙ add-zero (weight live m.0))
 
-joined : {X : Type 0} (live : List Edge) (a b : List (Vertex × X)) → weight_of live (a ++ b) ≡ weight_of live a + weight_of live b
+pub joined : {X : Type 0} (live : List Edge) (a b : List (Vertex × X)) → weight_of live (a ++ b) ≡ weight_of live a + weight_of live b
 joined live a b = sum_by-append (λ n. weight live n.0) a b
 
 pub meant_weighs : (live : List Edge) (types : List Typ) (ctxs : List Context) (made : List (Vertex × Record)) → weight_of live (meant types ctxs made) ≡ weight_of live made
@@ -134,22 +135,21 @@ module _ (live : List Edge) (judged : Vertex → Bool) (records : Records) where
         let rest = end.within in
         record { all = end.all; done = end.done; within = omega (arith, more, rest) }
 
-  -- a walk down a tree
-  pub head_paid : (head : Vertex) → (class live head ≡ Inner → ⊥) → (before after : ℕ) → after ≤ before + places_cost live head (positions head.ctor) → IsTreePaid live judged records head before after
-  head_paid head outer before after more =
-      let f = forest_of live head in
-      let some = some_under f (demanded_at (expression_of head f alone) f) in
-      let weighs = one_more live some.made (head, kept_of head f alone) in
-      let short = row_short head.ctor in
+  -- a walk down
+  pub start_paid : (from : Start) (f : Forest) → StandsUnder live from.vertex f → (before after : ℕ) → after ≤ before + places_cost live from.vertex (positions from.vertex.ctor) → IsWalkPaid live judged records from before after
+  start_paid from f under before after more =
+      let some = some_under f (demanded_at (expression_of from.vertex f from.demanded) f) in
+      let weighs = one_more live some.made (from.vertex, kept_of from.vertex f from.demanded) in
+      let short = row_short from.vertex.ctor in
       record {
-        all = some.made ++ (head, kept_of head f alone) ∷ [];
-        makes = record { forest = f; stands = root_stands live head outer; inner = some.made; made_are = refl; under = some.makes };
+        all = some.made ++ (from.vertex, kept_of from.vertex f from.demanded) ∷ [];
+        makes = record { forest = f; stands = under; inner = some.made; made_are = refl; under = some.makes };
         within = omega (arith, weighs, short, more);
       }
 
-  -- the records of a tree behind others are those of a walk down it
-  pub tree_paid : (head : Vertex) (before : List (Vertex × Kept)) (start paid steps : ℕ) → paid ≡ 5 * weight_of live before → IsPaid live judged records head before start paid steps → IsTreePaid live judged records head start steps
-  tree_paid head before start paid steps of_before is =
+  -- the records of a walk down behind others are those of the walk
+  pub walk_paid : (from : Start) (before : List (Vertex × Kept)) (start paid steps : ℕ) → paid ≡ 5 * weight_of live before → IsPaid live judged records from before start paid steps → IsWalkPaid live judged records from start steps
+  walk_paid from before start paid steps of_before is =
       let weighs = ap (weight_of live) is.made.are ∙ joined live before is.made.own in
       let within = is.within in
       record { all = is.made.own; makes = is.made.makes; within = omega (arith, weighs, within, of_before) }
@@ -164,13 +164,13 @@ module _ (live : List Edge) (judged : Vertex → Bool) (records : Records) where
   trees_there : (heads : List Vertex) → AllByRecursion (λ v. class live v ≡ Inner → ⊥) heads → AreTreesPaid live judged records heads 0 0
   trees_there [] outer = record { all = []; makes = refl; within = omega arith }
   trees_there (v ∷ vs) outer =
-      let one = head_paid v outer.0 0 0 (omega arith) in
+      let one = start_paid (start_at v alone) (forest_of live v) (root_stands live v outer.0) 0 0 (omega arith) in
       let rest = trees_there vs outer.1 in
-      record { all = one.all ++ rest.all; makes = (one.all, rest.all, refl, one.makes, rest.makes); within = omega arith }
+      record { all = one.all ++ rest.all; makes = (one.all, rest.all, refl, as_tree live judged records v one.all one.makes, rest.makes); within = omega arith }
 
   -- some trees are walked down, and the walk down the next one is cut off
   pub trees_cut : (done rest : List Vertex) (head : Vertex) (made : List (Vertex × Kept)) (start before after : ℕ) → AllByRecursion (λ v. class live v ≡ Inner → ⊥) rest → MakesTrees judged live records done made
-      → before ≤ start + 5 * weight_of live made → IsTreePaid live judged records head before after → AreTreesPaid live judged records (done ++ head ∷ rest) start after
+      → before ≤ start + 5 * weight_of live made → IsWalkPaid live judged records (start_at head alone) before after → AreTreesPaid live judged records (done ++ head ∷ rest) start after
   trees_cut done rest head made start before after outer makes counted next =
       let others = trees_there rest outer in
       let weighs = joined live made (next.all ++ others.all) in
@@ -178,18 +178,18 @@ module _ (live : List Edge) (judged : Vertex → Bool) (records : Records) where
       let within = next.within in
       record {
         all = made ++ (next.all ++ others.all);
-        makes = joined_trees done (head ∷ rest) made (next.all ++ others.all) makes (next.all, others.all, refl, next.makes, others.makes);
+        makes = joined_trees done (head ∷ rest) made (next.all ++ others.all) makes (next.all, others.all, refl, as_tree live judged records head next.all next.makes, others.makes);
         within = omega (arith, weighs, weighs_there, within, counted);
       }
 
 -- ---- what was counted
 
-module _ (live : List Edge) (types : List Typ) (ctxs : List Context) (places : Places Record) (judged : Vertex → Bool) (head : Vertex) (before : List (Vertex × Kept)) (made : List (Vertex × Record)) (start paid count steps : ℕ) where
-  pub paid_now : (frames : List Frame) → IsUnderWay live types ctxs places judged head before frames made → AreCounted live start paid count frames made → steps ≤ count + open_cost live frames
-      → IsPaidFor live types ctxs places judged head before start paid steps
+module _ (live : List Edge) (types : List Typ) (ctxs : List Context) (places : Places Record) (judged : Vertex → Bool) (from : Start) (before : List (Vertex × Kept)) (made : List (Vertex × Record)) (start paid count steps : ℕ) where
+  pub paid_now : (frames : List Frame) → IsUnderWay live types ctxs places judged from before frames made → AreCounted live start paid count frames made → steps ≤ count + open_cost live frames
+      → IsPaidFor live types ctxs places judged from before start paid steps
   paid_now frames way counted more records reads leaves =
       let w = way records reads leaves in
-      let end = goes_end live judged records (HasMade live judged records head before) w.levels (meant types ctxs made) w.goes_on in
+      let end = goes_end live judged records (HasMade live judged records from before) w.levels (meant types ctxs made) w.goes_on in
       let same = levels_weigh live types ctxs w.levels frames w.are in
       let as_made = meant_weighs live types ctxs made in
       let within = counted.within in
@@ -197,23 +197,23 @@ module _ (live : List Edge) (types : List Typ) (ctxs : List Context) (places : P
       record { all = end.all; made = end.done; within = omega (arith, same, as_made, within, in_all, more) }
 
   -- positions of the innermost vertex that are left are begun
-  pub paid_on : (old off : List Frame) (fr : Frame) → old ≡ off ++ fr ∷ [] → IsUnderWay live types ctxs places judged head before (reverse old) made → AreCounted live start paid count (reverse old) made
-      → steps ≤ count + places_cost live fr.vertex.now (after_next fr) → IsPaidFor live types ctxs places judged head before start paid steps
+  pub paid_on : (old off : List Frame) (fr : Frame) → old ≡ off ++ fr ∷ [] → IsUnderWay live types ctxs places judged from before (reverse old) made → AreCounted live start paid count (reverse old) made
+      → steps ≤ count + places_cost live fr.vertex.now (after_next fr) → IsPaidFor live types ctxs places judged from before start paid steps
   paid_on old off fr was way counted more =
       let top : open_cost live (reverse old) ≡ open_cost live (fr ∷ reverse off) = ap (open_cost live) (on_top off old fr was) in
       paid_now (reverse old) way counted (omega (arith, top, more))
 
   -- positions of the first child that is left are begun
   pub paid_down : AllByRecursion IsWellFormed live → AreRecordsOf types ctxs places → (fr : Frame) (frames : List Frame) (e : Edge) (rest : List Edge) → fr.left.now ≡ e ∷ rest → IsFound live types ctxs places judged fr.demand e None
-      → IsUnderWay live types ctxs places judged head before (fr ∷ frames) made → AreCounted live start paid count (fr ∷ frames) made → steps ≤ count + 3 + places_cost live e.target (positions e.target.ctor)
-      → IsPaidFor live types ctxs places judged head before start paid steps
+      → IsUnderWay live types ctxs places judged from before (fr ∷ frames) made → AreCounted live start paid count (fr ∷ frames) made → steps ≤ count + 3 + places_cost live e.target (positions e.target.ctor)
+      → IsPaidFor live types ctxs places judged from before start paid steps
   paid_down well of_tables fr frames e rest first found way counted more records reads leaves =
-      let w = way records reads leaves in by w.levels w.are w.goes_on
+      let w = way records reads leaves in by w.levels w.are w.below w.goes_on
     where
-      by : (levels : List Level) → AreLevels live types ctxs levels (fr ∷ frames) → GoesOn judged records (HasMade live judged records head before) levels (meant types ctxs made) → IsPaid live judged records head before start paid steps
-      by [] are goes = absurd are
-      by (l ∷ ls) are goes =
-          let end = goes_end live judged records (HasMade live judged records head before) (c ∷ l ∷ ls) (meant types ctxs made) below in
+      by : (levels : List Level) → AreLevels live types ctxs levels (fr ∷ frames) → StandBelow from.vertex levels → GoesOn judged records (HasMade live judged records from before) levels (meant types ctxs made) → IsPaid live judged records from before start paid steps
+      by [] are within_it goes = absurd are
+      by (l ∷ ls) are within_it goes =
+          let end = goes_end live judged records (HasMade live judged records from before) (c ∷ l ∷ ls) (meant types ctxs made) below in
           let same = levels_weigh live types ctxs (l ∷ ls) (fr ∷ frames) are in
           let as_made = meant_weighs live types ctxs made in
           let within = counted.within in
@@ -233,8 +233,8 @@ module _ (live : List Edge) (types : List Typ) (ctxs : List Context) (places : P
           c : Level
           c = record { above = l.vertex ∷ l.above; vertex = e.target; forest = tree_is.below; demanded = demands l e.position; left = tree_is.below }
 
-          below : GoesOn judged records (HasMade live judged records head before) (c ∷ l ∷ ls) (meant types ctxs made)
+          below : GoesOn judged records (HasMade live judged records from before) (c ∷ l ∷ ls) (meant types ctxs made)
           below =
-              down judged records (HasMade live judged records head before) l ls (meant types ctxs made) e tree_is.below tree_is.rest c tree_is.is refl
-              (again live well types types ctxs ctxs (types-itself types) (contexts-itself ctxs) places of_tables judged head before e.target records reads leaves l.vertex l.above tree_is.below (demands l e.position) fr.demand
+              down judged records (HasMade live judged records from before) l ls (meant types ctxs made) e tree_is.below tree_is.rest c tree_is.is refl
+              (again live well types types ctxs ctxs (types-itself types) (contexts-itself ctxs) places of_tables judged from before e.target records reads leaves l.vertex l.above tree_is.below (demands l e.position) fr.demand within_it.0
               (child_stands_there live well types ctxs l fr is e rest first tree_is.below tree_is.rest tree_is.is) (child_agrees live well types ctxs l fr is e rest first tree_is.below tree_is.rest tree_is.is) found.1) goes

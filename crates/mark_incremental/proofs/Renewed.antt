@@ -13,7 +13,9 @@ use Rattle.walks.specs.declared.class.Class.TheVariants.{Inner}
 use Rattle.walks.specs.Class.{class}
 use Rattle.walks.specs.Whole.{AreLive, IsVertexOf}
 use Rattle.grove_terms.proofs.WellSorted.{live_well_formed}
-use Rattle.kept_records.specs.Kept.{Kept, Records, AreKept}
+use Rattle.kept_records.specs.Kept.{Kept, Records, AreKept, Stands}
+use Rattle.grove_terms.specs.Forest.{Forest}
+use Rattle.mark_step.specs.Expression.{Demanded}
 use Rattle.kept_records.specs.Local.{is_inner}
 use Rattle.kept_records.specs.Change.{CyclesStay, is_on_walks, StandOnce}
 use Rattle.kept_records.specs.Renewal.{MakesTrees, AreHeads, put}
@@ -70,16 +72,20 @@ pub not_true : (b : Bool) → not b ≡ true → b ≡ false
 not_true true h = absurd cc
 not_true false h = refl
 
+-- what stands below a vertex is a vertex of the graph
+pub vertex_below : (edits : List Edit) (edit : Edit) (new : List Edge) → AreLive (graph (edit ∷ edits)) new → (u : Vertex) (us : List Vertex) (v : Vertex) (f : Forest) (d : Demanded) → Stands new (u ∷ us) v f d
+    → IsVertexOf (graph (edit ∷ edits)) v
+vertex_below edits edit new are_new u us v f d stands =
+    let well = live_well_formed (edit ∷ edits) new are_new in
+    let under = stands_under new us u stands.0 stands.1 stands.2 in
+    let of : IsTreeOf new u stands.3.edge = children_are_of new well u stands.0 under.edges stands.3.edge f stands.3.is_tree in
+    subst (IsVertexOf (graph (edit ∷ edits))) stands.3.target (target_vertex (graph (edit ∷ edits)) new are_new well stands.3.edge of.held)
+
 -- ---- one walk down
 
 module _ (edits : List Edit) (edit : Edit) (old new : List Edge) (are_old : AreLive (graph edits) old) (are_new : AreLive (graph (edit ∷ edits)) new) where
   pub leaves_right : CyclesStay old new → (records : Records) → AreKept (graph edits) old records → LeavesRight new (is_on_walks (edit_edge edit) old new) records
-  leaves_right stay records kept u us v f d stands left =
-      let well = live_well_formed (edit ∷ edits) new are_new in
-      let under = stands_under new us u stands.0 stands.1 stands.2 in
-      let of : IsTreeOf new u stands.3.edge = children_are_of new well u stands.0 under.edges stands.3.edge f stands.3.is_tree in
-      let vertex : IsVertexOf (graph (edit ∷ edits)) v = subst (IsVertexOf (graph (edit ∷ edits))) stands.3.target (target_vertex (graph (edit ∷ edits)) new are_new well stands.3.edge of.held) in
-      left_keeps edits edit old new are_old are_new stay records kept (u ∷ us) v f d stands vertex left
+  leaves_right stay records kept u us v f d stands left = left_keeps edits edit old new are_old are_new stay records kept (u ∷ us) v f d stands (vertex_below edits edit new are_new u us v f d stands) left
 
   -- the heads of trees among the vertices on the walks
   pub near_heads : (vertices : List Vertex) → StandOnce vertices → ((v : Vertex) → stands_in v vertices ≡ is_on_walks (edit_edge edit) old new v) → AreHeads (edit_edge edit) old new (filter (λ v. not (is_inner new v)) vertices)

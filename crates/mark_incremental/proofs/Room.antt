@@ -72,16 +72,6 @@ leaves_room e used freed children more_children later_children parents more_pare
   at_targets = λ v. omega (arith, targets v, moves.at_targets v);
 }
 
--- room was made, it moved, and moved back
-pub leaves_all : (e : Edge) (used freed : ℕ) (children more_children raised_children later_children : Indexed Origin) (parents more_parents raised_parents later_parents : Indexed Target)
-    → ((v : Vertex) (p : Position) → room_at_origin children v p ≤ room_at_origin more_children v p) → ((v : Vertex) → room_at_vertex parents v ≤ room_at_vertex more_parents v)
-    → MovesRoom e used freed more_children raised_children more_parents raised_parents → MovesRoom e freed used raised_children later_children raised_parents later_parents
-    → LeavesRoom e 0 0 children later_children parents later_parents
-leaves_all e used freed children more_children raised_children later_children parents more_parents raised_parents later_parents origins targets moves back = record {
-  at_origins = λ v p. let none = nothing (is_from e v p) in omega (arith, origins v p, moves.at_origins v p, back.at_origins v p, none);
-  at_targets = λ v. let none = nothing (is_same_vertex e.target v) in omega (arith, targets v, moves.at_targets v, back.at_targets v, none);
-}
-
 -- room was made
 pub leaves_more : (e : Edge) (children later_children : Indexed Origin) (parents later_parents : Indexed Target)
     → ((v : Vertex) (p : Position) → room_at_origin children v p ≤ room_at_origin later_children v p) → ((v : Vertex) → room_at_vertex parents v ≤ room_at_vertex later_parents v)
@@ -90,3 +80,10 @@ leaves_more e children later_children parents later_parents origins targets = re
   at_origins = λ v p. let none = nothing (is_from e v p) in omega (arith, origins v p, none);
   at_targets = λ v. let none = nothing (is_same_vertex e.target v) in omega (arith, targets v, none);
 }
+
+-- what was moved is moved back
+pub moved_back : (e : Edge) (used freed : ℕ) (children moved_children later_children : Indexed Origin) (parents moved_parents later_parents : Indexed Target) → MovesRoom e used freed children moved_children parents moved_parents
+    → MovesRoom e freed used moved_children later_children moved_parents later_parents
+    → ((v : Vertex) (p : Position) → room_at_origin later_children v p ≡ room_at_origin children v p) × ((v : Vertex) → room_at_vertex later_parents v ≡ room_at_vertex parents v)
+moved_back e used freed children moved_children later_children parents moved_parents later_parents moves back =
+    (λ v p. omega (arith, moves.at_origins v p, back.at_origins v p), λ v. omega (arith, moves.at_targets v, back.at_targets v))

@@ -86,6 +86,9 @@ module _ (edits : List Edit) (edit : Edit) where
         subst (λ (x : Edge). 3 * (length (walk old x.source) + length (walk old x.target)) ≤ 12 * n + 6) of_edge
         (let w = walks_within n (size_of e of_edge n size) in let a = w.old_source in let b = w.old_target in omega (arith, a, b))
 
+    pub source_before : (e : Edge) → edit_edge edit ≡ e → (n : ℕ) → IsSize e (graph edits) (graph (edit ∷ edits)) n → length (walk old e.source) ≤ 2 * n + 1
+    source_before e of_edge n size = subst (λ (x : Edge). length (walk old x.source) ≤ 2 * n + 1) of_edge (walks_within n (size_of e of_edge n size)).old_source
+
     pub walks_after : (e : Edge) → edit_edge edit ≡ e → (n : ℕ) → IsSize e (graph edits) (graph (edit ∷ edits)) n → 3 * (length (walk new e.source) + length (walk new e.target)) ≤ 12 * n + 6
     walks_after e of_edge n size =
         subst (λ (x : Edge). 3 * (length (walk new x.source) + length (walk new x.target)) ≤ 12 * n + 6) of_edge
@@ -102,3 +105,6 @@ module _ (edits : List Edit) (edit : Edit) (g : Graph) (made : IsSame g (graph e
   pub before_within : (old : List Edge) → AreLive g old → 3 * (length (walk old e.source) + length (walk old e.target)) ≤ 12 * n + 6
   before_within old are =
       walks_before edits edit old size_at.is_after.live (live_along g (graph edits) old made are) size_at.is_after.are_live e of_edge n size_at
+
+  pub source_within : (old : List Edge) → AreLive g old → length (walk old e.source) ≤ 2 * n + 1
+  source_within old are = source_before edits edit old size_at.is_after.live (live_along g (graph edits) old made are) size_at.is_after.are_live e of_edge n size_at

@@ -24,6 +24,7 @@ use Rattle.walks.specs.Live.{children_of, holds_edge}
 use Rattle.grove_terms.specs.Forest.{Forest, none, tree, child_edges, edges_from, AreChildren, StandsUnder}
 use Rattle.grove_terms.specs.Nodes.{count_at}
 use Rattle.grove_terms.proofs.InLive.{IsFromPlace, children_lead}
+use Rattle.grove_terms.proofs.Forests.{forest_of, root_stands}
 use Rattle.type_core.specs.Typ.{Typ, Unknown}
 use Rattle.type_core.specs.TypeTable.{KeepsTypes}
 use Rattle.ctx_table.specs.Context.{Context}
@@ -58,7 +59,7 @@ use Rattle.mark_store.specs.Places.{Places}
 use Rattle.mark_incremental.specs.declared.frame.Frame.{Frame}
 use Rattle.mark_incremental.specs.Reading.{kept_by, AreRecordsOf, demand_of}
 use Rattle.mark_incremental.specs.Looking.{IsFound, given_in, given_by_kept, HasToBeJudged, in_set, unknown, demanded}
-use Rattle.mark_incremental.specs.Walking.{Level, demands, made_of, behind, IsTail, IsBelow, AreLinked, Awaits, GoesOn, asked, GivesFirst, IsAtPlace, AreFramesOf, IsLevel, AreWaiting, AreLevels, IsAccepted, IsBetween, IsBegun, IsHanded, IsSettled, kept_closed, meant, AreMadeOf, ReadsAs, LeavesRight, HasMade, IsOnWay, IsUnderWay}
+use Rattle.mark_incremental.specs.Walking.{Level, demands, made_of, behind, IsTail, IsBelow, AreLinked, Awaits, GoesOn, asked, GivesFirst, IsAtPlace, AreFramesOf, IsLevel, AreWaiting, AreLevels, IsAccepted, IsBetween, IsBegun, IsHanded, IsSettled, kept_closed, meant, AreMadeOf, ReadsAs, Start, start_at, IsStart, IsMember, StandBelow, LeavesRightBelow, HasMade, IsOnWay, IsUnderWay}
 use Rattle.mark_incremental.proofs.Tails.{tail_tree, tail_children, first_reference, first_tree, BeginsWithTree, none_left, past, past_left, down, up}
 use Rattle.mark_incremental.proofs.Growth.{reads_as-kept, meant-kept, levels_kept, level_kept}
 use Rattle.mark_incremental.proofs.Levels.{drop_cases, accepted, begun, fresh_between, filled_between, closed_is}
@@ -80,7 +81,7 @@ next_in P (q ∷ row) (suc n) p ps all e = next_in P row n p ps all.1 e
 some_part : {X : Type 0} (x y : X) → Some x ≡ Some y → x ≡ y
 some_part x y e = cc
 
-held_in : (p : Edge → Bool) (e : Edge) (es : List Edge) → p e ≡ true → holds_edge e es ≡ true → holds_edge e (filter p es) ≡ true
+pub held_in : (p : Edge → Bool) (e : Edge) (es : List Edge) → p e ≡ true → holds_edge e es ≡ true → holds_edge e (filter p es) ≡ true
 held_in p e [] is held = held
 held_in p e (x ∷ es) is held = by_test (is_same_edge x e) refl held (held_in p e es is) where
   keeps : (a b : Bool) → (a ≡ true → b ≡ true) → holds_edge e (filter p es) ≡ true → holds_edge e (cond b (x ∷ filter p es) (filter p es)) ≡ true
@@ -225,6 +226,10 @@ module _ (live : List Edge) (well : AllByRecursion IsWellFormed live) (types : L
 agree_expression : (s : Sort) (d e : Demanded) → Agree s d e → s ≡ Exp → d ≡ e
 agree_expression s d e agree is = subst (λ t. Agree t d e) is agree
 
+-- a vertex that is among others is so with one more
+member_of_more : (v u : Vertex) (vs : List Vertex) → IsMember v vs → IsMember v (u ∷ vs)
+member_of_more v u vs is = record { before = u ∷ is.before; behind = is.behind; are = ap (λ xs. u ∷ xs) is.are }
+
 -- ---- links
 
 relink : (l k : Level) (ls : List Level) → l.forest ≡ k.forest → l.vertex ≡ k.vertex → l.demanded ≡ k.demanded → AreLinked (l ∷ ls) → AreLinked (k ∷ ls)
@@ -248,43 +253,44 @@ demand_kept types ctxs r = ap (λ (w : Wanted). let d : Demanded = record { scop
   by None = refl
   by (Some m) = refl
 
-kept_demand_of : (types : List Typ) (ctxs : List Context) (records : Records) (v : Vertex) (r : Record) → records v ≡ Some (kept_by types ctxs r) → kept_demand records v ≡ node.demanded_at types ctxs (demand_of r)
+pub kept_demand_of : (types : List Typ) (ctxs : List Context) (records : Records) (v : Vertex) (r : Record) → records v ≡ Some (kept_by types ctxs r) → kept_demand records v ≡ node.demanded_at types ctxs (demand_of r)
 kept_demand_of types ctxs records v r is =
     ap (λ (k : Option Kept). kept_demand (λ u. k) v) is ∙ demand_kept types ctxs r
 
 -- ---- a child that is left as it is, or a reference
 
-module _ (live : List Edge) (well : AllByRecursion IsWellFormed live) (types : List Typ) (ctxs : List Context) (places : Places Record) (judged : Vertex → Bool) (head : Vertex) (before : List (Vertex × Kept)) where
+module _ (live : List Edge) (well : AllByRecursion IsWellFormed live) (types : List Typ) (ctxs : List Context) (places : Places Record) (judged : Vertex → Bool) (from : Start) (before : List (Vertex × Kept)) where
   pub passed : (fr now : Frame) (frames : List Frame) (made : List (Vertex × Record)) (e : Edge) (rest : List Edge) (g : Given) → fr.left.now ≡ e ∷ rest
       → IsFound live types ctxs places judged fr.demand e (Some g) → IsAccepted types fr g now
-      → IsUnderWay live types ctxs places judged head before (fr ∷ frames) made → IsUnderWay live types ctxs places judged head before (now ∷ frames) made
+      → IsUnderWay live types ctxs places judged from before (fr ∷ frames) made → IsUnderWay live types ctxs places judged from before (now ∷ frames) made
   passed fr now frames made e rest g first found acc way records reads leaves =
-      let w = way records reads leaves in by w.levels w.are w.waiting w.linked w.goes_on
+      let w = way records reads leaves in by w.levels w.are w.waiting w.linked w.below w.goes_on
     where
-      by : (levels : List Level) → AreLevels live types ctxs levels (fr ∷ frames) → AreWaiting frames → AreLinked levels
-          → GoesOn judged records (HasMade live judged records head before) levels (meant types ctxs made) → IsOnWay live types ctxs judged records head before (now ∷ frames) made
-      by [] are waiting linked goes = absurd are
-      by (l ∷ ls) are waiting linked goes = by_found found where
+      by : (levels : List Level) → AreLevels live types ctxs levels (fr ∷ frames) → AreWaiting frames → AreLinked levels → StandBelow from.vertex levels
+          → GoesOn judged records (HasMade live judged records from before) levels (meant types ctxs made) → IsOnWay live types ctxs judged records from before (now ∷ frames) made
+      by [] are waiting linked within goes = absurd are
+      by (l ∷ ls) are waiting linked within goes = by_found found where
         is : IsLevel live types ctxs l fr
         is = are.0
 
         edges : child_edges l.left ≡ e ∷ (rest ++ edges_from live l.vertex (drop (suc fr.state.next) (positions l.vertex.ctor)))
         edges = edges_left live well types ctxs l fr is e rest first
 
-        made_so : GivesFirst live types l fr g → GoesOn judged records (HasMade live judged records head before) (record l { left = behind l.left } ∷ ls) (meant types ctxs made)
-            → IsOnWay live types ctxs judged records head before (now ∷ frames) made
+        made_so : GivesFirst live types l fr g → GoesOn judged records (HasMade live judged records from before) (record l { left = behind l.left } ∷ ls) (meant types ctxs made)
+            → IsOnWay live types ctxs judged records from before (now ∷ frames) made
         made_so gives goes_then = record {
           levels = record l { left = behind l.left } ∷ ls;
           are = (accepted live types ctxs l fr now g is acc (some_left live well types ctxs l fr is e rest first) gives, are.1);
           waiting = waiting;
           linked = relink l (record l { left = behind l.left }) ls refl refl refl linked;
+          below = within;
           goes_on = goes_then;
         }
 
-        by_found : IsFound live types ctxs places judged fr.demand e (Some g) → IsOnWay live types ctxs judged records head before (now ∷ frames) made
+        by_found : IsFound live types ctxs places judged fr.demand e (Some g) → IsOnWay live types ctxs judged records from before (now ∷ frames) made
         by_found (inl (outer, nothing)) =
             made_so (reference_gives_first live well types ctxs l fr is e rest first outer g nothing)
-            (past judged records (HasMade live judged records head before) l ls (meant types ctxs made)
+            (past judged records (HasMade live judged records from before) l ls (meant types ctxs made)
             (first_reference live l.left e (rest ++ edges_from live l.vertex (drop (suc fr.state.next) (positions l.vertex.ctor))) (are_left live well types ctxs l fr is e rest first) edges outer judged records (demands l)) goes)
         by_found (inr (inner, left)) =
             let begins : BeginsWithTree l.left e = first_tree live l.left e (rest ++ edges_from live l.vertex (drop (suc fr.state.next) (positions l.vertex.ctor))) (are_left live well types ctxs l fr is e rest first) edges inner in
@@ -297,33 +303,33 @@ module _ (live : List Edge) (well : AllByRecursion IsWellFormed live) (types : L
             ) in
             let kept : kept_by types ctxs left.kept ≡ kept_of e.target begins.below (demands l e.position) =
             some_part (kept_by types ctxs left.kept) (kept_of e.target begins.below (demands l e.position))
-            (sym read ∙ leaves l.vertex l.above e.target begins.below (demands l e.position) (child_stands_there live well types ctxs l fr is e rest first begins.below begins.rest begins.is) as_left) in
+            (sym read ∙ leaves l.vertex l.above e.target begins.below (demands l e.position) (child_stands_there live well types ctxs l fr is e rest first begins.below begins.rest begins.is) within.0 as_left) in
             made_so
             (tree_gives_first live well types ctxs l fr is e rest first begins.below begins.rest begins.is g
             (left.gives ∙ ap (given_by_kept e.target) kept ∙ record_gives (sort_of_ctor e.target.ctor) e.target begins.below (demands l e.position)))
-            (past_left judged records (HasMade live judged records head before) l ls (meant types ctxs made) e begins.below begins.rest begins.is as_left goes)
+            (past_left judged records (HasMade live judged records from before) l ls (meant types ctxs made) e begins.below begins.rest begins.is as_left goes)
 
 -- ---- the tables grow
 
-module _ (live : List Edge) (well : AllByRecursion IsWellFormed live) (old new : List Typ) (oldc newc : List Context) (keeps : KeepsTypes old new) (keepsc : KeepsContexts oldc newc) (places : Places Record) (of_tables : AreRecordsOf old oldc places) (judged : Vertex → Bool) (head : Vertex) (before : List (Vertex × Kept)) where
+module _ (live : List Edge) (well : AllByRecursion IsWellFormed live) (old new : List Typ) (oldc newc : List Context) (keeps : KeepsTypes old new) (keepsc : KeepsContexts oldc newc) (places : Places Record) (of_tables : AreRecordsOf old oldc places) (judged : Vertex → Bool) (from : Start) (before : List (Vertex × Kept)) where
   abbrev pub Was : List Frame → List (Vertex × Record) → Type 0
-  Was frames made = IsUnderWay live old oldc places judged head before frames made
+  Was frames made = IsUnderWay live old oldc places judged from before frames made
 
   abbrev pub Is : List Frame → List (Vertex × Record) → Type 0
-  Is frames made = IsUnderWay live new newc places judged head before frames made
+  Is frames made = IsUnderWay live new newc places judged from before frames made
 
   -- what is found where it has to be judged again
-  pub again : (v : Vertex) (records : Records) → ReadsAs old oldc places records → LeavesRight live judged records → (u : Vertex) (us : List Vertex) (f : Forest) (d : Demanded) (dn : Demand)
-      → Stands live (u ∷ us) v f d → Agree (sort_of_ctor v.ctor) (node.demanded_at old oldc dn) d → HasToBeJudged old oldc places judged dn v → renewal.HasToBeJudged judged records v d
-  again v records reads leaves u us f d dn stands agree (in_set on) = inl on
-  again v records reads leaves u us f d dn stands agree (demanded r found exp other) =
+  pub again : (v : Vertex) (records : Records) → ReadsAs old oldc places records → LeavesRightBelow live judged records from.vertex → (u : Vertex) (us : List Vertex) (f : Forest) (d : Demanded) (dn : Demand)
+      → IsMember from.vertex (u ∷ us) → Stands live (u ∷ us) v f d → Agree (sort_of_ctor v.ctor) (node.demanded_at old oldc dn) d → HasToBeJudged old oldc places judged dn v → renewal.HasToBeJudged judged records v d
+  again v records reads leaves u us f d dn within stands agree (in_set on) = inl on
+  again v records reads leaves u us f d dn within stands agree (demanded r found exp other) =
       inr (exp, λ same. other (sym (kept_demand_of old oldc records v r (reads v ∙ ap (option_map (kept_by old oldc)) found)) ∙ same ∙ sym (agree_expression (sort_of_ctor v.ctor) (node.demanded_at old oldc dn) d agree exp)))
-  again v records reads leaves u us f d dn stands agree (unknown none_there) = by_set (judged v) refl where
+  again v records reads leaves u us f d dn within stands agree (unknown none_there) = by_set (judged v) refl where
     none_kept : records v ≡ None
     none_kept = reads v ∙ ap (option_map (kept_by old oldc)) none_there
 
     not_left : renewal.IsLeft judged records v d → ⊥
-    not_left left = clash (records v) (kept_of v f d) none_kept (leaves u us v f d stands left) where
+    not_left left = clash (records v) (kept_of v f d) none_kept (leaves u us v f d stands within left) where
       clash : (o : Option Kept) (k : Kept) → o ≡ None → o ≡ Some k → ⊥
       clash o k a b = let never : None ≡ Some k = sym a ∙ b in cc
 
@@ -351,12 +357,12 @@ module _ (live : List Edge) (well : AllByRecursion IsWellFormed live) (old new :
       → opened_at old oldc child.state ≡ machine.fresh e.target.ctor (node.demanded_at old oldc fr.demand) → left_of child.state ≡ positions e.target.ctor → IsBegun live old new oldc newc child
       → Was (fr ∷ frames) made → Is (child ∷ fr ∷ frames) made
   descended fr child frames made e rest first of of_made found is_open vertex opened all begins way records reads leaves =
-      let w = way records (reads_as-kept old new oldc newc keeps keepsc places records of_tables reads) leaves in by w.levels w.are w.waiting w.linked w.goes_on
+      let w = way records (reads_as-kept old new oldc newc keeps keepsc places records of_tables reads) leaves in by w.levels w.are w.waiting w.linked w.below w.goes_on
     where
-      by : (levels : List Level) → AreLevels live old oldc levels (fr ∷ frames) → AreWaiting frames → AreLinked levels
-          → GoesOn judged records (HasMade live judged records head before) levels (meant old oldc made) → IsOnWay live new newc judged records head before (child ∷ fr ∷ frames) made
-      by [] are waiting linked goes = absurd are
-      by (l ∷ ls) are waiting linked goes = record {
+      by : (levels : List Level) → AreLevels live old oldc levels (fr ∷ frames) → AreWaiting frames → AreLinked levels → StandBelow from.vertex levels
+          → GoesOn judged records (HasMade live judged records from before) levels (meant old oldc made) → IsOnWay live new newc judged records from before (child ∷ fr ∷ frames) made
+      by [] are waiting linked within goes = absurd are
+      by (l ∷ ls) are waiting linked within goes = record {
         levels = c ∷ l ∷ ls;
         are = (
           begun live old new oldc newc keeps keepsc c child is_open vertex (fresh_between live old oldc c fr.demand child.state stands refl agrees opened all) begins,
@@ -364,10 +370,11 @@ module _ (live : List Edge) (well : AllByRecursion IsWellFormed live) (old new :
         );
         waiting = (some_left live well old oldc l fr is e rest first, waiting);
         linked = (record { edge = e; rest = tree_is.rest; first = tree_is.is; target = refl; demanded = refl }, linked);
+        below = (member_of_more from.vertex e.target (l.vertex ∷ l.above) within.0, within);
         goes_on =
-            subst (GoesOn judged records (HasMade live judged records head before) (c ∷ l ∷ ls)) (sym (meant-kept old new oldc newc keeps keepsc made of_made))
-            (down judged records (HasMade live judged records head before) l ls (meant old oldc made) e tree_is.below tree_is.rest c tree_is.is refl
-            (again e.target records (reads_as-kept old new oldc newc keeps keepsc places records of_tables reads) leaves l.vertex l.above tree_is.below (demands l e.position) fr.demand stands agrees found.1) goes);
+            subst (GoesOn judged records (HasMade live judged records from before) (c ∷ l ∷ ls)) (sym (meant-kept old new oldc newc keeps keepsc made of_made))
+            (down judged records (HasMade live judged records from before) l ls (meant old oldc made) e tree_is.below tree_is.rest c tree_is.is refl
+            (again e.target records (reads_as-kept old new oldc newc keeps keepsc places records of_tables reads) leaves l.vertex l.above tree_is.below (demands l e.position) fr.demand within.0 stands agrees found.1) goes);
       } where
         is : IsLevel live old oldc l fr
         is = are.0
@@ -390,12 +397,12 @@ module _ (live : List Edge) (well : AllByRecursion IsWellFormed live) (old new :
   pub went_on : (fr now : Frame) (frames : List Frame) (made : List (Vertex × Record)) → fr.left.now ≡ [] → fr.state.next < length (positions fr.vertex.now.ctor) → AreFramesOf old oldc (fr ∷ frames) → AreMadeOf old oldc made
       → IsOpenOf old oldc now.state → now.vertex.now ≡ fr.vertex.now → now.state ≡ filled_with fr.given fr.state → IsBegun live old new oldc newc now → Was (fr ∷ frames) made → Is (now ∷ frames) made
   went_on fr now frames made none_here some of of_made is_open vertex filled begins way records reads leaves =
-      let w = way records (reads_as-kept old new oldc newc keeps keepsc places records of_tables reads) leaves in by w.levels w.are w.waiting w.linked w.goes_on
+      let w = way records (reads_as-kept old new oldc newc keeps keepsc places records of_tables reads) leaves in by w.levels w.are w.waiting w.linked w.below w.goes_on
     where
-      by : (levels : List Level) → AreLevels live old oldc levels (fr ∷ frames) → AreWaiting frames → AreLinked levels
-          → GoesOn judged records (HasMade live judged records head before) levels (meant old oldc made) → IsOnWay live new newc judged records head before (now ∷ frames) made
-      by [] are waiting linked goes = absurd are
-      by (l ∷ ls) are waiting linked goes = record {
+      by : (levels : List Level) → AreLevels live old oldc levels (fr ∷ frames) → AreWaiting frames → AreLinked levels → StandBelow from.vertex levels
+          → GoesOn judged records (HasMade live judged records from before) levels (meant old oldc made) → IsOnWay live new newc judged records from before (now ∷ frames) made
+      by [] are waiting linked within goes = absurd are
+      by (l ∷ ls) are waiting linked within goes = record {
         levels = l ∷ ls;
         are = (
           begun live old new oldc newc keeps keepsc l now is_open (vertex ∙ is.vertex)
@@ -404,7 +411,8 @@ module _ (live : List Edge) (well : AllByRecursion IsWellFormed live) (old new :
         );
         waiting = waiting;
         linked = linked;
-        goes_on = subst (GoesOn judged records (HasMade live judged records head before) (l ∷ ls)) (sym (meant-kept old new oldc newc keeps keepsc made of_made)) goes;
+        below = within;
+        goes_on = subst (GoesOn judged records (HasMade live judged records from before) (l ∷ ls)) (sym (meant-kept old new oldc newc keeps keepsc made of_made)) goes;
       } where
         is : IsLevel live old oldc l fr
         is = are.0
@@ -440,12 +448,12 @@ module _ (live : List Edge) (well : AllByRecursion IsWellFormed live) (old new :
       → IsSettled new newc fr.vertex.now (opened_at old oldc fr.state) made after_it → given_at new g ≡ machine.given_of (opened_at old oldc fr.state) → IsHanded new g frames left_over
       → Was (fr ∷ frames) made → Is left_over after_it
   settled_up fr frames left_over made after_it g none_here whole of of_made settles gives handed way records reads leaves =
-      let w = way records (reads_as-kept old new oldc newc keeps keepsc places records of_tables reads) leaves in by w.levels w.are w.waiting w.linked w.goes_on
+      let w = way records (reads_as-kept old new oldc newc keeps keepsc places records of_tables reads) leaves in by w.levels w.are w.waiting w.linked w.below w.goes_on
     where
-      by : (levels : List Level) → AreLevels live old oldc levels (fr ∷ frames) → AreWaiting frames → AreLinked levels → GoesOn judged records (HasMade live judged records head before) levels (meant old oldc made)
-          → IsOnWay live new newc judged records head before left_over after_it
-      by [] are waiting linked goes = absurd are
-      by (l ∷ ls) are waiting linked goes = above ls frames handed are.1 of.1 waiting linked awaits where
+      by : (levels : List Level) → AreLevels live old oldc levels (fr ∷ frames) → AreWaiting frames → AreLinked levels → StandBelow from.vertex levels → GoesOn judged records (HasMade live judged records from before) levels (meant old oldc made)
+          → IsOnWay live new newc judged records from before left_over after_it
+      by [] are waiting linked within goes = absurd are
+      by (l ∷ ls) are waiting linked within goes = above ls frames handed are.1 of.1 waiting linked within.1 awaits where
         is : IsLevel live old oldc l fr
         is = are.0
 
@@ -480,16 +488,16 @@ module _ (live : List Edge) (well : AllByRecursion IsWellFormed live) (old new :
             ∙ ap (λ (v : Vertex). meant old oldc made ++ (v, kept_by new newc settles.kept) ∷ []) is.vertex
             ∙ ap (λ (k : Kept). meant old oldc made ++ (l.vertex, k) ∷ []) kept
 
-        awaits : Awaits judged records (HasMade live judged records head before) ls (meant new newc after_it)
-        awaits = subst (Awaits judged records (HasMade live judged records head before) ls) (sym now_meant) (up judged records (HasMade live judged records head before) l ls (meant old oldc made) none_more goes)
+        awaits : Awaits judged records (HasMade live judged records from before) ls (meant new newc after_it)
+        awaits = subst (Awaits judged records (HasMade live judged records from before) ls) (sym now_meant) (up judged records (HasMade live judged records from before) l ls (meant old oldc made) none_more goes)
 
-        above : (ls : List Level) (frames : List Frame) → IsHanded new g frames left_over → AreLevels live old oldc ls frames → AreFramesOf old oldc frames → AreWaiting frames → AreLinked (l ∷ ls)
-            → Awaits judged records (HasMade live judged records head before) ls (meant new newc after_it) → IsOnWay live new newc judged records head before left_over after_it
-        above [] [] handed are of waiting linked awaited =
-            record { levels = []; are = subst (AreLevels live new newc []) (sym handed) tt; waiting = subst (λ (frs : List Frame). AreWaiting (drop 1 frs)) (sym handed) tt; linked = tt; goes_on = awaited }
-        above [] (m ∷ frames) handed are of waiting linked awaited = absurd are
-        above (k ∷ ks) [] handed are of waiting linked awaited = absurd are
-        above (k ∷ ks) (m ∷ frames) (now, is_then, accepts) are of waiting linked awaited =
+        above : (ls : List Level) (frames : List Frame) → IsHanded new g frames left_over → AreLevels live old oldc ls frames → AreFramesOf old oldc frames → AreWaiting frames → AreLinked (l ∷ ls) → StandBelow from.vertex ls
+            → Awaits judged records (HasMade live judged records from before) ls (meant new newc after_it) → IsOnWay live new newc judged records from before left_over after_it
+        above [] [] handed are of waiting linked within awaited =
+            record { levels = []; are = subst (AreLevels live new newc []) (sym handed) tt; waiting = subst (λ (frs : List Frame). AreWaiting (drop 1 frs)) (sym handed) tt; linked = tt; below = tt; goes_on = awaited }
+        above [] (m ∷ frames) handed are of waiting linked within awaited = absurd are
+        above (k ∷ ks) [] handed are of waiting linked within awaited = absurd are
+        above (k ∷ ks) (m ∷ frames) (now, is_then, accepts) are of waiting linked within awaited =
             let is_now : IsLevel live new newc k m = level_kept old new oldc newc keeps keepsc live k m of.0 are.0 in
             let below : IsBelow l k = linked.0 in
             record {
@@ -499,6 +507,7 @@ module _ (live : List Edge) (well : AllByRecursion IsWellFormed live) (old new :
                   (accepted live new newc k m now g is_now (accepts waiting.0) waiting.0 (gives_below k m is_now below waiting.0), levels_kept old new oldc newc keeps keepsc live ks frames of.1 are.1);
               waiting = subst (λ (frs : List Frame). AreWaiting (drop 1 frs)) (sym is_then) waiting.1;
               linked = relink k (record k { left = behind k.left }) ks refl refl refl linked.1;
+              below = within;
               goes_on = awaited;
             }
           where
@@ -520,45 +529,49 @@ module _ (live : List Edge) (well : AllByRecursion IsWellFormed live) (old new :
                   ∙ ap (λ (v : Vertex). given_tree (sort_of_ctor v.ctor) v.ctor l.demanded l.forest) (sym below.target ∙ ap (λ (y : Edge). y.target) (sym same))
                   ∙ ap (λ (e : Demanded). given_tree (sort_of_ctor x.target.ctor) x.target.ctor e l.forest) (below.demanded ∙ ap (λ (y : Edge). demands k y.position) (sym same)))
 
-  -- ---- a tree is begun, and ends
+  -- ---- a walk down is begun, and ends
 
-  pub head_begun : (f : Forest) → StandsUnder live head f → (fr : Frame) (made : List (Vertex × Record)) (d : Demand) → (class live head ≡ Inner → ⊥) → IsOpenOf old oldc fr.state → fr.vertex.now ≡ head → node.demanded_at old oldc d ≡ alone
-      → opened_at old oldc fr.state ≡ machine.fresh head.ctor (node.demanded_at old oldc d) → left_of fr.state ≡ positions head.ctor → IsBegun live old new oldc newc fr
-      → IsUnderWay live new newc places judged head (meant new newc made) (fr ∷ []) made
-  head_begun f under fr made d heads is_open vertex by_itself opened all begins records reads leaves = record {
+  pub walk_begun : (fr : Frame) (made : List (Vertex × Record)) (d : Demand) → IsStart live old oldc d from → IsOpenOf old oldc fr.state → fr.vertex.now ≡ from.vertex
+      → opened_at old oldc fr.state ≡ machine.fresh from.vertex.ctor (node.demanded_at old oldc d) → left_of fr.state ≡ positions from.vertex.ctor → IsBegun live old new oldc newc fr
+      → IsUnderWay live new newc places judged from (meant new newc made) (fr ∷ []) made
+  walk_begun fr made d place is_open vertex opened all begins records reads leaves = record {
     levels = l ∷ [];
-    are = (begun live old new oldc newc keeps keepsc l fr is_open vertex (fresh_between live old oldc l d fr.state stands refl agrees opened all) begins, tt);
+    are = (begun live old new oldc newc keeps keepsc l fr is_open vertex (fresh_between live old oldc l d fr.state place.stands refl place.agree opened all) begins, tt);
     waiting = tt;
     linked = tt;
+    below = (record { before = []; behind = place.above; are = refl }, tt);
     goes_on = goes;
   } where
     l : Level
-    l = record { above = []; vertex = head; forest = f; demanded = alone; left = f }
+    l = record { above = place.above; vertex = from.vertex; forest = place.forest; demanded = from.demanded; left = place.forest }
 
-    stands : Stands live [] head f alone
-    stands = (heads, under, refl)
-
-    agrees : Agree (sort_of_ctor head.ctor) (node.demanded_at old oldc d) alone
-    agrees = by (sort_of_ctor head.ctor) where
-      by : (s : Sort) → Agree s (node.demanded_at old oldc d) alone
-      by Exp = by_itself
-      by Top = by_itself
-      by Pat = tt
-      by TypeSort = tt
-
-    goes : (later : List (Vertex × Kept)) → MakesUnder judged records (demands l) f later → HasMade live judged records head (meant new newc made) ((meant new newc made ++ later) ++ made_of l ∷ [])
+    goes : (later : List (Vertex × Kept)) → MakesUnder judged records (demands l) place.forest later → HasMade live judged records from (meant new newc made) ((meant new newc made ++ later) ++ made_of l ∷ [])
     goes later makes = record {
       own = later ++ made_of l ∷ [];
       are = append_assoc (meant new newc made) later (made_of l ∷ []);
-      makes = record { forest = f; stands = under; inner = later; made_are = refl; under = makes };
+      makes = record { forest = place.forest; stands = stands_under live place.above from.vertex place.forest from.demanded place.stands; inner = later; made_are = refl; under = makes };
     }
 
-pub way_ends : (live : List Edge) (types : List Typ) (ctxs : List Context) (places : Places Record) (judged : Vertex → Bool) (head : Vertex) (before : List (Vertex × Kept)) (made : List (Vertex × Record))
-    → IsUnderWay live types ctxs places judged head before [] made → (records : Records) → ReadsAs types ctxs places records → LeavesRight live judged records → HasMade live judged records head before (meant types ctxs made)
-way_ends live types ctxs places judged head before made way records reads leaves =
+-- the head of a tree is where a walk down the tree begins
+pub head_is_start : (live : List Edge) (types : List Typ) (ctxs : List Context) (head : Vertex) → (class live head ≡ Inner → ⊥) → (d : Demand) → node.demanded_at types ctxs d ≡ alone → IsStart live types ctxs d (start_at head alone)
+head_is_start live types ctxs head outer d by_itself = record {
+  above = [];
+  forest = forest_of live head;
+  stands = (outer, root_stands live head outer, refl);
+  agree = agree_by (sort_of_ctor head.ctor);
+} where
+  agree_by : (s : Sort) → Agree s (node.demanded_at types ctxs d) alone
+  agree_by Exp = by_itself
+  agree_by Top = by_itself
+  agree_by Pat = tt
+  agree_by TypeSort = tt
+
+pub way_ends : (live : List Edge) (types : List Typ) (ctxs : List Context) (places : Places Record) (judged : Vertex → Bool) (from : Start) (before : List (Vertex × Kept)) (made : List (Vertex × Record))
+    → IsUnderWay live types ctxs places judged from before [] made → (records : Records) → ReadsAs types ctxs places records → LeavesRightBelow live judged records from.vertex → HasMade live judged records from before (meant types ctxs made)
+way_ends live types ctxs places judged from before made way records reads leaves =
     let w = way records reads leaves in by w.levels w.are w.goes_on
   where
-    by : (levels : List Level) → AreLevels live types ctxs levels [] → GoesOn judged records (HasMade live judged records head before) levels (meant types ctxs made) → HasMade live judged records head before (meant types ctxs made)
+    by : (levels : List Level) → AreLevels live types ctxs levels [] → GoesOn judged records (HasMade live judged records from before) levels (meant types ctxs made) → HasMade live judged records from before (meant types ctxs made)
     by [] are goes = goes
     by (l ∷ ls) are goes = absurd are
 
@@ -579,17 +592,17 @@ two_on_top frames one two fr child first second = on_top one two child second �
 pub handed_top : (types : List Typ) (g : Given) (fr : Frame) (frames before now : List Frame) → before ≡ fr ∷ frames → IsHanded types g before now → (taken : Frame) × (now ≡ taken ∷ frames) × (0 < length fr.left.now → IsAccepted types fr g taken)
 handed_top types g fr frames before now is handed = subst (λ (frs : List Frame). IsHanded types g frs now) is handed
 
-module _ (live : List Edge) (well : AllByRecursion IsWellFormed live) (types : List Typ) (ctxs : List Context) (places : Places Record) (judged : Vertex → Bool) (head : Vertex) (before : List (Vertex × Kept)) where
+module _ (live : List Edge) (well : AllByRecursion IsWellFormed live) (types : List Typ) (ctxs : List Context) (places : Places Record) (judged : Vertex → Bool) (from : Start) (before : List (Vertex × Kept)) where
   -- what a child that is not judged again gives is handed on
   pub handed_passes : (fr : Frame) (frames pushed now : List Frame) (made : List (Vertex × Record)) (e : Edge) (rest : List Edge) (g : Given) → fr.left.now ≡ e ∷ rest
       → IsFound live types ctxs places judged fr.demand e (Some g) → pushed ≡ fr ∷ frames → IsHanded types g pushed now
-      → IsUnderWay live types ctxs places judged head before (fr ∷ frames) made → IsUnderWay live types ctxs places judged head before now made
+      → IsUnderWay live types ctxs places judged from before (fr ∷ frames) made → IsUnderWay live types ctxs places judged from before now made
   handed_passes fr frames pushed now made e rest g first found top handed way =
       by (handed_top types g fr frames pushed now top handed) where
         some : 0 < length fr.left.now
         some = let len : length fr.left.now ≡ suc (length rest) = ap length first in omega (arith, len)
 
-        by : (taken : Frame) × (now ≡ taken ∷ frames) × (0 < length fr.left.now → IsAccepted types fr g taken) → IsUnderWay live types ctxs places judged head before now made
+        by : (taken : Frame) × (now ≡ taken ∷ frames) × (0 < length fr.left.now → IsAccepted types fr g taken) → IsUnderWay live types ctxs places judged from before now made
         by (taken, is, accepts) =
-            subst (λ (frs : List Frame). IsUnderWay live types ctxs places judged head before frs made) (sym is)
-            (passed live well types ctxs places judged head before fr taken frames made e rest g first found (accepts some) way)
+            subst (λ (frs : List Frame). IsUnderWay live types ctxs places judged from before frs made) (sym is)
+            (passed live well types ctxs places judged from before fr taken frames made e rest g first found (accepts some) way)

@@ -10,7 +10,10 @@ use Rattle.grove_edits.specs.Graph.{Graph, graph, IsSame}
 use Rattle.walks.specs.Whole.{AreLive}
 use Rattle.graph_store.specs.Store.{Entries, state_in}
 use Rattle.edge_index.specs.Lists.{Indexed}
+use Rattle.grove_sorts.specs.declared.position.Position.{Position}
 use Rattle.child_index.specs.declared.origin.Origin.{Origin}
+use Rattle.child_index.specs.Origin.{room_at_origin}
+use Rattle.parent_index.specs.Target.{room_at_vertex}
 use Rattle.parent_index.specs.declared.target.Target.{Target}
 use Rattle.type_core.specs.Typ.{Typ}
 use Rattle.type_core.specs.TypeTable.{KeepsTypes}
@@ -86,6 +89,18 @@ pub record WasApplied (edit : Edit) (applied : Applied) (store : Entries) (marks
   pub raised : WasRaised edit applied.change store store_after
   pub stood : StandFor (state_in store) marks
   pub renewed : WasRenewed applied.old marks marks_after
+
+-- and the marks stand for it
+pub record IsApplied (edit : Edit) (applied : Applied) (store : Entries) (marks : KeptMarks) (store_after : Entries) (marks_after : KeptMarks) : Type 0 where
+  pub was : WasApplied edit applied store marks store_after marks_after
+  pub stand : StandFor (state_in store_after) marks_after
+
+-- all is as before, with as much room in the indexes, but that the tables may have grown
+pub record IsBack (store : Entries) (children : Indexed Origin) (parents : Indexed Target) (marks : KeptMarks) (store_after : Entries) (children_after : Indexed Origin) (parents_after : Indexed Target) (marks_after : KeptMarks) : Type 0 where
+  pub same : IsSame (state_in store_after) (state_in store)
+  pub grown : HaveGrown marks marks_after
+  pub at_origins : (v : Vertex) (p : Position) → room_at_origin children_after v p ≡ room_at_origin children v p
+  pub at_targets : (v : Vertex) → room_at_vertex parents_after v ≡ room_at_vertex parents v
 
 -- it can be taken back without memory
 pub record CanTakeBack (edit : Edit) (applied : Applied) (store : Entries) (children : Indexed Origin) (parents : Indexed Target) (marks : KeptMarks) : Type 0 where

@@ -1,6 +1,7 @@
 pub mod Reading
 pub mod Looking
 pub mod Walking
+pub mod ShortWalks
 pub mod Passing
 pub mod Raising
 pub mod Standing

@@ -10,11 +10,13 @@ use Rattle.grove_terms.specs.Forest.{edges_from, edges_under}
 use Rattle.type_core.specs.Typ.{Typ}
 use Rattle.ctx_table.specs.Context.{Context}
 use Rattle.kept_records.specs.Kept.{Kept, Records}
-use Rattle.kept_records.specs.Renewal.{MakesTree, MakesTrees}
+use Rattle.kept_records.specs.Kept.{alone}
+use Rattle.kept_records.specs.Renewal.{MakesTrees}
+use Rattle.kept_records.specs.Short.{MakesFrom}
 use Rattle.mark_store.specs.declared.record.Record.{Record}
 use Rattle.mark_store.specs.Places.{Places}
 use Rattle.mark_incremental.specs.declared.frame.Frame.{Frame}
-use Rattle.mark_incremental.specs.Walking.{ReadsAs, LeavesRight, HasMade}
+use Rattle.mark_incremental.specs.Walking.{ReadsAs, LeavesRight, LeavesRightBelow, Start, start_at, HasMade}
 
 -- one for the vertex and one for each edge under it
 abbrev pub weight : List Edge → Vertex → ℕ
@@ -78,29 +80,33 @@ pub record AreMoved (live : List Edge) (before now : List Frame) : Type 0 where
 
 -- ---- also where memory runs out in the midst of a walk
 
--- there is a walk down a tree, behind some records, for which so much may be counted
-pub record IsPaid (live : List Edge) (judged : Vertex → Bool) (records : Records) (head : Vertex) (before : List (Vertex × Kept)) (start paid steps : ℕ) : Type 0 where
+-- there is a walk down, behind some records, for which so much may be counted
+pub record IsPaid (live : List Edge) (judged : Vertex → Bool) (records : Records) (from : Start) (before : List (Vertex × Kept)) (start paid steps : ℕ) : Type 0 where
   pub all : List (Vertex × Kept)
-  pub made : HasMade live judged records head before all
+  pub made : HasMade live judged records from before all
   pub within : steps + paid ≤ start + 5 * weight_of live all
 
 -- the same for whatever records the map has, read through the tables
-abbrev pub IsPaidFor : List Edge → List Typ → List Context → Places Record → (Vertex → Bool) → Vertex → List (Vertex × Kept) → ℕ → ℕ → ℕ → Type 0
-IsPaidFor live types ctxs places judged head before start paid steps =
-    (records : Records) → ReadsAs types ctxs places records → LeavesRight live judged records → IsPaid live judged records head before start paid steps
+abbrev pub IsPaidFor : List Edge → List Typ → List Context → Places Record → (Vertex → Bool) → Start → List (Vertex × Kept) → ℕ → ℕ → ℕ → Type 0
+IsPaidFor live types ctxs places judged from before start paid steps =
+    (records : Records) → ReadsAs types ctxs places records → LeavesRightBelow live judged records from.vertex → IsPaid live judged records from before start paid steps
 
--- What a walk down a tree counts, also where it is cut off, is at most five for each vertex, and for each edge under it, of the records that
--- the walk makes.
-pub record IsTreePaid (live : List Edge) (judged : Vertex → Bool) (records : Records) (head : Vertex) (before after : ℕ) : Type 0 where
+-- What a walk down counts, also where it is cut off, is at most five for each vertex, and for each edge under it, of the records that the
+-- walk makes.
+pub record IsWalkPaid (live : List Edge) (judged : Vertex → Bool) (records : Records) (from : Start) (before after : ℕ) : Type 0 where
   pub all : List (Vertex × Kept)
-  pub makes : MakesTree judged live records head all
+  pub makes : MakesFrom judged live records from.vertex from.demanded all
   pub within : after ≤ before + 5 * weight_of live all
 
-abbrev pub IsTreePaidFor : List Edge → List Typ → List Context → Places Record → (Vertex → Bool) → Vertex → ℕ → ℕ → Type 0
-IsTreePaidFor live types ctxs places judged head before after =
-    (records : Records) → ReadsAs types ctxs places records → LeavesRight live judged records → IsTreePaid live judged records head before after
+abbrev pub IsWalkPaidFor : List Edge → List Typ → List Context → Places Record → (Vertex → Bool) → Start → ℕ → ℕ → Type 0
+IsWalkPaidFor live types ctxs places judged from before after =
+    (records : Records) → ReadsAs types ctxs places records → LeavesRightBelow live judged records from.vertex → IsWalkPaid live judged records from before after
 
--- the same of the trees of some heads
+-- the same of a tree
+abbrev pub IsTreePaidFor : List Edge → List Typ → List Context → Places Record → (Vertex → Bool) → Vertex → ℕ → ℕ → Type 0
+IsTreePaidFor live types ctxs places judged head before after = IsWalkPaidFor live types ctxs places judged (start_at head alone) before after
+
+-- and of the trees of some heads
 pub record AreTreesPaid (live : List Edge) (judged : Vertex → Bool) (records : Records) (heads : List Vertex) (before after : ℕ) : Type 0 where
   pub all : List (Vertex × Kept)
   pub makes : MakesTrees judged live records heads all

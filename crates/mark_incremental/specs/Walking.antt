@@ -21,9 +21,11 @@ use Rattle.judging.specs.Machine as machine
 use Rattle.judging.specs.Frames.{given_at, opened_at, IsOpenOf, IsGivenOf}
 use Rattle.judging.proofs.Running.{Agree, after}
 use Rattle.judging.proofs.Running as running
-use Rattle.kept_records.specs.Kept.{Kept, Records, Stands, kept_of, expression_of, demanded_at, demanded_among}
+use Rattle.mark_step.specs.declared.node.Demand.{Demand}
+use Rattle.kept_records.specs.Kept.{Kept, Records, Stands, alone, kept_of, expression_of, demanded_at, demanded_among}
 use Rattle.kept_records.specs.Renewal.{MakesUnder, MakesTree, MakesTrees}
 use Rattle.kept_records.specs.Renewal as renewal
+use Rattle.kept_records.specs.Short.{MakesFrom}
 use Rattle.mark_store.specs.declared.record.Record.{Record}
 use Rattle.mark_store.specs.Places.{Places}
 use Rattle.mark_incremental.specs.declared.frame.Frame.{Frame}
@@ -217,29 +219,68 @@ abbrev pub LeavesRight : List Edge → (Vertex → Bool) → Records → Type 0
 LeavesRight live judged records = (u : Vertex) (us : List Vertex) (v : Vertex) (f : Forest) (d : Demanded) → Stands live (u ∷ us) v f d → renewal.IsLeft judged records v d
     → records v ≡ Some (kept_of v f d)
 
--- behind some records stand those that a walk down a tree makes
-pub record HasMade (live : List Edge) (judged : Vertex → Bool) (records : Records) (head : Vertex) (before made : List (Vertex × Kept)) : Type 0 where
+-- ---- where a walk down begins
+
+-- a vertex, of which this is demanded
+pub record Start : Type 0 where
+  pub vertex : Vertex
+  pub demanded : Demanded
+
+abbrev pub start_at : Vertex → Demanded → Start
+start_at v d = record { vertex = v; demanded = d }
+
+-- it stands there, and what a number says is demanded of it
+pub record IsStart (live : List Edge) (types : List Typ) (ctxs : List Context) (demand : Demand) (from : Start) : Type 0 where
+  pub above : List Vertex
+  pub forest : Forest
+  pub stands : Stands live above from.vertex forest from.demanded
+  pub agree : Agree (sort_of_ctor from.vertex.ctor) (node.demanded_at types ctxs demand) from.demanded
+
+-- a vertex is among others
+pub record IsMember (v : Vertex) (vs : List Vertex) : Type 0 where
+  pub before : List Vertex
+  pub behind : List Vertex
+  pub are : vs ≡ before ++ v ∷ behind
+
+-- each of some open vertices is a vertex, or stands below it
+abbrev pub StandBelow : Vertex → List Level → Type 0
+StandBelow start [] = Unit {0}
+StandBelow start (l ∷ ls) = IsMember start (l.vertex ∷ l.above) × StandBelow start ls
+
+-- what is left as it is below a vertex has the record that it has in the new graph
+abbrev pub LeavesRightBelow : List Edge → (Vertex → Bool) → Records → Vertex → Type 0
+LeavesRightBelow live judged records start =
+    (u : Vertex) (us : List Vertex) (v : Vertex) (f : Forest) (d : Demanded) → Stands live (u ∷ us) v f d → IsMember start (u ∷ us) → renewal.IsLeft judged records v d
+    → records v ≡ Some (kept_of v f d)
+
+-- behind some records stand those that a walk down makes
+pub record HasMade (live : List Edge) (judged : Vertex → Bool) (records : Records) (from : Start) (before made : List (Vertex × Kept)) : Type 0 where
   pub own : List (Vertex × Kept)
   pub are : made ≡ before ++ own
-  pub makes : MakesTree judged live records head own
+  pub makes : MakesFrom judged live records from.vertex from.demanded own
 
--- the vertices that are open in a walk down a tree, innermost first, and the records that are made so far, behind some others
-pub record IsOnWay (live : List Edge) (types : List Typ) (ctxs : List Context) (judged : Vertex → Bool) (records : Records) (head : Vertex) (before : List (Vertex × Kept)) (frames : List Frame) (made : List (Vertex × Record)) : Type 0 where
+-- the vertices that are open in a walk down, innermost first, and the records that are made so far, behind some others
+pub record IsOnWay (live : List Edge) (types : List Typ) (ctxs : List Context) (judged : Vertex → Bool) (records : Records) (from : Start) (before : List (Vertex × Kept)) (frames : List Frame) (made : List (Vertex × Record)) : Type 0 where
   pub levels : List Level
   pub are : AreLevels live types ctxs levels frames
   pub waiting : AreWaiting (drop 1 frames)
   pub linked : AreLinked levels
-  pub goes_on : GoesOn judged records (HasMade live judged records head before) levels (meant types ctxs made)
+  pub below : StandBelow from.vertex levels
+  pub goes_on : GoesOn judged records (HasMade live judged records from before) levels (meant types ctxs made)
 
 -- the same for whatever records the map has, read through the tables
-abbrev pub IsUnderWay : List Edge → List Typ → List Context → Places Record → (Vertex → Bool) → Vertex → List (Vertex × Kept) → List Frame → List (Vertex × Record) → Type 0
-IsUnderWay live types ctxs places judged head before frames made =
-    (records : Records) → ReadsAs types ctxs places records → LeavesRight live judged records → IsOnWay live types ctxs judged records head before frames made
+abbrev pub IsUnderWay : List Edge → List Typ → List Context → Places Record → (Vertex → Bool) → Start → List (Vertex × Kept) → List Frame → List (Vertex × Record) → Type 0
+IsUnderWay live types ctxs places judged from before frames made =
+    (records : Records) → ReadsAs types ctxs places records → LeavesRightBelow live judged records from.vertex → IsOnWay live types ctxs judged records from before frames made
 
--- behind some records stand those of a tree, for whatever records the map has, read through the tables
+-- behind some records stand those of a walk down, for whatever records the map has, read through the tables
+abbrev pub HasMadeFrom : List Edge → List Typ → List Context → Places Record → (Vertex → Bool) → Start → List (Vertex × Record) → List (Vertex × Record) → Type 0
+HasMadeFrom live types ctxs places judged from before made =
+    (records : Records) → ReadsAs types ctxs places records → LeavesRightBelow live judged records from.vertex → HasMade live judged records from (meant types ctxs before) (meant types ctxs made)
+
+-- those of a tree
 abbrev pub HasMadeTree : List Edge → List Typ → List Context → Places Record → (Vertex → Bool) → Vertex → List (Vertex × Record) → List (Vertex × Record) → Type 0
-HasMadeTree live types ctxs places judged head before made =
-    (records : Records) → ReadsAs types ctxs places records → LeavesRight live judged records → HasMade live judged records head (meant types ctxs before) (meant types ctxs made)
+HasMadeTree live types ctxs places judged head before made = HasMadeFrom live types ctxs places judged (start_at head alone) before made
 
 -- the records are those of the trees of some heads
 abbrev pub HasMadeTrees : List Edge → List Typ → List Context → Places Record → (Vertex → Bool) → List Vertex → List (Vertex × Record) → Type 0

@@ -1,4 +1,4 @@
-ghost use Rattle.std.specs.Prelude.{◌≡◌, ◌↔◌, IsTrue, ◌+◌, ◌*◌, ◌≤◌, ◌∷◌, [], ℕ, IfOk, OnOk, OnErr};
+ghost use Rattle.std.specs.Prelude.{◌≡◌, ◌↔◌, IsTrue, ◌+◌, ◌*◌, ◌≤◌, ◌∷◌, [], ℕ, None, IfOk, IfSome, OnOk, OnErr};
 ghost use Rattle.edge_lattice.specs.State.{IsAtMost};
 ghost use Rattle.grove_sorts.specs.declared.position.Position.{Position};
 ghost use Rattle.grove_edits.specs.declared.vertex.Vertex.{Vertex};
@@ -14,8 +14,9 @@ ghost use Rattle.kept_records.specs.Size.{IsSize};
 ghost use Rattle.mark_incremental.specs.Looking.{holds};
 ghost use Rattle.mark_incremental.specs.Raising.{AreIndexed, HaveRoom, LeavesRoom, MovesRoom, brought_by, taken_by};
 ghost use Rattle.mark_incremental.specs.Standing.{StandFor, KeptMarks, kept_in};
-ghost use Rattle.mark_incremental.specs.Applying.{HaveGrown, KeepMarksRoom, put_back_in, roots_back, CanRenewBack, WasApplied, CanTakeBack};
+ghost use Rattle.mark_incremental.specs.Applying.{HaveGrown, KeepMarksRoom, put_back_in, roots_back, CanRenewBack, WasApplied, IsApplied, IsBack, CanTakeBack};
 
+use crate::apart::is_apart;
 use crate::marks::Marks;
 use crate::no_memory::NoMemory;
 use crate::passing::walk_from_ends;
@@ -29,7 +30,7 @@ use grove_edits::{Edge, Edit, EditKind, Vertex};
 use mark_store::Record;
 use parent_index::ParentIndex;
 use std::sync::ledger::Ledger;
-use walks::Steps;
+use walks::{ParentOf, Steps};
 
 /// What the renewal of records after an edit replaced.
 #[derive(Drop)]
@@ -120,9 +121,88 @@ impl Marks {
         }
         let edge = edit.edge();
         reserve(&edge, store, children, parents)?;
-        let before = walk_from_ends(self.alloc, self.seed, &edge, parents, steps)?;
+        if let Some(applied) = self.apply_short(edit, &edge, store, children, parents, steps)? {
+            return Ok(applied);
+        }
+        self.apply_whole(edit, &edge, store, children, parents, steps)
+    }
+
+    // Applies an edit of an edge, for which there is room, by a short walk. None where that is not enough; then all is as before, but that
+    // the tables may have grown.
+    fn apply_short<L: Ledger>(
+        &mut self,
+        edit: &Edit,
+        edge: &Edge,
+        store: &mut GraphStore,
+        children: &mut ChildIndex,
+        parents: &mut ParentIndex,
+        steps: &mut Steps<L>,
+    ) -> Result<Option<Applied>, NoMemory>
+        requires edge { edit_edge edit.now ≡ edge.now }
+        requires indexed { AreIndexed store.old children.old parents.old }
+        requires stand { StandFor (state_in store.old) self.old }
+        requires room { HaveRoom (edit_edge edit.now) store.old children.old parents.old }
+        ensures indexed { AreIndexed store.new children.new parents.new }
+        ensures applied { IfOk result (λ r. IfSome r (λ applied. IsApplied edit.now applied store.old self.old store.new self.new)) }
+        ensures can_take_back { IfOk result (λ r. IfSome r (λ applied. CanTakeBack edit.now applied store.new children.new parents.new self.new)) }
+        ensures index_room { IfOk result (λ r. IfSome r (λ applied. MovesRoom (edit_edge edit.now) (brought_by (edit_kind edit.now) applied.change) (taken_by (edit_kind edit.now) applied.change)
+            children.old children.new parents.old parents.new)) }
+        ensures back { IfOk result (λ r. r ≡ None → IsBack store.old children.old parents.old self.old store.new children.new parents.new self.new) }
+        ensures unchanged { OnErr result (IsBack store.old children.old parents.old self.old store.new children.new parents.new self.new) }
+        ensures room_stays { KeepsRoom store.old store.new }
+        ensures marks_room_stays { KeepMarksRoom self.old self.new }
+        ensures ticks { (size : ℕ) → IsSize (edit_edge edit.now) (state_in store.old) (graph_join (state_in store.old) (graph (edit.now ∷ []))) size → steps.new ≤ steps.old + 22 * size + 30 }
+    {
+        let before = parents.few(&edge.target, steps);
+        let apart = is_apart(
+            &edge.target,
+            &edge.source,
+            &self.records,
+            parents,
+            &self.roots,
+            steps,
+        );
         let change = raise(edit, store, children, parents);
-        match self.renew(&edge, &before, store, children, parents, steps) {
+        match self.renew_if_short(edge, apart, &before, store, children, parents, steps) {
+            Ok(Some(old)) => Ok(Some(Applied { change, old })),
+            Ok(None) => {
+                put_back(edit, change, store, children, parents);
+                Ok(None)
+            }
+            Err(no_memory) => {
+                put_back(edit, change, store, children, parents);
+                Err(no_memory)
+            }
+        }
+    }
+
+    // Applies an edit of an edge, for which there is room, by walks from the heads of trees.
+    fn apply_whole<L: Ledger>(
+        &mut self,
+        edit: &Edit,
+        edge: &Edge,
+        store: &mut GraphStore,
+        children: &mut ChildIndex,
+        parents: &mut ParentIndex,
+        steps: &mut Steps<L>,
+    ) -> Result<Applied, NoMemory>
+        requires edge { edit_edge edit.now ≡ edge.now }
+        requires indexed { AreIndexed store.old children.old parents.old }
+        requires stand { StandFor (state_in store.old) self.old }
+        requires room { HaveRoom (edit_edge edit.now) store.old children.old parents.old }
+        ensures indexed { AreIndexed store.new children.new parents.new }
+        ensures applied { IfOk result (λ applied. IsApplied edit.now applied store.old self.old store.new self.new) }
+        ensures can_take_back { IfOk result (λ applied. CanTakeBack edit.now applied store.new children.new parents.new self.new) }
+        ensures index_room { IfOk result (λ applied. MovesRoom (edit_edge edit.now) (brought_by (edit_kind edit.now) applied.change) (taken_by (edit_kind edit.now) applied.change)
+            children.old children.new parents.old parents.new) }
+        ensures unchanged { OnErr result (IsBack store.old children.old parents.old self.old store.new children.new parents.new self.new) }
+        ensures room_stays { KeepsRoom store.old store.new }
+        ensures marks_room_stays { KeepMarksRoom self.old self.new }
+        ensures ticks { (size : ℕ) → IsSize (edit_edge edit.now) (state_in store.old) (graph_join (state_in store.old) (graph (edit.now ∷ []))) size → steps.new ≤ steps.old + 40 * size + 21 }
+    {
+        let before = walk_from_ends(self.alloc, self.seed, edge, parents, steps)?;
+        let change = raise(edit, store, children, parents);
+        match self.renew(edge, &before, store, children, parents, steps) {
             Ok(old) => Ok(Applied { change, old }),
             Err(no_memory) => {
                 put_back(edit, change, store, children, parents);

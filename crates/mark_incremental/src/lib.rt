@@ -1,6 +1,7 @@
 //! The marks of a live graph, kept from edit to edit.
 #![tactic(auto)]
 
+mod apart;
 mod applying;
 mod applying_all;
 mod frame;
@@ -16,7 +17,9 @@ mod renewal;
 mod replacing;
 mod rooting;
 mod settling;
+mod short;
 mod walks_up;
+mod way;
 
 pub use applying::{Applied, OldRecords};
 pub use marks::Marks;

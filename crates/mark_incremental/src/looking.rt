@@ -42,8 +42,8 @@ pub(crate) struct Walk<'t> {
     ghost well_formed: { AllByRecursion IsWellFormed (live parents.now) } by { Prim.hlevel props },
 }
 
-// Whether what is demanded of a vertex is what its record says.
-fn is_demanded(kept: &Record, demand: &Demand) -> bool
+/// Whether what is demanded of a vertex is what its record says.
+pub(crate) fn is_demanded(kept: &Record, demand: &Demand) -> bool
     ensures { IsTrue result ↔ (demand_of kept.now ≡ demand.now) }
 {
     kept.ctx == demand.ctx && kept.mode.unwrap_or(Mode::Syn) == demand.mode
@@ -67,8 +67,8 @@ pub(crate) fn is_inner<L: Ledger>(
 }
 
 impl<'t> Walk<'t> {
-    // Whether a vertex is judged again whatever is demanded of it.
-    fn is_judged(&self, vertex: &Vertex) -> bool
+    /// Whether a vertex is judged again whatever is demanded of it.
+    pub(crate) fn is_judged(&self, vertex: &Vertex) -> bool
         ensures { result ≡ on self.now.whole self.now.passed.now vertex.now }
     {
         self.whole || holds(self.passed, vertex)

@@ -8,13 +8,15 @@ ghost use Rattle.edge_index.specs.Lists.{live};
 ghost use Rattle.type_core.specs.TypeTable.{KeepsTypes};
 ghost use Rattle.ctx_table.specs.Context.{Context};
 ghost use Rattle.ctx_table.specs.CtxTable.{KeepsContexts};
+ghost use Rattle.mark_step.specs.Expression.{Demanded};
+ghost use Rattle.mark_step.specs.Node.{IsDemandOf};
 ghost use Rattle.judging.specs.Frames.{IsGivenOf};
 ghost use Rattle.kept_records.specs.Kept.{Kept};
 ghost use Rattle.mark_store.specs.declared.record.Record.{Record};
 ghost use Rattle.mark_incremental.specs.Reading.{AreRecordsOf};
 ghost use Rattle.mark_incremental.specs.Looking.{on, IsFound};
-ghost use Rattle.mark_incremental.specs.Walking.{AreFramesOf, AreMadeOf, IsFrameOf, IsHanded, IsAccepted, IsUnderWay, HasMadeTree};
-ghost use Rattle.mark_incremental.specs.Ticks.{weight_of, AreCounted, AreMoved, IsPaidFor, IsTreePaidFor};
+ghost use Rattle.mark_incremental.specs.Walking.{AreFramesOf, AreMadeOf, IsFrameOf, IsHanded, IsAccepted, Start, start_at, IsStart, IsUnderWay, HasMadeFrom, HasMadeTree};
+ghost use Rattle.mark_incremental.specs.Ticks.{weight_of, AreCounted, AreMoved, IsPaidFor, IsWalkPaidFor, IsTreePaidFor};
 
 use crate::frame::{Frame, accept};
 use crate::looking::Walk;
@@ -24,6 +26,7 @@ use ctx_table::CtxTable;
 use grove_edits::{Edge, Vertex};
 use grove_sorts::position_count;
 use judging::{Given, demand_next};
+use mark_step::Demand;
 use mark_store::Record;
 use std::alloc::Global;
 use std::sync::ledger::Ledger;
@@ -65,16 +68,16 @@ impl<'t> Walk<'t> {
         requires frames { AreFramesOf types.old ctxs.old (frame.now ∷ reverse stack.old.items) }
         requires first { slice_get frame.now.left.now 0 ≡ Some edge.now }
         requires found { IsFound (live self.now.parents.now) types.old ctxs.old self.now.records.now (on self.now.whole self.now.passed.now) frame.now.demand edge.now None }
-        ensures way { (head : Vertex) (before : List (Vertex × Kept)) (made : List (Vertex × Record)) → AreMadeOf types.old ctxs.old made
-            → IsUnderWay (live self.now.parents.now) types.old ctxs.old self.now.records.now (on self.now.whole self.now.passed.now) head before (frame.now ∷ reverse stack.old.items) made
-            → OnOk result (IsUnderWay (live self.now.parents.now) types.new ctxs.new self.now.records.now (on self.now.whole self.now.passed.now) head before (reverse stack.new.items) made) }
+        ensures way { (from : Start) (before : List (Vertex × Kept)) (made : List (Vertex × Record)) → AreMadeOf types.old ctxs.old made
+            → IsUnderWay (live self.now.parents.now) types.old ctxs.old self.now.records.now (on self.now.whole self.now.passed.now) from before (frame.now ∷ reverse stack.old.items) made
+            → OnOk result (IsUnderWay (live self.now.parents.now) types.new ctxs.new self.now.records.now (on self.now.whole self.now.passed.now) from before (reverse stack.new.items) made) }
         ensures frames { OnOk result (AreFramesOf types.new ctxs.new (reverse stack.new.items)) }
         ensures counted { (start paid count : ℕ) (made : List (Vertex × Record)) → steps.old ≤ count + 3 → AreCounted (live self.now.parents.now) start paid count (frame.now ∷ reverse stack.old.items) made
             → OnOk result (AreCounted (live self.now.parents.now) start paid steps.new (reverse stack.new.items) made) }
-        ensures paid { (head : Vertex) (before : List (Vertex × Kept)) (made : List (Vertex × Record)) (start paid count : ℕ) → steps.old ≤ count + 3
-            → IsUnderWay (live self.now.parents.now) types.old ctxs.old self.now.records.now (on self.now.whole self.now.passed.now) head before (frame.now ∷ reverse stack.old.items) made
+        ensures paid { (from : Start) (before : List (Vertex × Kept)) (made : List (Vertex × Record)) (start paid count : ℕ) → steps.old ≤ count + 3
+            → IsUnderWay (live self.now.parents.now) types.old ctxs.old self.now.records.now (on self.now.whole self.now.passed.now) from before (frame.now ∷ reverse stack.old.items) made
             → AreCounted (live self.now.parents.now) start paid count (frame.now ∷ reverse stack.old.items) made
-            → IsPaidFor (live self.now.parents.now) types.old ctxs.old self.now.records.now (on self.now.whole self.now.passed.now) head before start paid steps.new }
+            → IsPaidFor (live self.now.parents.now) types.old ctxs.old self.now.records.now (on self.now.whole self.now.passed.now) from before start paid steps.new }
         ensures types { KeepsTypes types.old types.new }
         ensures contexts { KeepsContexts ctxs.old ctxs.new }
     {
@@ -98,16 +101,16 @@ impl<'t> Walk<'t> {
         requires records { AreRecordsOf types.old ctxs.old self.now.records.now }
         requires frames { AreFramesOf types.old ctxs.old (frame.now ∷ reverse stack.old.items) }
         requires first { slice_get frame.now.left.now 0 ≡ Some edge.now }
-        ensures way { (head : Vertex) (before : List (Vertex × Kept)) (made : List (Vertex × Record)) → AreMadeOf types.old ctxs.old made
-            → IsUnderWay (live self.now.parents.now) types.old ctxs.old self.now.records.now (on self.now.whole self.now.passed.now) head before (frame.now ∷ reverse stack.old.items) made
-            → OnOk result (IsUnderWay (live self.now.parents.now) types.new ctxs.new self.now.records.now (on self.now.whole self.now.passed.now) head before (reverse stack.new.items) made) }
+        ensures way { (from : Start) (before : List (Vertex × Kept)) (made : List (Vertex × Record)) → AreMadeOf types.old ctxs.old made
+            → IsUnderWay (live self.now.parents.now) types.old ctxs.old self.now.records.now (on self.now.whole self.now.passed.now) from before (frame.now ∷ reverse stack.old.items) made
+            → OnOk result (IsUnderWay (live self.now.parents.now) types.new ctxs.new self.now.records.now (on self.now.whole self.now.passed.now) from before (reverse stack.new.items) made) }
         ensures frames { OnOk result (AreFramesOf types.new ctxs.new (reverse stack.new.items)) }
         ensures counted { (start paid : ℕ) (made : List (Vertex × Record)) → AreCounted (live self.now.parents.now) start paid steps.old (frame.now ∷ reverse stack.old.items) made
             → OnOk result (AreCounted (live self.now.parents.now) start paid steps.new (reverse stack.new.items) made) }
-        ensures paid { (head : Vertex) (before : List (Vertex × Kept)) (made : List (Vertex × Record)) (start paid : ℕ)
-            → IsUnderWay (live self.now.parents.now) types.old ctxs.old self.now.records.now (on self.now.whole self.now.passed.now) head before (frame.now ∷ reverse stack.old.items) made
+        ensures paid { (from : Start) (before : List (Vertex × Kept)) (made : List (Vertex × Record)) (start paid : ℕ)
+            → IsUnderWay (live self.now.parents.now) types.old ctxs.old self.now.records.now (on self.now.whole self.now.passed.now) from before (frame.now ∷ reverse stack.old.items) made
             → AreCounted (live self.now.parents.now) start paid steps.old (frame.now ∷ reverse stack.old.items) made
-            → IsPaidFor (live self.now.parents.now) types.old ctxs.old self.now.records.now (on self.now.whole self.now.passed.now) head before start paid steps.new }
+            → IsPaidFor (live self.now.parents.now) types.old ctxs.old self.now.records.now (on self.now.whole self.now.passed.now) from before start paid steps.new }
         ensures types { KeepsTypes types.old types.new }
         ensures contexts { KeepsContexts ctxs.old ctxs.new }
     {
@@ -133,17 +136,17 @@ impl<'t> Walk<'t> {
         requires records { AreRecordsOf types.old ctxs.old self.now.records.now }
         requires frames { AreFramesOf types.old ctxs.old (reverse stack.old.items) }
         requires made { AreMadeOf types.old ctxs.old made.old.items }
-        ensures way { (head : Vertex) (before : List (Vertex × Kept))
-            → IsUnderWay (live self.now.parents.now) types.old ctxs.old self.now.records.now (on self.now.whole self.now.passed.now) head before (reverse stack.old.items) made.old.items
-            → OnOk result (IsUnderWay (live self.now.parents.now) types.new ctxs.new self.now.records.now (on self.now.whole self.now.passed.now) head before (reverse stack.new.items) made.new.items) }
+        ensures way { (from : Start) (before : List (Vertex × Kept))
+            → IsUnderWay (live self.now.parents.now) types.old ctxs.old self.now.records.now (on self.now.whole self.now.passed.now) from before (reverse stack.old.items) made.old.items
+            → OnOk result (IsUnderWay (live self.now.parents.now) types.new ctxs.new self.now.records.now (on self.now.whole self.now.passed.now) from before (reverse stack.new.items) made.new.items) }
         ensures made { OnOk result (AreMadeOf types.new ctxs.new made.new.items) }
         ensures frames { OnOk result (AreFramesOf types.new ctxs.new (reverse stack.new.items)) }
         ensures counted { (start paid : ℕ) → AreCounted (live self.now.parents.now) start paid steps.old (reverse stack.old.items) made.old.items
             → OnOk result (AreCounted (live self.now.parents.now) start paid steps.new (reverse stack.new.items) made.new.items) }
-        ensures paid { (head : Vertex) (before : List (Vertex × Kept)) (start paid : ℕ)
-            → IsUnderWay (live self.now.parents.now) types.old ctxs.old self.now.records.now (on self.now.whole self.now.passed.now) head before (reverse stack.old.items) made.old.items
+        ensures paid { (from : Start) (before : List (Vertex × Kept)) (start paid : ℕ)
+            → IsUnderWay (live self.now.parents.now) types.old ctxs.old self.now.records.now (on self.now.whole self.now.passed.now) from before (reverse stack.old.items) made.old.items
             → AreCounted (live self.now.parents.now) start paid steps.old (reverse stack.old.items) made.old.items
-            → IsPaidFor (live self.now.parents.now) types.old ctxs.old self.now.records.now (on self.now.whole self.now.passed.now) head before start paid steps.new }
+            → IsPaidFor (live self.now.parents.now) types.old ctxs.old self.now.records.now (on self.now.whole self.now.passed.now) from before start paid steps.new }
         ensures types { KeepsTypes types.old types.new }
         ensures contexts { KeepsContexts ctxs.old ctxs.new }
     {
@@ -161,9 +164,44 @@ impl<'t> Walk<'t> {
         hand_on(types, stack, given)
     }
 
-    /// Lists the records that a walk down the tree of a vertex makes. It ticks at most five times for each of their vertices
-    /// and for each edge under it; where memory runs out, for each that it would have made. The numbers of both tables keep their meaning
-    /// then too.
+    /// Lists the records that a walk down from a vertex makes, of which this is demanded. It ticks at most five times for each of their
+    /// vertices and for each edge under it; where memory runs out, for each that it would have made. The numbers of both tables keep
+    /// their meaning then too.
+    pub(crate) fn renew_from<L: Ledger>(
+        &self,
+        alloc: Global,
+        types: &mut TypeTable,
+        ctxs: &mut CtxTable,
+        start: &'t Vertex,
+        demand: Demand,
+        made: &mut Vec<(Vertex, Record)>,
+        steps: &mut Steps<L>,
+    ) -> Result<(), NoMemory>
+        requires records { AreRecordsOf types.old ctxs.old self.now.records.now }
+        requires made { AreMadeOf types.old ctxs.old made.old.items }
+        requires demand { IsDemandOf types.old ctxs.old demand }
+        ensures from { (d : Demanded) → IsStart (live self.now.parents.now) types.old ctxs.old demand (start_at start.now d)
+            → OnOk result (HasMadeFrom (live self.now.parents.now) types.new ctxs.new self.now.records.now (on self.now.whole self.now.passed.now) (start_at start.now d) made.old.items made.new.items) }
+        ensures made { OnOk result (AreMadeOf types.new ctxs.new made.new.items) }
+        ensures ticks { OnOk result (steps.new + 5 * weight_of (live self.now.parents.now) made.old.items ≤ steps.old + 5 * weight_of (live self.now.parents.now) made.new.items) }
+        ensures paid { (d : Demanded) → IsStart (live self.now.parents.now) types.old ctxs.old demand (start_at start.now d)
+            → IsWalkPaidFor (live self.now.parents.now) types.old ctxs.old self.now.records.now (on self.now.whole self.now.passed.now) (start_at start.now d) steps.old steps.new }
+        ensures types { KeepsTypes types.old types.new }
+        ensures contexts { KeepsContexts ctxs.old ctxs.new }
+    {
+        let mut stack = Vec::new(alloc);
+        stack.push(self.begin(alloc, types, ctxs, start, demand, steps)?)?;
+        for _ in 0..u64::MAX {
+            if stack.is_empty() {
+                return Ok(());
+            }
+            self.step(alloc, types, ctxs, &mut stack, made, steps)?;
+        }
+        // A tree is no larger than memory.
+        Err(NoMemory)
+    }
+
+    /// Lists the records that a walk down the tree of a vertex makes, in the same number of ticks.
     pub(crate) fn renew_tree<L: Ledger>(
         &self,
         alloc: Global,
@@ -184,15 +222,6 @@ impl<'t> Walk<'t> {
         ensures contexts { KeepsContexts ctxs.old ctxs.new }
     {
         let demand = demand_next(alloc, types, ctxs, None)?;
-        let mut stack = Vec::new(alloc);
-        stack.push(self.begin(alloc, types, ctxs, head, demand, steps)?)?;
-        for _ in 0..u64::MAX {
-            if stack.is_empty() {
-                return Ok(());
-            }
-            self.step(alloc, types, ctxs, &mut stack, made, steps)?;
-        }
-        // A tree is no larger than memory.
-        Err(NoMemory)
+        self.renew_from(alloc, types, ctxs, head, demand, made, steps)
     }
 }

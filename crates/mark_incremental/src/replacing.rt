@@ -89,8 +89,8 @@ impl Marks {
         )
     }
 
-    // Puts records in place of the kept ones, and answers those.
-    fn replace(
+    /// Puts records in place of the kept ones, and answers those.
+    pub(crate) fn replace(
         &mut self,
         made: Vec<(Vertex, Record)>,
     ) -> Result<Vec<(Vertex, Option<Record>)>, NoMemory>

@@ -13,11 +13,11 @@ use Rattle.mark_incremental.proofs.Paid.{paid_down}
 use Rattle.mark_incremental.proofs.looking.Walk.descend.Goals as goal
 
 pub returns-clause-way : goal.returns-clause-way
-returns-clause-way g c = λ head before made of_made way.
-    subst (λ (frs : List Frame). IsUnderWay (live c.args.self.now.parents.now) c.begin.new.types c.begin.new.ctxs c.args.self.now.records.now (on c.args.self.now.whole c.args.self.now.passed.now) head before frs made)
+returns-clause-way g c = λ from before made of_made way.
+    subst (λ (frs : List Frame). IsUnderWay (live c.args.self.now.parents.now) c.begin.new.types c.begin.new.ctxs c.args.self.now.records.now (on c.args.self.now.whole c.args.self.now.passed.now) from before frs made)
     (sym (two_on_top c.args.stack.now.items c.push.new.self.items c.push-2.new.self.items c.args.frame.now c.in_ok-child.child c.in_ok-push.ensures.items c.in_ok-push-2.ensures.items))
     (descended (live c.args.self.now.parents.now) c.args.self.now.well_formed c.args.types.now c.begin.new.types c.args.ctxs.now c.begin.new.ctxs c.in_ok-child.ensures.types c.in_ok-child.ensures.contexts
-    c.args.self.now.records.now c.requires.records (on c.args.self.now.whole c.args.self.now.passed.now) head before c.args.frame.now c.in_ok-child.child (reverse c.args.stack.now.items) made c.args.edge.now
+    c.args.self.now.records.now c.requires.records (on c.args.self.now.whole c.args.self.now.passed.now) from before c.args.frame.now c.in_ok-child.child (reverse c.args.stack.now.items) made c.args.edge.now
     (drop 1 c.args.frame.now.left.now) (first_is c.args.frame.now.left.now c.args.edge.now c.requires.first) c.requires.frames of_made c.requires.found c.in_ok-child.ensures.was c.in_ok-child.ensures.vertex
     c.in_ok-child.ensures.fresh c.in_ok-child.ensures.all_left c.in_ok-child.ensures.begun way)
 
@@ -39,21 +39,21 @@ returns-clause-counted g c = λ start paid count made within counted.
     (omega (arith, ticks, within)) counted)
 
 pub returns-clause-paid : goal.returns-clause-paid
-returns-clause-paid g c = λ head before made start paid count within way counted.
-    paid_down (live c.args.self.now.parents.now) c.args.types.now c.args.ctxs.now c.args.self.now.records.now (on c.args.self.now.whole c.args.self.now.passed.now) head before made start paid count c.begin.new.steps c.args.self.now.well_formed c.requires.records c.args.frame.now (reverse c.args.stack.now.items) c.args.edge.now
+returns-clause-paid g c = λ from before made start paid count within way counted.
+    paid_down (live c.args.self.now.parents.now) c.args.types.now c.args.ctxs.now c.args.self.now.records.now (on c.args.self.now.whole c.args.self.now.passed.now) from before made start paid count c.begin.new.steps c.args.self.now.well_formed c.requires.records c.args.frame.now (reverse c.args.stack.now.items) c.args.edge.now
     (drop 1 c.args.frame.now.left.now) (first_is c.args.frame.now.left.now c.args.edge.now c.requires.first) c.requires.found way counted (omega (arith, within, c.begin.ensures.at_most))
 
 pub returns-in_err-push-2-clause-paid : goal.returns-in_err-push-2-clause-paid
-returns-in_err-push-2-clause-paid g c = λ head before made start paid count within way counted.
-    paid_down (live c.args.self.now.parents.now) c.args.types.now c.args.ctxs.now c.args.self.now.records.now (on c.args.self.now.whole c.args.self.now.passed.now) head before made start paid count c.begin.new.steps c.args.self.now.well_formed c.requires.records c.args.frame.now (reverse c.args.stack.now.items) c.args.edge.now
+returns-in_err-push-2-clause-paid g c = λ from before made start paid count within way counted.
+    paid_down (live c.args.self.now.parents.now) c.args.types.now c.args.ctxs.now c.args.self.now.records.now (on c.args.self.now.whole c.args.self.now.passed.now) from before made start paid count c.begin.new.steps c.args.self.now.well_formed c.requires.records c.args.frame.now (reverse c.args.stack.now.items) c.args.edge.now
     (drop 1 c.args.frame.now.left.now) (first_is c.args.frame.now.left.now c.args.edge.now c.requires.first) c.requires.found way counted (omega (arith, within, c.begin.ensures.at_most))
 
 pub returns-in_err-child-clause-paid : goal.returns-in_err-child-clause-paid
-returns-in_err-child-clause-paid g c = λ head before made start paid count within way counted.
-    paid_down (live c.args.self.now.parents.now) c.args.types.now c.args.ctxs.now c.args.self.now.records.now (on c.args.self.now.whole c.args.self.now.passed.now) head before made start paid count c.begin.new.steps c.args.self.now.well_formed c.requires.records c.args.frame.now (reverse c.args.stack.now.items) c.args.edge.now
+returns-in_err-child-clause-paid g c = λ from before made start paid count within way counted.
+    paid_down (live c.args.self.now.parents.now) c.args.types.now c.args.ctxs.now c.args.self.now.records.now (on c.args.self.now.whole c.args.self.now.passed.now) from before made start paid count c.begin.new.steps c.args.self.now.well_formed c.requires.records c.args.frame.now (reverse c.args.stack.now.items) c.args.edge.now
     (drop 1 c.args.frame.now.left.now) (first_is c.args.frame.now.left.now c.args.edge.now c.requires.first) c.requires.found way counted (omega (arith, within, c.begin.ensures.at_most))
 
 pub returns-in_err-push-clause-paid : goal.returns-in_err-push-clause-paid
-returns-in_err-push-clause-paid g c = λ head before made start paid count within way counted.
-    paid_down (live c.args.self.now.parents.now) c.args.types.now c.args.ctxs.now c.args.self.now.records.now (on c.args.self.now.whole c.args.self.now.passed.now) head before made start paid count c.args.steps.now c.args.self.now.well_formed c.requires.records c.args.frame.now (reverse c.args.stack.now.items) c.args.edge.now
+returns-in_err-push-clause-paid g c = λ from before made start paid count within way counted.
+    paid_down (live c.args.self.now.parents.now) c.args.types.now c.args.ctxs.now c.args.self.now.records.now (on c.args.self.now.whole c.args.self.now.passed.now) from before made start paid count c.args.steps.now c.args.self.now.well_formed c.requires.records c.args.frame.now (reverse c.args.stack.now.items) c.args.edge.now
     (drop 1 c.args.frame.now.left.now) (first_is c.args.frame.now.left.now c.args.edge.now c.requires.first) c.requires.found way counted (omega (arith, within))

@@ -1,19 +1,9 @@
 -- An expression is judged again where its record does not say what is demanded of it.
-use Rattle.std.proofs.Common.{◌≡◌, true, false, refl, sym, ◌∙◌}
+use Rattle.std.proofs.Common.{◌≡◌, false, sym, ◌∙◌}
 use Rattle.std.specs.Prelude.{IsTrue}
-use Rattle.grove_sorts.specs.declared.sort.Sort.{Sort}
-use Rattle.grove_sorts.specs.declared.sort.Sort.TheVariants.{Top, Exp, Pat, Typ as TypeSort}
-use Rattle.grove_sorts.specs.contracts.sort.SortPartialEq.TheImpl as sort_eq
 use Rattle.mark_incremental.specs.Looking.{demanded}
-use Rattle.mark_incremental.proofs.Found.{record_is, other_demand}
+use Rattle.mark_incremental.proofs.Found.{exp_found, record_is, other_demand}
 use Rattle.mark_incremental.proofs.looking.Walk.left.Goals as goal
-
--- the test finds the sort of expressions
-exp_found : (s : Sort) → true ≡ sort_eq.eq-value.it s Exp → s ≡ Exp
-exp_found Exp e = refl
-exp_found Top e = absurd cc
-exp_found Pat e = absurd cc
-exp_found TypeSort e = absurd cc
 
 pub returns-then-not-is_demanded-clause-found : goal.returns-then-not-is_demanded-clause-found
 returns-then-not-is_demanded-clause-found c = (

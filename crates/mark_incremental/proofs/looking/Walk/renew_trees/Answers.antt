@@ -10,7 +10,7 @@ use Rattle.mark_incremental.specs.Looking.{on}
 use Rattle.mark_incremental.specs.Walking.{HasMadeTrees, ReadsAs, meant}
 use Rattle.mark_incremental.specs.Ticks.{AreTreesPaid}
 use Rattle.mark_incremental.proofs.Growth.{records_kept, records_at-kept}
-use Rattle.mark_incremental.proofs.Trees.{all_taken, split_at, all_dropped, trees_more}
+use Rattle.mark_incremental.proofs.Trees.{all_taken, split_at, all_dropped, leaves_below, trees_more}
 use Rattle.mark_incremental.proofs.Paid.{meant_weighs, trees_cut}
 use Rattle.mark_incremental.proofs.looking.Walk.renew_trees.Goals as goal
 
@@ -50,7 +50,7 @@ returns-in_err-renew_tree-clause-paid g c = λ records reads leaves.
     subst (λ (vs : List Vertex). AreTreesPaid (live c.args.self.now.parents.now) (on c.args.self.now.whole c.args.self.now.passed.now) records vs c.args.steps.now c.renew_tree.new.steps) (sym (split_at c.args.heads.now c.loop-head.head-index c.head-item.result within c.head-item.is))
     (trees_cut (live c.args.self.now.parents.now) (on c.args.self.now.whole c.args.self.now.passed.now) records (take c.loop-head.head-index c.args.heads.now) rest c.head-item.result (meant c.loop-head.types c.loop-head.ctxs c.loop-head.made.items) c.args.steps.now c.loop-head.steps c.renew_tree.new.steps
     (all_dropped (λ v. class (live c.args.self.now.parents.now) v ≡ Inner → ⊥) c.args.heads.now (suc c.loop-head.head-index) c.requires.heads) (c.loop-head.invariant.trees records at_loop leaves) (omega (arith, weighs, c.loop-head.invariant.ticks))
-    (c.renew_tree.ensures.paid records at_loop leaves))
+    (c.renew_tree.ensures.paid records at_loop (leaves_below (live c.args.self.now.parents.now) (on c.args.self.now.whole c.args.self.now.passed.now) records c.head-item.result leaves)))
 
 pub returns-clause-paid : goal.returns-clause-paid
 returns-clause-paid g c = λ records reads leaves.

@@ -12,11 +12,11 @@ use Rattle.mark_incremental.proofs.Paid.{paid_now}
 use Rattle.mark_incremental.proofs.looking.Walk.take.Goals as goal
 
 pub returns-in_ok-push-in-Some-clause-way : goal.returns-in_ok-push-in-Some-clause-way
-returns-in_ok-push-in-Some-clause-way g c = λ head before made of_made way.
+returns-in_ok-push-in-Some-clause-way g c = λ from before made of_made way.
     on_ok_so c.hand_on.result (IsHanded c.args.types.now c.in-Some.given (reverse c.push.new.self.items) (reverse c.hand_on.new.stack.items))
-    (IsUnderWay (live c.args.self.now.parents.now) c.args.types.now c.args.ctxs.now c.args.self.now.records.now (on c.args.self.now.whole c.args.self.now.passed.now) head before (reverse c.hand_on.new.stack.items) made)
+    (IsUnderWay (live c.args.self.now.parents.now) c.args.types.now c.args.ctxs.now c.args.self.now.records.now (on c.args.self.now.whole c.args.self.now.passed.now) from before (reverse c.hand_on.new.stack.items) made)
     (λ handed.
-    handed_passes (live c.args.self.now.parents.now) c.args.self.now.well_formed c.args.types.now c.args.ctxs.now c.args.self.now.records.now (on c.args.self.now.whole c.args.self.now.passed.now) head before
+    handed_passes (live c.args.self.now.parents.now) c.args.self.now.well_formed c.args.types.now c.args.ctxs.now c.args.self.now.records.now (on c.args.self.now.whole c.args.self.now.passed.now) from before
     c.args.frame.now (reverse c.args.stack.now.items) (reverse c.push.new.self.items) (reverse c.hand_on.new.stack.items) made c.args.edge.now (drop 1 c.args.frame.now.left.now) c.in-Some.given
     (first_is c.args.frame.now.left.now c.args.edge.now c.requires.first) c.in-Some.ensures.found
     (on_top c.args.stack.now.items c.push.new.self.items c.args.frame.now c.in_ok-push-in-Some.ensures.items) handed way)
@@ -35,16 +35,16 @@ pub returns-in-None-clause-counted : goal.returns-in-None-clause-counted
 returns-in-None-clause-counted g c = λ start paid made counted. c.descend.ensures.counted start paid c.args.steps.now made c.look.ensures.ticks counted
 
 pub returns-in_ok-push-in-Some-clause-paid : goal.returns-in_ok-push-in-Some-clause-paid
-returns-in_ok-push-in-Some-clause-paid g c = λ head before made start paid way counted.
+returns-in_ok-push-in-Some-clause-paid g c = λ from before made start paid way counted.
     let some = some_left c.args.frame.now.left.now c.args.edge.now c.requires.first in
-    paid_now (live c.args.self.now.parents.now) c.args.types.now c.args.ctxs.now c.args.self.now.records.now (on c.args.self.now.whole c.args.self.now.passed.now) head before made start paid c.args.steps.now c.look.new.steps (c.args.frame.now ∷ reverse c.args.stack.now.items) way counted
+    paid_now (live c.args.self.now.parents.now) c.args.types.now c.args.ctxs.now c.args.self.now.records.now (on c.args.self.now.whole c.args.self.now.passed.now) from before made start paid c.args.steps.now c.look.new.steps (c.args.frame.now ∷ reverse c.args.stack.now.items) way counted
     (omega (arith, some, c.look.ensures.ticks))
 
 pub returns-in_err-push-in-Some-clause-paid : goal.returns-in_err-push-in-Some-clause-paid
-returns-in_err-push-in-Some-clause-paid g c = λ head before made start paid way counted.
+returns-in_err-push-in-Some-clause-paid g c = λ from before made start paid way counted.
     let some = some_left c.args.frame.now.left.now c.args.edge.now c.requires.first in
-    paid_now (live c.args.self.now.parents.now) c.args.types.now c.args.ctxs.now c.args.self.now.records.now (on c.args.self.now.whole c.args.self.now.passed.now) head before made start paid c.args.steps.now c.look.new.steps (c.args.frame.now ∷ reverse c.args.stack.now.items) way counted
+    paid_now (live c.args.self.now.parents.now) c.args.types.now c.args.ctxs.now c.args.self.now.records.now (on c.args.self.now.whole c.args.self.now.passed.now) from before made start paid c.args.steps.now c.look.new.steps (c.args.frame.now ∷ reverse c.args.stack.now.items) way counted
     (omega (arith, some, c.look.ensures.ticks))
 
 pub returns-in-None-clause-paid : goal.returns-in-None-clause-paid
-returns-in-None-clause-paid g c = λ head before made start paid way counted. c.descend.ensures.paid head before made start paid c.args.steps.now c.look.ensures.ticks way counted
+returns-in-None-clause-paid g c = λ from before made start paid way counted. c.descend.ensures.paid from before made start paid c.args.steps.now c.look.ensures.ticks way counted

@@ -1,19 +1,24 @@
 -- The graph is joined with the edit, or is as before, and the marks stand for it.
-use Rattle.std.proofs.Common.{[], ◌∷◌, None, refl, sym, ap, subst, ◌∙◌, arith}
-use Rattle.edge_lattice.specs.State.{state_join}
+use Rattle.std.proofs.Common.{◌≡◌, ◌≤◌, ◌<◌, [], ◌∷◌, None, refl, sym, ap, subst, ◌∙◌, arith}
 use Rattle.grove_edits.specs.Edit.{edit_edge, edit_kind}
-use Rattle.grove_edits.specs.Graph.{graph, state_of}
+use Rattle.grove_edits.specs.Graph.{graph, graph_join, IsSame}
 use Rattle.graph_store.specs.declared.change.Change.TheVariants.{Same}
-use Rattle.graph_store.specs.Change.{IsChange}
 use Rattle.graph_store.specs.Store.{state_in}
 use Rattle.edge_index.specs.Lists.{live}
-use Rattle.mark_incremental.specs.Raising.{brought_by, taken_by}
-use Rattle.mark_incremental.proofs.Room.{leaves_room, leaves_all, leaves_more}
-use Rattle.kept_records.proofs.OneSize.{live_along}
-use Rattle.mark_incremental.proofs.SizeBound.{size_at, before_within}
+use Rattle.child_index.specs.Origin.{room_at_origin}
+use Rattle.parent_index.specs.Target.{room_at_vertex}
+use Rattle.mark_incremental.specs.Raising.{LeavesRoom, MovesRoom, brought_by, taken_by}
+use Rattle.std.specs.Prelude.{IfSome}
+use Rattle.mark_incremental.specs.declared.applying.Applied.{Applied}
+use Rattle.mark_incremental.specs.Standing.{StandFor}
+use Rattle.mark_incremental.specs.Applying.{HaveGrown, WasApplied, IsApplied, IsBack}
+use Rattle.mark_incremental.proofs.Room.{leaves_room, leaves_more}
+use Rattle.mark_incremental.proofs.Stack.{if_ok_so}
 use Rattle.mark_incremental.proofs.Outcomes.{on_err_always}
-use Rattle.mark_incremental.proofs.Edited.{stands_before, grown_stands, nothing_grown, indexed_still}
+use Rattle.mark_incremental.proofs.Edited.{grown_stands, nothing_grown, indexed_still}
 use Rattle.mark_incremental.proofs.Idle.{joined_same, nothing_applied}
+use Rattle.mark_incremental.proofs.ApartFrom.{none_holds}
+use Rattle.mark_incremental.proofs.AppliedOver.{if_ok_on, on_err_so, either_way, grown_then, joined_over, applied_over, size_over, room_over, room_over_targets}
 use Rattle.mark_incremental.proofs.marks.Marks.apply.Goals as goal
 
 pub returns-then-is_raised-clause-joined : goal.returns-then-is_raised-clause-joined
@@ -28,110 +33,109 @@ pub returns-in_err-reserve-clause-stand : goal.returns-in_err-reserve-clause-sta
 returns-in_err-reserve-clause-stand g c =
     grown_stands (state_in c.args.store.now) (state_in c.reserve.new.store) c.args.self.now c.args.self.now c.requires.stand c.reserve.ensures.graph (nothing_grown c.args.self.now)
 
-pub returns-in_err-before-clause-stand : goal.returns-in_err-before-clause-stand
-returns-in_err-before-clause-stand g c =
-    grown_stands (state_in c.args.store.now) (state_in c.reserve.new.store) c.args.self.now c.args.self.now c.requires.stand c.reserve.ensures.graph (nothing_grown c.args.self.now)
-
-pub renew-requires-clause-before : goal.renew-requires-clause-before
-renew-requires-clause-before g c =
-    let edges = live c.reserve.new.parents in
-    let indexed =
-    indexed_still c.args.store.now c.reserve.new.store c.args.children.now c.reserve.new.children c.args.parents.now c.reserve.new.parents c.requires.indexed c.reserve.ensures.graph c.reserve.ensures.children
-    c.reserve.ensures.parents in
-    stands_before c.args.edit.now c.edge-edge.result (sym c.edge-edge.ensures) (state_in c.args.store.now) (state_in c.reserve.new.store) (state_in c.raise-change.new.store) edges c.args.self.now c.in_ok-before.before
-    c.requires.stand c.reserve.ensures.graph indexed.live_edges c.raise-change.ensures.raised.joined c.in_ok-before.ensures.walks
-
-pub returns-in-Ok-clause-joined : goal.returns-in-Ok-clause-joined
-returns-in-Ok-clause-joined g c = λ e. c.raise-change.ensures.raised.joined e ∙ ap (λ s. state_join s (graph (c.args.edit.now ∷ []) e)) (c.reserve.ensures.graph e)
-
-pub returns-in-Ok-clause-applied : goal.returns-in-Ok-clause-applied
-returns-in-Ok-clause-applied g c = record {
-  raised = record {
-    joined = λ e. c.raise-change.ensures.raised.joined e ∙ ap (λ s. state_join s (graph (c.args.edit.now ∷ []) e)) (c.reserve.ensures.graph e);
-    change_is =
-        subst (λ s. IsChange s (state_of (edit_kind c.args.edit.now)) c.raise-change.result) (c.reserve.ensures.graph (edit_edge c.args.edit.now)) c.raise-change.ensures.raised.change_is;
-  };
-  stood = c.requires.stand;
-  renewed = c.in-Ok.ensures.old;
-}
-
-pub returns-in-Ok-clause-room_stays : goal.returns-in-Ok-clause-room_stays
-returns-in-Ok-clause-room_stays g c = λ e held. c.raise-change.ensures.room_stays e (c.reserve.ensures.room_stays e held)
-
-pub returns-clause-unchanged : goal.returns-clause-unchanged
-returns-clause-unchanged g c = λ e. c.put_back.ensures.put_back c.reserve.new.store c.raise-change.ensures.raised e ∙ c.reserve.ensures.graph e
-
-pub returns-clause-stand : goal.returns-clause-stand
-returns-clause-stand g c =
-    grown_stands (state_in c.args.store.now) (state_in c.put_back.new.store) c.args.self.now c.renew.new.self c.requires.stand
-    (λ e. c.put_back.ensures.put_back c.reserve.new.store c.raise-change.ensures.raised e ∙ c.reserve.ensures.graph e) c.in-Err.ensures.grown
-
-pub returns-clause-room_stays : goal.returns-clause-room_stays
-returns-clause-room_stays g c = λ e held. c.put_back.ensures.room_stays e (c.raise-change.ensures.room_stays e (c.reserve.ensures.room_stays e held))
-
 pub returns-in_err-reserve-clause-index_room_stays : goal.returns-in_err-reserve-clause-index_room_stays
 returns-in_err-reserve-clause-index_room_stays g c =
     on_err_always c.from_residual.result
     (leaves_more (edit_edge c.args.edit.now) c.args.children.now c.reserve.new.children c.args.parents.now c.reserve.new.parents c.reserve.ensures.children_room c.reserve.ensures.parents_room)
 
-pub returns-in_err-before-clause-index_room_stays : goal.returns-in_err-before-clause-index_room_stays
-returns-in_err-before-clause-index_room_stays g c =
-    on_err_always c.from_residual-in_err-before.result
-    (leaves_more (edit_edge c.args.edit.now) c.args.children.now c.reserve.new.children c.args.parents.now c.reserve.new.parents c.reserve.ensures.children_room c.reserve.ensures.parents_room)
+-- ---- a short walk is tried
 
-pub returns-in-Ok-clause-index_room : goal.returns-in-Ok-clause-index_room
-returns-in-Ok-clause-index_room g c =
-    leaves_room (edit_edge c.args.edit.now) (brought_by (edit_kind c.args.edit.now) c.raise-change.result) (taken_by (edit_kind c.args.edit.now) c.raise-change.result) c.args.children.now c.reserve.new.children
-    c.raise-change.new.children c.args.parents.now c.reserve.new.parents c.raise-change.new.parents c.reserve.ensures.children_room c.reserve.ensures.parents_room c.raise-change.ensures.room
+pub apply_short-requires-clause-stand : goal.apply_short-requires-clause-stand
+apply_short-requires-clause-stand g c =
+    grown_stands (state_in c.args.store.now) (state_in c.reserve.new.store) c.args.self.now c.args.self.now c.requires.stand c.reserve.ensures.graph (nothing_grown c.args.self.now)
+
+pub returns-in_err-applied-clause-stand : goal.returns-in_err-applied-clause-stand
+returns-in_err-applied-clause-stand g c =
+    grown_stands (state_in c.args.store.now) (state_in c.apply_short.new.store) c.args.self.now c.apply_short.new.self c.requires.stand (λ e. c.in_err-applied.ensures.unchanged.same e ∙ c.reserve.ensures.graph e) c.in_err-applied.ensures.unchanged.grown
+
+pub returns-in_err-applied-clause-ticks : goal.returns-in_err-applied-clause-ticks
+returns-in_err-applied-clause-ticks g c = λ n size.
+    let short = c.apply_short.ensures.ticks n (size_over c.args.edit.now (state_in c.args.store.now) (state_in c.reserve.new.store) n c.reserve.ensures.graph size) in
+    omega (arith, short)
+
+pub returns-in-Some-clause-joined : goal.returns-in-Some-clause-joined
+returns-in-Some-clause-joined g c =
+    let is =
+    subst (λ o. IfSome o (λ (a : Applied). IsApplied c.args.edit.now a c.reserve.new.store c.args.self.now c.apply_short.new.store c.apply_short.new.self)) c.in-Some.is c.in_ok-applied.ensures.applied in
+    joined_over c.args.edit.now (state_in c.args.store.now) (state_in c.reserve.new.store) (state_in c.apply_short.new.store) c.reserve.ensures.graph is.was.raised.joined
+
+pub returns-in-Some-clause-applied : goal.returns-in-Some-clause-applied
+returns-in-Some-clause-applied g c =
+    let is =
+    subst (λ o. IfSome o (λ (a : Applied). IsApplied c.args.edit.now a c.reserve.new.store c.args.self.now c.apply_short.new.store c.apply_short.new.self)) c.in-Some.is c.in_ok-applied.ensures.applied in
+    applied_over c.args.edit.now c.in-Some.applied c.args.store.now c.reserve.new.store c.apply_short.new.store c.args.self.now c.args.self.now c.apply_short.new.self c.reserve.ensures.graph (nothing_grown c.args.self.now)
+    c.requires.stand is.was
+
+pub returns-in-Some-clause-index_room : goal.returns-in-Some-clause-index_room
+returns-in-Some-clause-index_room g c =
+    let moves =
+    subst
+    (λ o. IfSome o (λ (a : Applied). MovesRoom (edit_edge c.args.edit.now) (brought_by (edit_kind c.args.edit.now) a.change) (taken_by (edit_kind c.args.edit.now) a.change) c.reserve.new.children c.apply_short.new.children c.reserve.new.parents
+    c.apply_short.new.parents)) c.in-Some.is c.in_ok-applied.ensures.index_room in
+    leaves_room (edit_edge c.args.edit.now) (brought_by (edit_kind c.args.edit.now) c.in-Some.applied.change) (taken_by (edit_kind c.args.edit.now) c.in-Some.applied.change) c.args.children.now c.reserve.new.children c.apply_short.new.children
+    c.args.parents.now c.reserve.new.parents c.apply_short.new.parents c.reserve.ensures.children_room c.reserve.ensures.parents_room moves
+
+pub returns-in-Some-clause-ticks : goal.returns-in-Some-clause-ticks
+returns-in-Some-clause-ticks g c = λ n size.
+    let short = c.apply_short.ensures.ticks n (size_over c.args.edit.now (state_in c.args.store.now) (state_in c.reserve.new.store) n c.reserve.ensures.graph size) in
+    omega (arith, short)
+
+-- ---- it is not enough
+
+pub apply_whole-requires-clause-stand : goal.apply_whole-requires-clause-stand
+apply_whole-requires-clause-stand g c =
+    let back = c.in_ok-applied.ensures.back (none_holds c.in_ok-applied.field-0 c.in_default.not-Some) in
+    grown_stands (state_in c.args.store.now) (state_in c.apply_short.new.store) c.args.self.now c.apply_short.new.self c.requires.stand (λ e. back.same e ∙ c.reserve.ensures.graph e) back.grown
+
+pub returns-clause-joined : goal.returns-clause-joined
+returns-clause-joined g c =
+    let back = c.in_ok-applied.ensures.back (none_holds c.in_ok-applied.field-0 c.in_default.not-Some) in
+    if_ok_on c.apply_whole.result (λ (a : Applied). IsApplied c.args.edit.now a c.apply_short.new.store c.apply_short.new.self c.apply_whole.new.store c.apply_whole.new.self)
+    (IsSame (state_in c.apply_whole.new.store) (graph_join (state_in c.args.store.now) (graph (c.args.edit.now ∷ []))))
+    (λ a is. joined_over c.args.edit.now (state_in c.args.store.now) (state_in c.apply_short.new.store) (state_in c.apply_whole.new.store) (λ e. back.same e ∙ c.reserve.ensures.graph e) is.was.raised.joined) c.apply_whole.ensures.applied
+
+pub returns-clause-stand : goal.returns-clause-stand
+returns-clause-stand g c =
+    let back = c.in_ok-applied.ensures.back (none_holds c.in_ok-applied.field-0 c.in_default.not-Some) in
+    either_way c.apply_whole.result (λ (a : Applied). IsApplied c.args.edit.now a c.apply_short.new.store c.apply_short.new.self c.apply_whole.new.store c.apply_whole.new.self)
+    (IsBack c.apply_short.new.store c.apply_short.new.children c.apply_short.new.parents c.apply_short.new.self c.apply_whole.new.store c.apply_whole.new.children c.apply_whole.new.parents c.apply_whole.new.self)
+    (StandFor (state_in c.apply_whole.new.store) c.apply_whole.new.self) (λ a is. is.stand)
+    (λ again. grown_stands (state_in c.args.store.now) (state_in c.apply_whole.new.store) c.args.self.now c.apply_whole.new.self c.requires.stand (λ e. again.same e ∙ back.same e ∙ c.reserve.ensures.graph e)
+    (grown_then c.args.self.now c.apply_short.new.self c.apply_whole.new.self back.grown again.grown)) c.apply_whole.ensures.applied c.apply_whole.ensures.unchanged
+
+pub returns-clause-applied : goal.returns-clause-applied
+returns-clause-applied g c =
+    let back = c.in_ok-applied.ensures.back (none_holds c.in_ok-applied.field-0 c.in_default.not-Some) in
+    if_ok_so c.apply_whole.result (λ (a : Applied). IsApplied c.args.edit.now a c.apply_short.new.store c.apply_short.new.self c.apply_whole.new.store c.apply_whole.new.self)
+    (λ (a : Applied). WasApplied c.args.edit.now a c.args.store.now c.args.self.now c.apply_whole.new.store c.apply_whole.new.self)
+    (λ a is. applied_over c.args.edit.now a c.args.store.now c.apply_short.new.store c.apply_whole.new.store c.args.self.now c.apply_short.new.self c.apply_whole.new.self (λ e. back.same e ∙ c.reserve.ensures.graph e) back.grown
+    c.requires.stand is.was) c.apply_whole.ensures.applied
+
+pub returns-clause-index_room : goal.returns-clause-index_room
+returns-clause-index_room g c =
+    let back = c.in_ok-applied.ensures.back (none_holds c.in_ok-applied.field-0 c.in_default.not-Some) in
+    if_ok_so c.apply_whole.result
+    (λ (a : Applied). MovesRoom (edit_edge c.args.edit.now) (brought_by (edit_kind c.args.edit.now) a.change) (taken_by (edit_kind c.args.edit.now) a.change) c.apply_short.new.children c.apply_whole.new.children c.apply_short.new.parents
+    c.apply_whole.new.parents)
+    (λ (a : Applied). LeavesRoom (edit_edge c.args.edit.now) (brought_by (edit_kind c.args.edit.now) a.change) (taken_by (edit_kind c.args.edit.now) a.change) c.args.children.now c.apply_whole.new.children c.args.parents.now c.apply_whole.new.parents)
+    (λ a moves. leaves_room (edit_edge c.args.edit.now) (brought_by (edit_kind c.args.edit.now) a.change) (taken_by (edit_kind c.args.edit.now) a.change) c.args.children.now c.apply_short.new.children c.apply_whole.new.children
+    c.args.parents.now c.apply_short.new.parents c.apply_whole.new.parents (room_over c.args.children.now c.reserve.new.children c.apply_short.new.children c.reserve.ensures.children_room back.at_origins)
+    (room_over_targets c.args.parents.now c.reserve.new.parents c.apply_short.new.parents c.reserve.ensures.parents_room back.at_targets) moves) c.apply_whole.ensures.index_room
 
 pub returns-clause-index_room_stays : goal.returns-clause-index_room_stays
 returns-clause-index_room_stays g c =
-    leaves_all (edit_edge c.args.edit.now) (brought_by (edit_kind c.args.edit.now) c.raise-change.result) (taken_by (edit_kind c.args.edit.now) c.raise-change.result) c.args.children.now c.reserve.new.children
-    c.raise-change.new.children c.put_back.new.children c.args.parents.now c.reserve.new.parents c.raise-change.new.parents c.put_back.new.parents c.reserve.ensures.children_room
-    c.reserve.ensures.parents_room c.raise-change.ensures.room c.put_back.ensures.room
-
-pub returns-in_err-before-clause-ticks : goal.returns-in_err-before-clause-ticks
-returns-in_err-before-clause-ticks g c = λ n size.
-    let edges = live c.reserve.new.parents in
-    let indexed =
-    indexed_still c.args.store.now c.reserve.new.store c.args.children.now c.reserve.new.children c.args.parents.now c.reserve.new.parents c.requires.indexed c.reserve.ensures.graph c.reserve.ensures.children
-    c.reserve.ensures.parents in
-    let walks =
-    before_within c.requires.stand.edits c.args.edit.now (state_in c.args.store.now) c.requires.stand.made c.edge-edge.result (sym c.edge-edge.ensures) n size edges
-    (live_along (state_in c.reserve.new.store) (state_in c.args.store.now) edges c.reserve.ensures.graph indexed.live_edges) in
-    let ticks = c.walk_from_ends.ensures.ticks in
-    omega (arith, walks, ticks)
-
-pub returns-in-Ok-clause-ticks : goal.returns-in-Ok-clause-ticks
-returns-in-Ok-clause-ticks g c = λ n size.
-    let edges = live c.reserve.new.parents in
-    let indexed =
-    indexed_still c.args.store.now c.reserve.new.store c.args.children.now c.reserve.new.children c.args.parents.now c.reserve.new.parents c.requires.indexed c.reserve.ensures.graph c.reserve.ensures.children
-    c.reserve.ensures.parents in
-    let walks =
-    before_within c.requires.stand.edits c.args.edit.now (state_in c.args.store.now) c.requires.stand.made c.edge-edge.result (sym c.edge-edge.ensures) n size edges
-    (live_along (state_in c.reserve.new.store) (state_in c.args.store.now) edges c.reserve.ensures.graph indexed.live_edges) in
-    let ticks = c.walk_from_ends.ensures.ticks in
-    let renewed =
-    c.renew.ensures.ticks
-    (stands_before c.args.edit.now c.edge-edge.result (sym c.edge-edge.ensures) (state_in c.args.store.now) (state_in c.reserve.new.store) (state_in c.raise-change.new.store) edges c.args.self.now c.in_ok-before.before
-    c.requires.stand c.reserve.ensures.graph indexed.live_edges c.raise-change.ensures.raised.joined c.in_ok-before.ensures.walks)
-    n (size_at c.requires.stand.edits c.args.edit.now (state_in c.args.store.now) c.requires.stand.made c.edge-edge.result (sym c.edge-edge.ensures) n size) in
-    omega (arith, walks, ticks, renewed)
+    let back = c.in_ok-applied.ensures.back (none_holds c.in_ok-applied.field-0 c.in_default.not-Some) in
+    on_err_so c.apply_whole.result
+    (IsBack c.apply_short.new.store c.apply_short.new.children c.apply_short.new.parents c.apply_short.new.self c.apply_whole.new.store c.apply_whole.new.children c.apply_whole.new.parents c.apply_whole.new.self)
+    (LeavesRoom (edit_edge c.args.edit.now) 0 0 c.args.children.now c.apply_whole.new.children c.args.parents.now c.apply_whole.new.parents)
+    (λ again. leaves_more (edit_edge c.args.edit.now) c.args.children.now c.apply_whole.new.children c.args.parents.now c.apply_whole.new.parents
+    (room_over c.args.children.now c.apply_short.new.children c.apply_whole.new.children (room_over c.args.children.now c.reserve.new.children c.apply_short.new.children c.reserve.ensures.children_room back.at_origins) again.at_origins)
+    (room_over_targets c.args.parents.now c.apply_short.new.parents c.apply_whole.new.parents (room_over_targets c.args.parents.now c.reserve.new.parents c.apply_short.new.parents c.reserve.ensures.parents_room back.at_targets) again.at_targets))
+    c.apply_whole.ensures.unchanged
 
 pub returns-clause-ticks : goal.returns-clause-ticks
 returns-clause-ticks g c = λ n size.
-    let edges = live c.reserve.new.parents in
-    let indexed =
-    indexed_still c.args.store.now c.reserve.new.store c.args.children.now c.reserve.new.children c.args.parents.now c.reserve.new.parents c.requires.indexed c.reserve.ensures.graph c.reserve.ensures.children
-    c.reserve.ensures.parents in
-    let walks =
-    before_within c.requires.stand.edits c.args.edit.now (state_in c.args.store.now) c.requires.stand.made c.edge-edge.result (sym c.edge-edge.ensures) n size edges
-    (live_along (state_in c.reserve.new.store) (state_in c.args.store.now) edges c.reserve.ensures.graph indexed.live_edges) in
-    let ticks = c.walk_from_ends.ensures.ticks in
-    let renewed =
-    c.renew.ensures.ticks
-    (stands_before c.args.edit.now c.edge-edge.result (sym c.edge-edge.ensures) (state_in c.args.store.now) (state_in c.reserve.new.store) (state_in c.raise-change.new.store) edges c.args.self.now c.in_ok-before.before
-    c.requires.stand c.reserve.ensures.graph indexed.live_edges c.raise-change.ensures.raised.joined c.in_ok-before.ensures.walks)
-    n (size_at c.requires.stand.edits c.args.edit.now (state_in c.args.store.now) c.requires.stand.made c.edge-edge.result (sym c.edge-edge.ensures) n size) in
-    omega (arith, walks, ticks, renewed)
+    let back = c.in_ok-applied.ensures.back (none_holds c.in_ok-applied.field-0 c.in_default.not-Some) in
+    let short = c.apply_short.ensures.ticks n (size_over c.args.edit.now (state_in c.args.store.now) (state_in c.reserve.new.store) n c.reserve.ensures.graph size) in
+    let whole = c.apply_whole.ensures.ticks n (size_over c.args.edit.now (state_in c.args.store.now) (state_in c.apply_short.new.store) n (λ e. back.same e ∙ c.reserve.ensures.graph e) size) in
+    omega (arith, short, whole)

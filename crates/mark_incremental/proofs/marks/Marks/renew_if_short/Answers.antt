@@ -1,0 +1,45 @@
+-- The source alone sees what the edit makes of the target, or nothing is done.
+use Rattle.std.proofs.Common.{◌≡◌, ◌∷◌, true, false, sym, ap, ◌∙◌, arith}
+use Rattle.edge_index.specs.Lists.{live}
+use Rattle.graph_store.specs.Store.{state_in}
+use Rattle.mark_incremental.proofs.ApartFrom.{seen_by_one, rooted_there, well_there, stands_there, size_near, stand_if, few_short}
+use Rattle.mark_incremental.proofs.marks.Marks.renew_if_short.Goals as goal
+
+pub renew_short-requires-clause-rooted : goal.renew_short-requires-clause-rooted
+renew_short-requires-clause-rooted g c =
+    let was = c.requires.before in
+    let new = live c.args.parents.now in
+    rooted_there c.args.edge.now (state_in c.args.store.now) c.args.self.now c.args.before.now c.args.apart was new c.requires.indexed.live_edges
+    (c.may_be_short.ensures was.old new was.parents c.few-after.ensures.least c.if-not-may_be_short.false)
+
+pub renew_short-requires-clause-well_formed : goal.renew_short-requires-clause-well_formed
+renew_short-requires-clause-well_formed g c =
+    well_there c.args.edge.now (state_in c.args.store.now) c.args.self.now c.args.before.now c.args.apart c.requires.before (live c.args.parents.now) c.requires.indexed.live_edges
+
+pub returns-then-not-may_be_short-clause-ticks : goal.returns-then-not-may_be_short-clause-ticks
+returns-then-not-may_be_short-clause-ticks g c = λ was n size.
+    let few = few_short c.few-after.result in
+    let ticks = c.few-after.ensures.ticks in
+    omega (arith, few, ticks)
+
+pub returns-clause-stand : goal.returns-clause-stand
+returns-clause-stand g c =
+    let was = c.requires.before in
+    let new = live c.args.parents.now in
+    let are = c.requires.indexed.live_edges in
+    let may = c.may_be_short.ensures was.old new was.parents c.few-after.ensures.least c.if-not-may_be_short.false in
+    stand_if c.renew_short.result
+    (λ kept numbers. stands_there c.args.edge.now (state_in c.args.store.now) c.args.self.now c.args.before.now c.args.apart was new are may c.renew_short.new.self c.renew_short.ensures.roots kept numbers)
+    (c.renew_short.ensures.renewed (seen_by_one c.args.edge.now (state_in c.args.store.now) c.args.self.now c.args.before.now c.args.apart was new are may)) c.renew_short.ensures.numbers
+
+pub returns-clause-ticks : goal.returns-clause-ticks
+returns-clause-ticks g c = λ was n size.
+    let new = live c.args.parents.now in
+    let are = c.requires.indexed.live_edges in
+    let may = c.may_be_short.ensures was.old new was.parents c.few-after.ensures.least c.if-not-may_be_short.false in
+    let near = size_near c.args.edge.now (state_in c.args.store.now) c.args.self.now c.args.before.now c.args.apart was new are may n size in
+    let short = c.renew_short.ensures.ticks (seen_by_one c.args.edge.now (state_in c.args.store.now) c.args.self.now c.args.before.now c.args.apart was new are may) near.0 near.1 in
+    let few = few_short c.few-after.result in
+    let ticks = c.few-after.ensures.ticks in
+    let is = near.2 in
+    omega (arith, short, few, ticks, is)
