@@ -1,6 +1,6 @@
 -- What is seen of a kept graph and opening edges.
 use Rattle.std.proofs.Common.{◌≡◌, ℕ, Bool, true, false, cond, List, [], map, is_none, refl, sym, ap, subst, ◌∙◌}
-use Rattle.std.specs.Prelude.{Result, Ok, Err, OnErr}
+use Rattle.std.specs.Prelude.{Result, Ok, Err, OnOk, OnErr}
 use Rattle.edge_lattice.specs.declared.state.State.TheVariants.{Absent}
 use Rattle.grove_edits.specs.declared.edge.Edge.{Edge}
 use Rattle.grove_edits.specs.declared.edit.Edit.{Edit}
@@ -71,6 +71,13 @@ seen_taken before after opening edits of joined =
     (stands_along (graph_join (graph (edits_in before.store)) (graph edits)) (graph (with_taken edits (content_of before opening)).edits) after
     (λ e. sym (graph-with_edits edits (edits_in before.store) e)) (joined (graph (edits_in before.store)) of.stands))
     refl
+
+-- a kept graph to which edits were joined, or which stands for the graph that it stood for
+pub taken_or_not : {T E : Type 0} (r : Result T E) (before after : LiveGraph) (opening : List Edge) (edits : List Edit) → IsKept before opening
+    → ((g : Graph) → StandsFor g before → OnOk r (StandsFor (graph_join g (graph edits)) after)) → ((g : Graph) → StandsFor g before → OnErr r (StandsFor g after))
+    → IsKept after opening × OnOk r (content_of after opening ≡ with_taken edits (content_of before opening)) × OnErr r (content_of after opening ≡ content_of before opening)
+taken_or_not (Ok x) before after opening edits of taken unchanged = let seen = seen_taken before after opening edits of taken in (seen.invariant, seen.view, tt)
+taken_or_not (Err e) before after opening edits of taken unchanged = let seen = seen_unchanged before after opening of unchanged in (seen.invariant, tt, seen.view)
 
 -- a store has the graph of the content that is seen of it
 pub store_seen : (kept : LiveGraph) (opening : List Edge) (content : Content) → IsKept kept opening → content_of kept opening ≡ content → IsSame (state_in kept.store) (graph content.edits)

@@ -12,3 +12,4 @@ pub mod Standing
 pub mod Keeping
 pub mod MarksTaken
 pub mod Raising
+pub mod News

@@ -1,10 +1,11 @@
-ghost use Rattle.std.specs.Prelude.{◌≡◌, ◌+◌, ◌<◌, ◌≤◌, [], ◌∷◌, List, map, if◌then◌else◌, OnOk, IfOk, IfErr};
+ghost use Rattle.std.specs.Prelude.{◌≡◌, ◌+◌, ◌<◌, ◌≤◌, [], ◌∷◌, List, map, if◌then◌else◌, OnOk, OnErr, IfOk, IsTrue, ◌↔◌};
 ghost use Rattle.grove_sorts.specs.declared.position.Position.{Position};
 ghost use Rattle.grove_edits.specs.declared.vertex.Vertex.{Vertex};
 ghost use Rattle.grove_edits.specs.declared.edge.Edge.{Edge};
 ghost use Rattle.grove_edits.specs.Vertex.{is_same_vertex};
-ghost use Rattle.grove_edits.specs.Edit.{edit_edge};
-ghost use Rattle.grove_edits.specs.Graph.{Graph, graph, graph_join};
+ghost use Rattle.edge_lattice.specs.State.{IsAtMost};
+ghost use Rattle.grove_edits.specs.Edit.{edit_edge, edit_kind};
+ghost use Rattle.grove_edits.specs.Graph.{Graph, graph, graph_join, state_of, IsSame};
 ghost use Rattle.graph_store.specs.Store.{state_in};
 ghost use Rattle.edge_index.specs.Lists.{live};
 ghost use Rattle.child_index.specs.Origin.{room_at_origin, is_from};
@@ -15,8 +16,9 @@ ghost use Rattle.replica_core.specs.Indexes.{CanChange, changed_edges, StandsFor
 use crate::live_change::{LiveChange, live_change};
 use crate::no_memory::NoMemory;
 use child_index::ChildIndex;
+use edge_lattice::{State, leq};
 use graph_store::GraphStore;
-use grove_edits::{Edge, Edit};
+use grove_edits::{Edge, Edit, EditKind};
 use parent_index::ParentIndex;
 use seeded_hash::HashSeed;
 use std::alloc::Global;
@@ -42,8 +44,46 @@ impl LiveGraph {
         }
     }
 
-    /// Makes room for an edit of each of these edges, so that raising them takes no memory.
-    pub(crate) fn reserve_for(&mut self, edges: &[Edge]) -> Result<(), NoMemory>
+    /// Takes edits, all of them or none. Room for all is made before the first is raised, so that want of memory leaves none. Those that
+    /// the graph knows already, as most of what replicas send each other, want no room.
+    pub(crate) fn take(&mut self, alloc: Global, edits: &[Edit]) -> Result<(), NoMemory>
+        requires stands { StandsFor (state_in self.old.store) self.old }
+        ensures taken { (g : Graph) → StandsFor g self.old → OnOk result (StandsFor (graph_join g (graph edits.now)) self.new) }
+        ensures unchanged { (g : Graph) → StandsFor g self.old → OnErr result (StandsFor g self.new) }
+    {
+        let news = self.news(alloc, edits)?;
+        let edges = edges_of(alloc, &news)?;
+        self.reserve_for(&edges)?;
+        self.raise_all(&news);
+        Ok(())
+    }
+
+    // Those of some edits that ask more of their edges than the graph has.
+    fn news(&self, alloc: Global, edits: &[Edit]) -> Result<Vec<Edit>, NoMemory>
+        ensures { (g : Graph) → StandsFor g self.now → IfOk result (λ news. IsSame (graph_join g (graph news.items)) (graph_join g (graph edits.now))) }
+    {
+        let mut news = Vec::new(alloc);
+        for edit in edits {
+            if !self.knows(edit) {
+                news.push(*edit)?;
+            }
+        }
+        Ok(news)
+    }
+
+    // Whether the edge of an edit has at least the state that is asked of it.
+    fn knows(&self, edit: &Edit) -> bool
+        ensures { IsTrue result ↔ IsAtMost (state_of (edit_kind edit.now)) (state_in self.now.store (edit_edge edit.now)) }
+    {
+        let asked = match edit.kind() {
+            EditKind::Insert => State::Live,
+            EditKind::Delete => State::Deleted,
+        };
+        leq(asked, self.store.state(edit.as_edge()))
+    }
+
+    // Makes room for an edit of each of these edges, so that raising them takes no memory.
+    fn reserve_for(&mut self, edges: &[Edge]) -> Result<(), NoMemory>
         ensures room { OnOk result (HasRoomFor edges.now self.new) }
         ensures unchanged { (g : Graph) → StandsFor g self.old → StandsFor g self.new }
     {
@@ -53,8 +93,8 @@ impl LiveGraph {
         Ok(())
     }
 
-    /// Raises edits one after the other.
-    pub(crate) fn raise_all(&mut self, edits: &[Edit])
+    // Raises edits one after the other.
+    fn raise_all(&mut self, edits: &[Edit])
         requires stands { StandsFor (state_in self.old.store) self.old }
         requires room { HasRoomFor (map edit_edge edits.now) self.old }
         ensures { (g : Graph) → StandsFor g self.old → StandsFor (graph_join g (graph edits.now)) self.new }
@@ -77,6 +117,16 @@ impl LiveGraph {
         change_children(&mut self.children, edge, change);
         change_parents(&mut self.parents, edge, change);
     }
+}
+
+fn edges_of(alloc: Global, edits: &[Edit]) -> Result<Vec<Edge>, NoMemory>
+    ensures { IfOk result (λ edges. edges.items ≡ map edit_edge edits.now) }
+{
+    let mut edges = Vec::with_capacity(alloc, edits.len())?;
+    for edit in edits {
+        edges.push(edit.edge())?;
+    }
+    Ok(edges)
 }
 
 fn change_children(children: &mut ChildIndex, edge: &Edge, change: LiveChange)

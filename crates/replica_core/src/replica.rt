@@ -71,7 +71,7 @@ impl Replica {
     /// Takes an edit. What it asks is joined to the graph, so an edge that was deleted is not inserted again.
     pub fn apply<L: Ledger>(
         &mut self,
-        _alloc: Global,
+        alloc: Global,
         edit: &Edit,
         steps: &mut Steps<L>,
     ) -> Result<(), NoMemory>
@@ -81,7 +81,7 @@ impl Replica {
     {
         // Nothing is counted while no marks are kept.
         let _steps = steps;
-        self.take(&[edit.edge()], &[*edit])
+        self.graph.take(alloc, &[*edit])
     }
 
     /// Takes edits, one after the other, all of them or none.
@@ -97,8 +97,7 @@ impl Replica {
     {
         // Nothing is counted while no marks are kept.
         let _steps = steps;
-        let edges = edges_of(alloc, edits)?;
-        self.take(&edges, edits.as_slice())
+        self.graph.take(alloc, edits.as_slice())
     }
 
     /// Plans an author's action on the graph, and takes the edits of the plan. It answers them, and what the plan answers. An action that
@@ -202,25 +201,4 @@ impl Replica {
         )?;
         Ok(())
     }
-
-    // Takes edits, whose edges these are. Room for all is made before the first is raised, so that want of memory leaves none.
-    fn take(&mut self, edges: &[Edge], edits: &[Edit]) -> Result<(), NoMemory>
-        requires { edges.now ≡ map edit_edge edits.now }
-        ensures taken { OnOk result (self.new ≡ with_taken edits.now self.old) }
-        ensures unchanged { OnErr result (self.new ≡ self.old) }
-    {
-        self.graph.reserve_for(edges)?;
-        self.graph.raise_all(edits);
-        Ok(())
-    }
-}
-
-fn edges_of(alloc: Global, edits: &EditList) -> Result<Vec<Edge>, NoMemory>
-    ensures { IfOk result (λ edges. edges.items ≡ map edit_edge edits.now) }
-{
-    let mut edges = Vec::with_capacity(alloc, edits.len())?;
-    for edit in edits.as_slice() {
-        edges.push(edit.edge())?;
-    }
-    Ok(edges)
 }
