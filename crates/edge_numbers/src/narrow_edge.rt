@@ -2,7 +2,7 @@ use grove_names::Name;
 use grove_sorts::Position;
 
 /// An edge by the numbers of its ends.
-#[derive(Clone, Copy, Debug, PartialEq, Eq, Hash)]
+#[derive(Clone, Copy, Debug, PartialEq, Eq, PartialOrd, Ord, Hash)]
 pub struct NarrowEdge {
     pub name: Name,
     pub source: u32,
