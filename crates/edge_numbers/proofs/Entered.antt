@@ -1,5 +1,5 @@
 -- What is so once an edge was entered, or was not.
-use Rattle.std.proofs.Common.{◌≡◌, ℕ, List, Result, Ok, Err, OnOk, OnErr, IfOk, slice_get, Some, sym, ap, subst, ◌∙◌}
+use Rattle.std.proofs.Common.{◌≡◌, ℕ, List, Result, Ok, Err, OnOk, OnErr, IfOk, slice_get, Some, refl, sym, ap, subst, ◌∙◌}
 use Rattle.std.specs.Map.{keys_of}
 use Rattle.grove_edits.specs.declared.vertex.Vertex.{Vertex}
 use Rattle.grove_edits.specs.declared.edge.Edge.{Edge}
@@ -7,7 +7,7 @@ use Rattle.edge_numbers.specs.declared.narrow_edge.NarrowEdge.{NarrowEdge}
 use Rattle.edge_numbers.specs.Numbered.{Entries, state_in, with_entry, HasRoom, KeepsRoom, IsNumberOfEdge}
 use Rattle.edge_numbers.specs.Narrow.{NarrowEntries, edge_of, numbered}
 use Rattle.edge_numbers.proofs.Narrow.{number_read}
-use Rattle.edge_numbers.proofs.States.{state_entered, room_entered, room_stays}
+use Rattle.edge_numbers.proofs.States.{KeepsPlaces, state_entered, room_entered, room_stays, numbers_entered}
 
 pub on_err_always : {T E P : Type 0} (r : Result T E) → P → OnErr r P
 on_err_always (Ok x) p = tt
@@ -36,6 +36,12 @@ module _ {E : Type 0} (r : Result ℕ E) where
       by_result : (r : Result ℕ E) → OnOk r (after ≡ with_entry edge before) → OnErr r (after ≡ before) → HasRoom after e
       by_result (Ok n) is _ = subst (λ entries. HasRoom entries e) (sym is) (room_stays edge before e has)
       by_result (Err error) _ is = subst (λ entries. HasRoom entries e) (sym is) has
+
+    pub numbers_kept : OnOk r (after ≡ with_entry edge before) → OnErr r (after ≡ before) → KeepsPlaces before after
+    numbers_kept entered same = by_result r entered same where
+      by_result : (r : Result ℕ E) → OnOk r (after ≡ with_entry edge before) → OnErr r (after ≡ before) → KeepsPlaces before after
+      by_result (Ok n) is _ = subst (KeepsPlaces before) (sym is) (numbers_entered edge before)
+      by_result (Err error) _ is = subst (KeepsPlaces before) (sym is) (λ n within. (within, refl))
 
     pub room_made : OnOk r (after ≡ with_entry edge before) → OnOk r (HasRoom after edge)
     room_made = by_result r where

@@ -4,7 +4,7 @@ use Rattle.std.specs.Prelude.{Option, unwrap_or}
 use Rattle.std.specs.Option.{option_map}
 use Rattle.std.specs.List.{AllByRecursion, IsDistinct, list_any}
 use Rattle.std.specs.Map.{lookup, keys_of}
-use Rattle.std.proofs.lemmas.List.{get_or-map, length-map}
+use Rattle.std.proofs.lemmas.List.{get_or-map, length-map, length_push, map_push, get_or_append_left}
 use Rattle.std.proofs.lemmas.List.Elements.{All-from_recursion, All-get_or}
 use Rattle.std.proofs.lemmas.Option.{slice_get-map, slice_get_within, slice_get-get_or, get_or_from_slice_get}
 use Rattle.std.proofs.lemmas.Map.Keys.{any_passes_from_place}
@@ -145,3 +145,26 @@ module _ (edge : Edge) where
     by_test : (b : Bool) → KeepsRoom entries (cond b entries (entries ++ (edge, Absent) ∷ []))
     by_test true = λ e has. has
     by_test false = room_before entries
+
+-- ---- the numbers of edges
+
+-- the numbers of these entries are those of the same edges among the others
+abbrev pub KeepsPlaces : Entries → Entries → Type 0
+KeepsPlaces before after = (n : ℕ) → n < length before → (n < length after) × (numbered_edge after n ≡ numbered_edge before n)
+
+pub numbers_of_edges : (before after : Entries) → edges_of after ≡ edges_of before → KeepsPlaces before after
+numbers_of_edges before after same n within =
+    let count : length after ≡ length before = sym (length-map after (λ entry. entry.0)) ∙ ap length same ∙ length-map before (λ entry. entry.0) in
+    (omega (arith, count, within), ap (λ edges. get_or edges n no_edge) same)
+
+numbers_push : (entry : Edge × State) (entries : Entries) → KeepsPlaces entries (entries ++ entry ∷ [])
+numbers_push entry entries n within =
+    (omega (arith, length_push entries entry, within),
+    ap (λ edges. get_or edges n no_edge) (map_push (λ (e : Edge × State). e.0) entries entry)
+    ∙ get_or_append_left (edges_of entries) (entry.0 ∷ []) no_edge n (omega (arith, length-map entries (λ entry. entry.0), within)))
+
+pub numbers_entered : (edge : Edge) (entries : Entries) → KeepsPlaces entries (with_entry edge entries)
+numbers_entered edge entries = by_test (list_any (is_same_edge edge) (edges_of entries)) where
+  by_test : (b : Bool) → KeepsPlaces entries (cond b entries (entries ++ (edge, Absent) ∷ []))
+  by_test true = λ n within. (within, refl)
+  by_test false = numbers_push (edge, Absent) entries

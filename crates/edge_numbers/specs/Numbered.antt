@@ -79,6 +79,10 @@ IsNumberOfEdge numbers e n = IsEdgeNumber numbers n × (edge_at numbers n ≡ e)
 abbrev pub IsNumberOfVertex : Numbered → Vertex → ℕ → Type 0
 IsNumberOfVertex numbers v n = IsVertexNumber numbers n × (vertex_at numbers n ≡ v)
 
+-- each number of an edge is that of the same edge still
+abbrev pub KeepsNumbers : Numbered → Numbered → Type 0
+KeepsNumbers before after = (n : ℕ) → IsEdgeNumber before n → IsNumberOfEdge after (edge_at before n) n
+
 -- both ends of the edge are among the vertices
 abbrev pub HasEndsIn : List Vertex → Edge → Type 0
 HasEndsIn vertices e = (stands_in e.source vertices ≡ true) × (stands_in e.target vertices ≡ true)

@@ -6,7 +6,7 @@ ghost use Rattle.grove_edits.specs.declared.edge.Edge.{Edge};
 ghost use Rattle.grove_edits.specs.Edge.{edge_cmp};
 ghost use Rattle.grove_edits.specs.Graph.{is_same_edge};
 ghost use Rattle.grove_edits.specs.Vertex.{is_same_vertex};
-ghost use Rattle.edge_numbers.specs.Numbered.{edges_of, states_of, state_in, with_state, edge_at, state_at, vertex_at, with_ends, with_entry, IsEdgeNumber, IsVertexNumber, IsNumberOfEdge, IsNumberOfVertex, HasEndsIn, BeginsWith, HasRoom, KeepsRoom};
+ghost use Rattle.edge_numbers.specs.Numbered.{edges_of, states_of, state_in, with_state, edge_at, state_at, vertex_at, with_ends, with_entry, IsEdgeNumber, IsVertexNumber, IsNumberOfEdge, IsNumberOfVertex, HasEndsIn, BeginsWith, HasRoom, KeepsRoom, KeepsNumbers};
 ghost use Rattle.edge_numbers.specs.Narrow.{edge_of, entries_of, HasEnds, IsNumbered};
 
 use crate::ends::{enter_ends, find_ends};
@@ -153,6 +153,7 @@ impl EdgeNumbers {
         ensures vertices { OnOk result (self.new.vertices ≡ with_ends edge.now self.old.vertices) }
         ensures unchanged { OnErr result (self.new.entries ≡ self.old.entries) }
         ensures vertices_stay { BeginsWith self.new.vertices self.old.vertices }
+        ensures numbers_stay { KeepsNumbers self.old self.new }
         ensures graph { (e : Edge) → state_in self.new.entries e ≡ state_in self.old.entries e }
         ensures room { OnOk result (HasRoom self.new.entries edge.now) }
         ensures room_stays { KeepsRoom self.old.entries self.new.entries }
@@ -222,6 +223,7 @@ impl EdgeNumbers {
         ensures states { states_of self.new.entries ≡ set (states_of self.old.entries) number state }
         ensures edges { edges_of self.new.entries ≡ edges_of self.old.entries }
         ensures vertices { self.new.vertices ≡ self.old.vertices }
+        ensures numbers_stay { KeepsNumbers self.old self.new }
         ensures graph { (e : Edge) → state_in self.new.entries e ≡ with_state (edge_at self.old number) state (state_in self.old.entries) e }
         ensures room_stays { KeepsRoom self.old.entries self.new.entries }
     {

@@ -26,12 +26,15 @@ fn edge(counter: u64, child: u64) -> Edge {
 fn an_edge_has_one_number(rt: HostRuntime) -> Result<(), Fail> {
     let mut numbers = EdgeNumbers::new(rt.alloc());
     assert_eq!(rt; numbers.number(&edge(1, 5)), None);
-    assert_eq!(rt; numbers.enter(&edge(1, 5))?, 0);
-    assert_eq!(rt; numbers.enter(&edge(2, 6))?, 1);
-    assert_eq!(rt; numbers.enter(&edge(1, 5))?, 0);
-    assert_eq!(rt; numbers.number(&edge(2, 6)), Some(1));
+    assert_eq!(rt; numbers.enter(&edge(2, 6))?, 0);
+    assert_eq!(rt; numbers.enter(&edge(1, 5))?, 1);
+    assert_eq!(rt; numbers.enter(&edge(2, 6))?, 0);
+    assert_eq!(rt; numbers.number(&edge(1, 5)), Some(1));
     assert_eq!(rt; numbers.edge_count(), 2);
-    assert_eq!(rt; numbers.edge(1), edge(2, 6));
+    let last = numbers.enter(&edge(1, 5))?;
+    assert_eq!(rt; numbers.edge(last), edge(1, 5));
+    assert_eq!(rt; numbers.name(last), Name { author: 1, counter: 1 });
+    assert_eq!(rt; numbers.position(last), Position::Main);
     Ok(())
 }
 
@@ -39,10 +42,11 @@ fn an_edge_has_one_number(rt: HostRuntime) -> Result<(), Fail> {
 fn ends_have_numbers(rt: HostRuntime) -> Result<(), Fail> {
     let mut numbers = EdgeNumbers::new(rt.alloc());
     numbers.enter(&edge(1, 5))?;
-    numbers.enter(&edge(2, 6))?;
+    let last = numbers.enter(&edge(2, 6))?;
     assert_eq!(rt; numbers.vertex_count(), 3);
-    assert_eq!(rt; (numbers.source(1), numbers.target(1)), (0, 2));
-    assert_eq!(rt; *numbers.vertex(0), Vertex::ROOT);
+    let source = numbers.source(last);
+    assert_eq!(rt; (source, numbers.target(last)), (0, 2));
+    assert_eq!(rt; *numbers.vertex(source), Vertex::ROOT);
     assert_eq!(rt; numbers.vertex_number(&edge(2, 6).target), Some(2));
     assert_eq!(rt; numbers.vertex_number(&edge(2, 7).target), None);
     Ok(())
@@ -51,11 +55,11 @@ fn ends_have_numbers(rt: HostRuntime) -> Result<(), Fail> {
 #[test]
 fn states_are_set_by_number(rt: HostRuntime) -> Result<(), Fail> {
     let mut numbers = EdgeNumbers::new(rt.alloc());
-    numbers.enter(&edge(1, 5))?;
-    numbers.enter(&edge(2, 6))?;
-    numbers.set_state(1, State::Live);
+    let first = numbers.enter(&edge(1, 5))?;
+    let last = numbers.enter(&edge(2, 6))?;
+    numbers.set_state(last, State::Live);
     assert_eq!(rt; numbers.state(&edge(2, 6)), State::Live);
-    assert_eq!(rt; numbers.state_at(0), State::Absent);
+    assert_eq!(rt; numbers.state_at(first), State::Absent);
     assert_eq!(rt; numbers.state(&edge(3, 6)), State::Absent);
     Ok(())
 }
@@ -63,10 +67,10 @@ fn states_are_set_by_number(rt: HostRuntime) -> Result<(), Fail> {
 #[test]
 fn edges_with_one_name_have_an_order(rt: HostRuntime) -> Result<(), Fail> {
     let mut numbers = EdgeNumbers::new(rt.alloc());
-    numbers.enter(&edge(1, 6))?;
-    numbers.enter(&edge(1, 5))?;
-    assert_eq!(rt; numbers.cmp(0, 1), Ordering::Greater);
-    assert_eq!(rt; numbers.cmp(1, 1), Ordering::Equal);
+    let first = numbers.enter(&edge(1, 6))?;
+    let last = numbers.enter(&edge(1, 5))?;
+    assert_eq!(rt; numbers.cmp(first, last), Ordering::Greater);
+    assert_eq!(rt; numbers.cmp(last, last), Ordering::Equal);
     Ok(())
 }
 

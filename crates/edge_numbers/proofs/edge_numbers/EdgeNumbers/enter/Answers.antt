@@ -1,9 +1,10 @@
 use Rattle.std.proofs.Common.{◌≡◌, sym, ap, subst, ◌∙◌}
 use Rattle.std.proofs.lemmas.Result.{on_ok_weaker}
-use Rattle.edge_numbers.specs.Numbered.{Numbered, state_in, with_entry, HasRoom}
+use Rattle.edge_numbers.specs.Numbered.{Numbered, edges_of, state_in, with_entry, HasRoom}
 use Rattle.edge_numbers.specs.Narrow.{entries_of, IsNumbered}
 use Rattle.edge_numbers.proofs.Narrow.{entries_stay, numbered_stays}
-use Rattle.edge_numbers.proofs.Entered.{on_err_always, on_err_weaker, number_entered, graph_stays, room_kept, room_made}
+use Rattle.edge_numbers.proofs.Entered.{on_err_always, on_err_weaker, number_entered, graph_stays, room_kept, room_made, numbers_kept}
+use Rattle.edge_numbers.proofs.States.{numbers_of_edges}
 use Rattle.edge_numbers.proofs.edge_numbers.EdgeNumbers.enter.Goals as goal
 
 -- ---- where an end got no number
@@ -26,6 +27,10 @@ returns-in_err-narrow-clause-graph c e = ap (λ entries. state_in entries e) (un
 
 pub returns-in_err-narrow-clause-room_stays : goal.returns-in_err-narrow-clause-room_stays
 returns-in_err-narrow-clause-room_stays c e has = subst (λ entries. HasRoom entries e) (sym (unentered c)) has
+
+pub returns-in_err-narrow-clause-numbers_stay : goal.returns-in_err-narrow-clause-numbers_stay
+returns-in_err-narrow-clause-numbers_stay c =
+    numbers_of_edges c.args.self.now.entries (entries_of c.enter_ends.new.vertices.keys c.self.inside.edges.entries) (ap edges_of (unentered c))
 
 -- ---- where both ends have numbers
 
@@ -66,4 +71,9 @@ returns-clause-room c =
 pub returns-clause-room_stays : goal.returns-clause-room_stays
 returns-clause-room_stays c =
     room_kept c.enter_edge.result c.args.self.now.entries (entries_of c.enter_ends.new.vertices.keys c.enter_edge.new.edges.entries) c.args.edge.now
+    (returns-clause-entries c) (returns-clause-unchanged c)
+
+pub returns-clause-numbers_stay : goal.returns-clause-numbers_stay
+returns-clause-numbers_stay c =
+    numbers_kept c.enter_edge.result c.args.self.now.entries (entries_of c.enter_ends.new.vertices.keys c.enter_edge.new.edges.entries) c.args.edge.now
     (returns-clause-entries c) (returns-clause-unchanged c)

@@ -7,7 +7,7 @@ use Rattle.grove_edits.specs.Graph.{is_same_edge}
 use Rattle.edge_numbers.specs.Numbered.{Numbered, edges_of, states_of, edge_at, state_in, with_state, KeepsRoom, IsEdgeNumber}
 use Rattle.edge_numbers.specs.Narrow.{entries_of, numbered}
 use Rattle.edge_numbers.proofs.Narrow.{numbered_set, entries_set, edges_set, states_set}
-use Rattle.edge_numbers.proofs.States.{state_set, room_of_edges}
+use Rattle.edge_numbers.proofs.States.{state_set, room_of_edges, numbers_of_edges}
 use Rattle.edge_numbers.proofs.edge_numbers.EdgeNumbers.set_state.Goals as goal
 
 pub invariant_of-self : goal.invariant_of-self
@@ -21,6 +21,10 @@ returns-clause-states c =
 pub returns-clause-edges : goal.returns-clause-edges
 returns-clause-edges c =
     edges_set c.self.inside.vertices.keys c.self.inside.edges.entries c.args.number c.args.state ∙ ap (λ (ns : Numbered). edges_of ns.entries) c.self.view_is
+
+pub returns-clause-numbers_stay : goal.returns-clause-numbers_stay
+returns-clause-numbers_stay c =
+    numbers_of_edges c.args.self.now.entries (entries_of c.self.inside.vertices.keys (set_value_at c.self.inside.edges.entries c.args.number c.args.state)) (returns-clause-edges c)
 
 pub returns-clause-graph : goal.returns-clause-graph
 returns-clause-graph c e =
