@@ -1,0 +1,16 @@
+//! The vertices and edges of a graph by number: each vertex once in a list, and each edge once, by the numbers of its ends, with its
+//! state. Its model is the list of the vertices and the list of the edges with their states, in the order of their numbers. It is for
+//! what keeps a graph as lists of numbers.
+#![tactic(auto)]
+
+mod edge_numbers;
+mod ends;
+mod narrow_edge;
+mod no_memory;
+mod order;
+
+pub use edge_numbers::EdgeNumbers;
+pub use no_memory::NoMemory;
+
+#[cfg(test)]
+mod tests;
