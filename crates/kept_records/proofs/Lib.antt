@@ -41,5 +41,6 @@ pub mod Starting
 pub mod OffLine
 pub mod Nearby
 pub mod Short
+pub mod Elsewhere
 mod AllMade
 pub mod Before

@@ -1,0 +1,1 @@
+use Rattle.kept_records.proofs.Elsewhere.{seem_alike}
