@@ -42,5 +42,6 @@ pub mod OffLine
 pub mod Nearby
 pub mod Short
 pub mod Elsewhere
+pub mod Conflict
 mod AllMade
 pub mod Before
