@@ -1,7 +1,7 @@
 -- A walk down from the target of an edge at a conflict makes what a short walk from the source makes, but for the record of the source,
 -- which is what it was.
-use Rattle.std.proofs.Common.{◌≡◌, ◌⊎◌, inl, inr, ℕ, zero, suc, ◌<◌, ◌≤◌, Bool, true, false, cond, List, [], ◌∷◌, ◌++◌, drop, length, filter, sum_by, refl, sym, ap, subst, ◌∙◌, append_assoc, append-nil, arith}
-use Rattle.std.specs.Prelude.{◌||◌, ◌&&◌, ◌==◌, not, Option, Some, None}
+use Rattle.std.proofs.Common.{◌≡◌, ◌⊎◌, inl, inr, ℕ, suc, ◌<◌, ◌≤◌, Bool, true, false, cond, List, [], ◌∷◌, ◌++◌, drop, length, filter, sum_by, refl, sym, ap, subst, ◌∙◌, append_assoc, append-nil, arith}
+use Rattle.std.specs.Prelude.{◌||◌, ◌&&◌, ◌==◌, not, Some, None}
 use Rattle.std.specs.List.{AllByRecursion}
 use Rattle.std.proofs.lemmas.Bool.{false_from_ne_true, or_left, or_right}
 use Rattle.std.proofs.lemmas.List.Elements.{filter-append}
@@ -24,8 +24,8 @@ use Rattle.walks.specs.declared.class.Class.TheVariants.{Inner}
 use Rattle.walks.specs.Live.{holds_edge, children_of, parents_of}
 use Rattle.walks.specs.Class.{class}
 use Rattle.walks.specs.Whole.{IsVertexOf, AreLive}
-use Rattle.walks.proofs.Chains.{IsChain, has_chain, chain_apart}
-use Rattle.grove_terms.specs.Forest.{Forest, none, multi_ref, cycle_ref, tree, child_edges, edges_from, edges_under, AreChildren, StandsUnder}
+use Rattle.walks.proofs.Chains.{has_chain}
+use Rattle.grove_terms.specs.Forest.{Forest, none, multi_ref, cycle_ref, tree, child_edges, edges_from, edges_under, StandsUnder}
 use Rattle.grove_terms.specs.Nodes.{count_at}
 use Rattle.grove_terms.proofs.Forests.{one_forest}
 use Rattle.grove_terms.proofs.InLive.{IsFromPlace, children_lead}
@@ -37,7 +37,7 @@ use Rattle.kept_records.specs.Kept.{Kept, Records, AreKept, IsKeptOf, kept_of, e
 use Rattle.kept_records.specs.Local.{kept_demand, typ_in}
 use Rattle.kept_records.specs.Change.{Changes, CyclesStay, IsNear, StandOnce, AreNear, weight, near_size}
 use Rattle.kept_records.specs.Renewal.{HasToBeJudged, IsLeft, MakesUnder, names, put}
-use Rattle.kept_records.specs.Short.{SourceAloneSees, MakesFrom, IsJudgedAnew, MakesTarget, within, IsShortWalk, TypeStays}
+use Rattle.kept_records.specs.Short.{SourceAloneSees, MakesFrom, MakesTarget, within, IsShortWalk, TypeStays}
 use Rattle.kept_records.specs.Conflict.{PositionAloneSees, MakesInConflict, outer, left, judged, IsConflictWalk}
 use Rattle.kept_records.proofs.Truth.{clash}
 use Rattle.kept_records.proofs.Sorts.{IsJudged, above_expression, wanted_sort}
@@ -89,7 +89,7 @@ count_children : (live : List Edge) → AllByRecursion IsWellFormed live → (v 
 count_children live well v p f edges some =
     let wanted = wanted_sort some.child (all_held IsWellFormed live well some.child some.held) in
     let r = in_row (positions v.ctor) p (sort_of_ctor some.child.target.ctor)
-        (ap (λ (x : Vertex). sort_at x.ctor p) (sym some.source) ∙ ap (sort_at some.child.source.ctor) (sym some.position) ∙ wanted) in
+    (ap (λ (x : Vertex). sort_at x.ctor p) (sym some.source) ∙ ap (sort_at some.child.source.ctor) (sym some.position) ∙ wanted) in
     count_at_position live v f edges r.index (p, r.sort) r.behind r.there
 
 -- ---- what is made under a vertex
@@ -124,10 +124,10 @@ module _ (on : Vertex → Bool) (records : Records) (given : Position → Demand
         [],
         ap (λ (y : Edge). inner ++ (y.target, kept_of y.target b (given y.position)) ∷ []) (sym is.0) ∙ ap (λ c. inner ++ (d.target, kept_of d.target c (given d.position)) ∷ []) (sym is.1),
         subst (λ (y : Edge). MakesUnder on records (demanded_at (expression_of y.target below (given y.position)) below) below inner) (sym is.0)
-        (subst (λ c. MakesUnder on records (demanded_at (expression_of x.target c (given x.position)) c) c inner) (sym is.1) makes),
+            (subst (λ c. MakesUnder on records (demanded_at (expression_of x.target c (given x.position)) c) c inner) (sym is.1) makes),
         all_left rest
-        (λ y c there. others y c (inr there)
-        (λ same. clash (holds_edge d (child_edges rest)) (ap (λ z. holds_edge z (child_edges rest)) (is.0 ∙ sym same) ∙ held_tree rest y c there) once.0)),
+            (λ y c there. others y c (inr there)
+            (λ same. clash (holds_edge d (child_edges rest)) (ap (λ z. holds_edge z (child_edges rest)) (is.0 ∙ sym same) ∙ held_tree rest y c there) once.0)),
       )
   one_judged (tree d below rest) x b (inr is) once others cause inner makes =
       inl (

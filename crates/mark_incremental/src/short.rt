@@ -133,8 +133,8 @@ impl<'t> Walk<'t> {
         true
     }
 
-    // The records of the tree of a vertex, if it heads one, is not left as it is, and the other walk begins elsewhere.
-    fn renew_alone<L: Ledger>(
+    /// The records of the tree of a vertex, if it heads one, is not left as it is, and the other walk begins elsewhere.
+    pub(crate) fn renew_alone<L: Ledger>(
         &self,
         alloc: Global,
         types: &mut TypeTable,
@@ -192,8 +192,8 @@ impl<'t> Walk<'t> {
     }
 }
 
-// The target of an edge where it has no record, and else the source.
-fn came_or_source(records: &MarkStore, edge: &Edge) -> Vertex
+/// The target of an edge where it has no record, and else the source.
+pub(crate) fn came_or_source(records: &MarkStore, edge: &Edge) -> Vertex
     ensures { IsCameOrSource records.now edge.now result }
 {
     match records.get(&edge.target) {
