@@ -20,12 +20,13 @@ ghost use Rattle.mark_incremental.specs.Reading.{AreRecordsOf};
 ghost use Rattle.mark_incremental.specs.Looking.{on, AreRoots};
 ghost use Rattle.mark_incremental.specs.Walking.{Level, demands, IsFrameOf, IsStart, start_at, AreMadeOf};
 ghost use Rattle.mark_incremental.specs.Ticks.{still_costs};
-ghost use Rattle.mark_incremental.specs.Standing.{kept_in, records_in};
-ghost use Rattle.mark_incremental.specs.Applying.{KeepMarksRoom, AreOld};
+ghost use Rattle.mark_incremental.specs.Standing.{records_in};
+ghost use Rattle.mark_incremental.specs.Applying.{KeepMarksRoom, HaveGrown, WasRenewed, CanRenewBack};
 ghost use Rattle.mark_incremental.specs.ShortWalks.{IsDemandThere, IsSeenByOne};
 ghost use Rattle.mark_incremental.specs.AtConflict.{IsLedFromPosition, MaySeeAlone, StoodSeveral, IsOpenedFor, IsPassedFor, level_at, IsDemandBelow, IsStartBelow, StandsAtEdge, HasMadeAtConflict, IsConflictPaidFor};
 
 use crate::apart::are_alike;
+use crate::applying::OldRecords;
 use crate::frame::{Frame, accept};
 use crate::looking::Walk;
 use crate::marks::Marks;
@@ -217,5 +218,129 @@ impl<'t> Walk<'t> {
         let mut made = Vec::new(alloc);
         self.renew_from(alloc, types, ctxs, &edge.target, demand, &mut made, steps)?;
         Ok(made)
+    }
+
+    /// The records that are made for the target of an edge at a conflict, of whose source this is demanded. None where it is not known what
+    /// is demanded at the position.
+    pub(crate) fn renew_below_conflict<L: Ledger>(
+        &self,
+        alloc: Global,
+        types: &mut TypeTable,
+        ctxs: &mut CtxTable,
+        edge: &'t Edge,
+        demand: Demand,
+        steps: &mut Steps<L>,
+    ) -> Result<Option<Vec<(Vertex, Record)>>, NoMemory>
+        requires records { AreRecordsOf types.old ctxs.old self.now.records.now }
+        requires demand { IsDemandOf types.old ctxs.old demand }
+        ensures target { (d : Demanded) (place : IsStart (live self.now.parents.now) types.old ctxs.old demand (start_at edge.now.source d))
+            → (class (live self.now.parents.now) edge.now.target ≡ Inner → StandsAtEdge edge.now (level_at edge.now.source place.above place.forest d))
+            → IfOk result (λ r. IfSome r (λ made. HasMadeAtConflict edge.now (live self.now.parents.now) types.new ctxs.new self.now.records.now (on self.now.whole self.now.passed.now)
+            (demands (level_at edge.now.source place.above place.forest d) edge.now.position) made.items)) }
+        ensures made { IfOk result (λ r. IfSome r (λ made. AreMadeOf types.new ctxs.new made.items)) }
+        ensures paid { (d : Demanded) (place : IsStart (live self.now.parents.now) types.old ctxs.old demand (start_at edge.now.source d))
+            → (class (live self.now.parents.now) edge.now.target ≡ Inner → StandsAtEdge edge.now (level_at edge.now.source place.above place.forest d))
+            → (most : ℕ) → ((before after : ℕ) → IsConflictPaidFor edge.now (live self.now.parents.now) types.old ctxs.old self.now.records.now (on self.now.whole self.now.passed.now)
+            (demands (level_at edge.now.source place.above place.forest d) edge.now.position) before after → after ≤ before + most)
+            → steps.new ≤ steps.old + 5 + 4 * length (edges_under (live self.now.parents.now) edge.now.source) + most }
+        ensures types { KeepsTypes types.old types.new }
+        ensures contexts { KeepsContexts ctxs.old ctxs.new }
+    {
+        let Some(below) = self.demand_below(alloc, types, ctxs, edge, demand, steps)? else {
+            return Ok(None);
+        };
+        let made = self.renew_target(alloc, types, ctxs, edge, below, steps)?;
+        Ok(Some(made))
+    }
+}
+
+impl Marks {
+    // What a walk down from the target of an edge at a conflict makes, over the tables of these marks.
+    fn make_below_conflict<L: Ledger>(
+        &mut self,
+        judged: &VertexMap<bool>,
+        edge: &Edge,
+        demand: Demand,
+        children: &ChildIndex,
+        parents: &ParentIndex,
+        steps: &mut Steps<L>,
+    ) -> Result<Option<Vec<(Vertex, Record)>>, NoMemory>
+        requires same { live children.now ≡ live parents.now }
+        requires rooted { AreRoots (live parents.now) self.old.roots }
+        requires well_formed { AllByRecursion IsWellFormed (live parents.now) }
+        requires demand { IsDemandOf self.old.types self.old.contexts demand }
+        ensures target { (d : Demanded) (place : IsStart (live parents.now) self.old.types self.old.contexts demand (start_at edge.now.source d))
+            → (class (live parents.now) edge.now.target ≡ Inner → StandsAtEdge edge.now (level_at edge.now.source place.above place.forest d))
+            → IfOk result (λ r. IfSome r (λ made. HasMadeAtConflict edge.now (live parents.now) self.new.types self.new.contexts self.old.records (on false judged.now)
+            (demands (level_at edge.now.source place.above place.forest d) edge.now.position) made.items)) }
+        ensures numbers { IfOk result (λ r. IfSome r (λ made. AreMadeOf self.new.types self.new.contexts made.items)) }
+        ensures paid { (d : Demanded) (place : IsStart (live parents.now) self.old.types self.old.contexts demand (start_at edge.now.source d))
+            → (class (live parents.now) edge.now.target ≡ Inner → StandsAtEdge edge.now (level_at edge.now.source place.above place.forest d))
+            → (most : ℕ) → ((before after : ℕ) → IsConflictPaidFor edge.now (live parents.now) self.old.types self.old.contexts self.old.records (on false judged.now)
+            (demands (level_at edge.now.source place.above place.forest d) edge.now.position) before after → after ≤ before + most)
+            → steps.new ≤ steps.old + 5 + 4 * length (edges_under (live parents.now) edge.now.source) + most }
+        ensures types { KeepsTypes self.old.types self.new.types }
+        ensures contexts { KeepsContexts self.old.contexts self.new.contexts }
+        ensures records { self.new.records ≡ self.old.records }
+        ensures roots { self.new.roots ≡ self.old.roots }
+    {
+        let walk = Walk {
+            children,
+            parents,
+            roots: &self.roots,
+            records: &self.records,
+            whole: false,
+            passed: judged,
+        };
+        walk.renew_below_conflict(
+            self.alloc,
+            &mut self.types,
+            &mut self.contexts,
+            edge,
+            demand,
+            steps,
+        )
+    }
+
+    /// Renews the records after an edit of an edge at whose position a conflict stands both before it and after it, and of whose source
+    /// this is demanded, by a walk down from its target. None where it is not known what is demanded at the position; then the records
+    /// and the roots of cycles stay, and the tables may have grown.
+    pub(crate) fn renew_at_conflict<L: Ledger>(
+        &mut self,
+        edge: &Edge,
+        demand: Demand,
+        children: &ChildIndex,
+        parents: &ParentIndex,
+        steps: &mut Steps<L>,
+    ) -> Result<Option<OldRecords>, NoMemory>
+        requires same { live children.now ≡ live parents.now }
+        requires rooted { AreRoots (live parents.now) self.old.roots }
+        requires well_formed { AllByRecursion IsWellFormed (live parents.now) }
+        requires demand { IsDemandThere self.old.records edge.now.source demand }
+        requires several { StoodSeveral edge.now (children_of edge.now.source edge.now.position (live parents.now)) }
+        ensures renewed { (seen : IsSeenByOne edge.now (live parents.now) self.old) → MaySeeAlone edge.now seen.old (live parents.now)
+            → IfOk result (λ r. IfSome r (λ old. AreKept (graph (seen.edit ∷ seen.edits)) (live parents.now) (records_in self.new))) }
+        ensures ticks { (seen : IsSeenByOne edge.now (live parents.now) self.old) → MaySeeAlone edge.now seen.old (live parents.now)
+            → (near : List Vertex) → AreNear edge.now seen.old (live parents.now) near → steps.new ≤ steps.old + 9 * near_size seen.old (live parents.now) near + 11 }
+        ensures old { IfOk result (λ r. IfSome r (λ old. WasRenewed old self.old self.new)) }
+        ensures can_put_back { IfOk result (λ r. IfSome r (λ old. CanRenewBack old self.new)) }
+        ensures numbers { OnOk result (AreRecordsOf self.new.types self.new.contexts self.new.records) }
+        ensures roots { self.new.roots ≡ self.old.roots }
+        ensures nothing { IfOk result (λ r. r ≡ None → HaveGrown self.old self.new) }
+        ensures grown { OnErr result (HaveGrown self.old self.new) }
+        ensures room_stays { KeepMarksRoom self.old self.new }
+    {
+        let further = came_or_source(&self.records, edge);
+        let judged = judged_with(self.alloc, self.seed, &edge.source, &[], &further)?;
+        let Some(made) =
+            self.make_below_conflict(&judged, edge, demand, children, parents, steps)?
+        else {
+            return Ok(None);
+        };
+        let records = self.replace(made)?;
+        Ok(Some(OldRecords {
+            records,
+            root: None,
+        }))
     }
 }
