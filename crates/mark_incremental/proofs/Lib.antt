@@ -1,7 +1,10 @@
 pub mod Tails
+pub mod Positions
 pub mod Growth
 pub mod Levels
 pub mod Steps
+pub mod Opened
+pub mod AtConflict
 pub mod Stack
 pub mod Ticks
 pub mod Paid
