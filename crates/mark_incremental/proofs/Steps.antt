@@ -223,7 +223,7 @@ module _ (live : List Edge) (well : AllByRecursion IsWellFormed live) (types : L
     pub child_stands_there : Stands live (l.vertex ∷ l.above) e.target b (demands l e.position)
     child_stands_there = child_stands live well l.vertex l.above l.forest l.demanded is.stands e b is_tree
 
-agree_expression : (s : Sort) (d e : Demanded) → Agree s d e → s ≡ Exp → d ≡ e
+pub agree_expression : (s : Sort) (d e : Demanded) → Agree s d e → s ≡ Exp → d ≡ e
 agree_expression s d e agree is = subst (λ t. Agree t d e) is agree
 
 -- a vertex that is among others is so with one more
