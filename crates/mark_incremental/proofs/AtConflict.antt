@@ -1,6 +1,6 @@
 -- A position with a conflict both before an edit and after it.
 use Rattle.std.proofs.Common.{◌≡◌, ◌⊎◌, inl, inr, ℕ, zero, suc, ◌+◌, ◌*◌, ◌<◌, ◌≤◌, Bool, true, false, cond, List, [], ◌∷◌, ◌++◌, drop, drop-cons, get_or, length, filter, Option, Some, None, is_some, refl, sym, ap, subst, ◌∙◌, arith}
-use Rattle.std.specs.Prelude.{◌||◌, ◌&&◌}
+use Rattle.std.specs.Prelude.{◌||◌, ◌&&◌, IfSome}
 use Rattle.std.specs.Option.{option_map}
 use Rattle.std.specs.List.{AllByRecursion}
 use Rattle.grove_sorts.specs.Ctor.{sort_of_ctor}
@@ -25,14 +25,15 @@ use Rattle.kept_records.specs.Renewal.{IsLeft}
 use Rattle.kept_records.specs.Renewal as renewal
 use Rattle.kept_records.specs.Short.{MakesFrom}
 use Rattle.kept_records.proofs.Apart.{class_or}
+use Rattle.kept_records.proofs.Standing.{child_stands}
 use Rattle.mark_store.specs.declared.record.Record.{Record}
 use Rattle.mark_store.specs.Places.{Places}
 use Rattle.mark_incremental.specs.Reading.{kept_by, AreRecordsOf}
 use Rattle.mark_incremental.specs.Looking.{IsFound, HasToBeJudged}
-use Rattle.mark_incremental.specs.Walking.{ReadsAs, start_at, IsMember, LeavesRightBelow, HasMade}
+use Rattle.mark_incremental.specs.Walking.{Level, demands, ReadsAs, start_at, IsMember, LeavesRightBelow, HasMade}
 use Rattle.mark_incremental.specs.Ticks.{IsWalkPaid}
 use Rattle.mark_incremental.specs.ShortWalks.{MakesAlone, inner as inner_there, begins, left as left_alone, by_itself, IsAlonePaid}
-use Rattle.mark_incremental.specs.AtConflict.{MakesAtConflict, heads, stays, begins_there, IsStartBelow, IsConflictPaid}
+use Rattle.mark_incremental.specs.AtConflict.{MakesAtConflict, heads, stays, begins_there, IsStartBelow, IsConflictPaid, IsDemandBelow, StandsAtEdge}
 use Rattle.mark_incremental.proofs.Steps.{kept_demand_of, agree_expression, again}
 
 -- one more child is not the edge
@@ -108,3 +109,23 @@ paid_alone e live judged records d before between after more p makes = let withi
 pub paid_below : (e : Edge) (live : List Edge) (judged : Vertex → Bool) (records : Records) (d : Demanded) (before between after : ℕ) → between ≤ before + 3
     → (p : IsWalkPaid live judged records (start_at e.target d) between after) → MakesAtConflict e live judged records d p.all → IsConflictPaid e live judged records d before after
 paid_below e live judged records d before between after more p makes = let within = p.within in record { all = p.all; makes = makes; within = omega (arith, more, within) }
+
+-- where the target stands at the position of the edge, a walk may begin at it
+pub start_below : (live : List Edge) → AllByRecursion IsWellFormed live → (types : List Typ) (ctxs : List Context) (places : Places Record) (judged : Vertex → Bool) (e : Edge) (l : Level) → Stands live l.above l.vertex l.forest l.demanded
+    → (demand : Demand) → IsDemandBelow live types ctxs places judged l e.position demand → (records : Records) → ReadsAs types ctxs places records → LeavesRightBelow live judged records l.vertex → StandsAtEdge e l
+    → IsStartBelow live types ctxs demand l.vertex e.target (demands l e.position)
+start_below live well types ctxs places judged e l stands demand below records reads leaves at = record {
+  place = record {
+    above = l.vertex ∷ l.above;
+    forest = at.below;
+    stands =
+        subst (λ v. Stands live (l.vertex ∷ l.above) v at.below (demands l e.position)) at.target
+        (subst (λ q. Stands live (l.vertex ∷ l.above) at.edge.target at.below (demands l q)) at.position (child_stands live well l.vertex l.above l.forest l.demanded stands at.edge at.below at.is_tree));
+    agree = below records reads leaves (sort_of_ctor e.target.ctor) at.sorted;
+  };
+  member = record { before = []; behind = l.above; are = refl };
+}
+
+-- what holds of an answer where there is one
+pub some_of : {X : Type 0} (P : X → Type 0) (o : Option X) (x : X) → o ≡ Some x → IfSome o P → P x
+some_of P o x is there = subst (λ p. IfSome p P) is there
