@@ -23,6 +23,7 @@ pub mod WholeTrees
 pub mod Roots
 pub mod Puts
 pub mod ShortRenewed
+pub mod ConflictRenewed
 pub mod ApartFrom
 pub mod AppliedOver
 pub mod Edited
