@@ -1,12 +1,11 @@
 -- The records that a walk below a conflict makes, put in place of the kept ones, are those of the new graph.
-use Rattle.std.proofs.Common.{◌≡◌, ◌⊎◌, inl, inr, ℕ, ◌+◌, ◌*◌, ◌<◌, ◌≤◌, Bool, true, false, cond, List, [], ◌∷◌, ◌++◌, length, filter, Option, Some, refl, sym, ap, subst, ◌∙◌, append_assoc, arith}
+use Rattle.std.proofs.Common.{◌≡◌, ◌⊎◌, inl, inr, ℕ, ◌+◌, ◌*◌, ◌<◌, ◌≤◌, Bool, true, false, cond, List, [], ◌∷◌, ◌++◌, length, filter, Some, refl, sym, ap, subst, ◌∙◌, append_assoc, arith}
 use Rattle.std.specs.Prelude.{◌||◌, ◌&&◌}
-use Rattle.std.specs.List.{AllByRecursion, sum_by}
+use Rattle.std.specs.List.{AllByRecursion}
 use Rattle.std.specs.Option.{option_map}
 use Rattle.std.proofs.lemmas.List.Sums.{sum_by-cons}
 use Rattle.std.proofs.lemmas.List.Elements.{filter-append}
 use Rattle.grove_sorts.specs.declared.position.Position.{Position}
-use Rattle.grove_sorts.specs.declared.sort.Sort.TheVariants.{Exp}
 use Rattle.grove_sorts.specs.Ctor.{sort_of_ctor, sort_at}
 use Rattle.grove_sorts.specs.Position.{is_same_position}
 use Rattle.grove_sorts.proofs.Orders.{same_position_laws}
@@ -32,7 +31,7 @@ use Rattle.ctx_table.specs.Context.{Context}
 use Rattle.ctx_table.specs.CtxTable.{KeepsContexts}
 use Rattle.mark_step.specs.declared.node.Demand.{Demand}
 use Rattle.mark_step.specs.Expression.{Demanded}
-use Rattle.kept_records.specs.Kept.{Kept, Records, AreKept, Stands, expression_of, demanded_at}
+use Rattle.kept_records.specs.Kept.{Kept, Records, AreKept, Stands}
 use Rattle.kept_records.specs.Local.{kept_demand}
 use Rattle.kept_records.specs.Change as change
 use Rattle.kept_records.specs.Change.{HasOneMore, Changes, same, comes, goes, CyclesStay, AreNear, leaving, near_size}
@@ -52,7 +51,7 @@ use Rattle.mark_store.specs.declared.record.Record.{Record}
 use Rattle.mark_store.specs.Places.{Places, value_at}
 use Rattle.mark_incremental.specs.Reading.{kept_by, records_at, AreRecordsOf}
 use Rattle.mark_incremental.specs.Looking.{on, holds}
-use Rattle.mark_incremental.specs.Walking.{Level, demands, IsStart, start_at, IsMember, LeavesRightBelow, meant}
+use Rattle.mark_incremental.specs.Walking.{Level, demands, IsStart, start_at, LeavesRightBelow, meant}
 use Rattle.mark_incremental.specs.ShortWalks.{IsSeenByOne, IsDemandThere, IsCameOrSource}
 use Rattle.mark_incremental.specs.AtConflict.{MaySeeAlone, StoodSeveral, level_at, MakesAtConflict, heads, stays, begins_there, StandsAtEdge, HasMadeAtConflict, IsConflictPaidFor}
 use Rattle.mark_incremental.specs.Standing.{KeptMarks, records_in, put_in}
@@ -332,6 +331,8 @@ module _ (e : Edge) (new : List Edge) (marks : KeptMarks) (seen : IsSeenByOne e 
           renewed = conflict_renewed seen.edits seen.edit seen.old new seen.are_old seen.are_new seen.stay sees may several set further passes marks.types marks.contexts marks.records seen.kept is_further demand there place;
         }
 
-  -- as many children stand at the position as the edit is large
-  pub children_seen : (near : List Vertex) → AreNear e seen.old new near → length (children_of e.source e.position new) ≤ near_size seen.old new near
-  children_seen near = subst (λ (x : Edge). AreNear x seen.old new near → length (children_of x.source x.position new) ≤ near_size seen.old new near) seen.of_edge (children_weigh seen.edits seen.edit seen.old new seen.are_old seen.are_new near)
+-- no more children stand at the position than the edit is large
+pub children_seen : (e : Edge) (new : List Edge) (marks : KeptMarks) (seen : IsSeenByOne e new marks) (near : List Vertex) → AreNear e seen.old new near → length (children_of e.source e.position new) ≤ near_size seen.old new near
+children_seen e new marks seen near =
+    subst (λ (x : Edge). AreNear x seen.old new near → length (children_of x.source x.position new) ≤ near_size seen.old new near) seen.of_edge
+    (children_weigh seen.edits seen.edit seen.old new seen.are_old seen.are_new near)

@@ -202,18 +202,8 @@ impl<'t> Walk<'t> {
         ensures types { KeepsTypes types.old types.new }
         ensures contexts { KeepsContexts ctxs.old ctxs.new }
     {
-        if self
-            .look(types, ctxs, &demand, edge, steps)
-            .is_some()
-        {
-            return self.renew_alone(
-                alloc,
-                types,
-                ctxs,
-                &edge.target,
-                &edge.source,
-                steps,
-            );
+        if self.look(types, ctxs, &demand, edge, steps).is_some() {
+            return self.renew_alone(alloc, types, ctxs, &edge.target, &edge.source, steps);
         }
         let mut made = Vec::new(alloc);
         self.renew_from(alloc, types, ctxs, &edge.target, demand, &mut made, steps)?;
@@ -332,8 +322,7 @@ impl Marks {
     {
         let further = came_or_source(&self.records, edge);
         let judged = judged_with(self.alloc, self.seed, &edge.source, &[], &further)?;
-        let Some(made) =
-            self.make_below_conflict(&judged, edge, demand, children, parents, steps)?
+        let Some(made) = self.make_below_conflict(&judged, edge, demand, children, parents, steps)?
         else {
             return Ok(None);
         };

@@ -388,9 +388,14 @@ impl Marks {
         if !may_be_short(edge, apart, before, &after) {
             return Ok(None);
         }
-        if let Some(demand) =
-            demand_at_conflict(&self.records, edge, before, &after, children, steps)
-        {
+        if let Some(demand) = demand_at_conflict(
+            &self.records,
+            edge,
+            before,
+            &after,
+            children,
+            steps,
+        ) {
             return self.renew_at_conflict(edge, demand, children, parents, steps);
         }
         self.renew_short(edge, children, parents, steps)

@@ -1,5 +1,5 @@
 -- The records are those of the new graph.
-use Rattle.std.proofs.Common.{◌≡◌, ◌∷◌, ◌*◌, ◌+◌, false, sym, ap, subst, ◌∙◌, arith}
+use Rattle.std.proofs.Common.{◌∷◌, ◌*◌, ◌+◌, false, sym, ap, subst, ◌∙◌, arith}
 use Rattle.std.specs.Prelude.{Option, IfSome, List}
 use Rattle.std.specs.List.{AllByRecursion}
 use Rattle.grove_edits.specs.declared.vertex.Vertex.{Vertex}
@@ -73,7 +73,7 @@ returns-clause-renewed g c = λ seen may.
     let numbers = subst (λ (m : KeptMarks). AreRecordsOf m.types m.contexts m.records) c.self.view_is c.self.invariant in
     let d = kept_demand (records_in marks) edge.source in
     let has = some_of (λ made. HasMadeAtConflict edge new middle.types middle.contexts marks.records (on false c.in_ok-judged.judged) (demands (level_at edge.source s.place.above s.place.forest d) edge.position) made.items)
-        c.in_ok-made.field-0 c.in-Some.made c.in-Some.is (c.in_ok-made.ensures.target d s.place s.at_edge) in
+    c.in_ok-made.field-0 c.in-Some.made c.in-Some.is (c.in_ok-made.ensures.target d s.place s.at_edge) in
     kept_moved (graph (seen.edit ∷ seen.edits)) new middle c.replace.new.self c.replace.ensures.types c.replace.ensures.contexts
     (s.renewed middle.types middle.contexts c.make_below_conflict.ensures.types c.make_below_conflict.ensures.contexts numbers c.in-Some.made.items has c.replace.new.self.records
     (λ v. c.in_ok-records.ensures.replaced v ∙ ap (λ (places : Places Record). put_in c.in-Some.made.items (value_at places) v) c.make_below_conflict.ensures.records))
