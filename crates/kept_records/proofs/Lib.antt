@@ -41,5 +41,7 @@ pub mod Starting
 pub mod OffLine
 pub mod Nearby
 pub mod Short
+pub mod Elsewhere
+pub mod Conflict
 mod AllMade
 pub mod Before

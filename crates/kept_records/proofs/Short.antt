@@ -77,7 +77,7 @@ module _ (edits : List Edit) (edit : Edit) (old new : List Edge) (live_old : Are
     by_test true same (inr is) = inr (sym is ∙ ap (λ (x : Edge). x.target) (sym (one_edge e end.0 same)))
     by_test false other is = absurd (outside (inr (end.0, λ absent. end.1 (other_state edits edit end.0 other ∙ absent), is)))
 
-  held_before : (x : Edge) → holds_edge x new ≡ true → (x ≡ e → ⊥) → holds_edge x old ≡ true
+  pub held_before : (x : Edge) → holds_edge x new ≡ true → (x ≡ e → ⊥) → holds_edge x old ≡ true
   held_before x held differs =
       live_old.each x (sym (other_state edits edit x (false_from_ne_true (is_same_edge e x) (λ same. differs (sym (one_edge e x same))))) ∙ live_new.no_other x held)
 

@@ -38,7 +38,7 @@ some_there (tree x below rest) p e b (inr is) at nothing = by_test (is_same_posi
 
 -- the first child at a position that is a tree, by what each gives
 module _ {X : Type 0} (gives : Edge → Forest → X) (other : X) where
-  abbrev first_tree : Forest → Position → X
+  abbrev pub first_tree : Forest → Position → X
   first_tree none p = other
   first_tree (multi_ref e rest) p = first_tree rest p
   first_tree (cycle_ref e rest) p = first_tree rest p
@@ -71,20 +71,20 @@ module _ {X : Type 0} (gives : Edge → Forest → X) (other : X) where
     by_test true here rest_none = absurd (nowhere x below (inl (refl, refl)) here)
     by_test false elsewhere rest_none = rest_none
 
-judged-first : (f : Forest) (p : Position) (d : Demanded) → judged_child f p d ≡ first_tree (λ e b. (settled (expression_of e.target b d) (children_types (expression_of e.target b d) b)).typ) Unknown f p
+pub judged-first : (f : Forest) (p : Position) (d : Demanded) → judged_child f p d ≡ first_tree (λ e b. (settled (expression_of e.target b d) (children_types (expression_of e.target b d) b)).typ) Unknown f p
 judged-first none p d = refl
 judged-first (multi_ref e rest) p d = judged-first rest p d
 judged-first (cycle_ref e rest) p d = judged-first rest p d
 judged-first (tree e below rest) p d =
     ap (λ t. cond (is_same_position e.position p) (settled (expression_of e.target below d) (children_types (expression_of e.target below d) below)).typ t) (judged-first rest p d)
 
-type-first : (f : Forest) (p : Position) → child_type f p ≡ first_tree (λ e b. tree_type e.target.ctor b) Unknown f p
+pub type-first : (f : Forest) (p : Position) → child_type f p ≡ first_tree (λ e b. tree_type e.target.ctor b) Unknown f p
 type-first none p = refl
 type-first (multi_ref e rest) p = type-first rest p
 type-first (cycle_ref e rest) p = type-first rest p
 type-first (tree e below rest) p = ap (λ t. cond (is_same_position e.position p) (tree_type e.target.ctor below) t) (type-first rest p)
 
-name-first : (f : Forest) (p : Position) → child_name f p ≡ first_tree (λ e b. pattern_name e.target.ctor) None f p
+pub name-first : (f : Forest) (p : Position) → child_name f p ≡ first_tree (λ e b. pattern_name e.target.ctor) None f p
 name-first none p = refl
 name-first (multi_ref e rest) p = name-first rest p
 name-first (cycle_ref e rest) p = name-first rest p

@@ -6,3 +6,4 @@ pub mod Renewal
 pub mod Numbers
 pub mod Size
 pub mod Short
+pub mod Conflict

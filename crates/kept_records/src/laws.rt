@@ -37,6 +37,7 @@ ghost use Rattle.kept_records.specs.Told.{Tells};
 ghost use Rattle.kept_records.specs.Change.{is_on_walks, CyclesStay, IsAmong, trees_in, AreTouched, node_count, leaving, StandsIn, IsConcerned, IsNear, StandOnce, AreNear, weight, near_size};
 ghost use Rattle.kept_records.specs.Size.{AreNearIn, IsSize};
 ghost use Rattle.kept_records.specs.Short.{SourceAloneSees, LeadsUp, IsJudgedAnew, IsShortWalk, TypeStays};
+ghost use Rattle.kept_records.specs.Conflict.{IsConflictWalk};
 ghost use Rattle.kept_records.specs.Renewal.{IsLeft, HasToBeJudged, MakesUnder, AreMadeSoFar, MakesTrees, AreHeads, names, put, CoverConcerned, AreAllInTrees};
 
 /// Law: every graph of edits has records of its vertices, and only one of each.
@@ -225,6 +226,27 @@ pub fn what_is_left_near_an_edit_keeps_its_record()
         → (class new (edit_edge edit).target ≡ Inner → ⊥) → (stands_in (edit_edge edit).target ((edit_edge edit).source ∷ way) ≡ true → ⊥) → (IsLeft on records (edit_edge edit).target alone → ⊥)
         → (between above : List Vertex) (v : Vertex) (forest : Forest) (d : Demanded) → Stands new (between ++ (edit_edge edit).target ∷ above) v forest d → IsVertexOf (graph (edit ∷ edits)) v
         → IsLeft on records v d → records v ≡ Some (kept_of v forest d) }
+{}
+
+/// Law: after an edit at a position that has several children before it and after it, which leaves the roots of cycles as they were and of
+/// which this position alone sees what becomes of the target, a walk down from the target is enough: the records that it makes, put in
+/// place of those that were kept, are those of the new graph. Each vertex for which one is made is near the edit and has only one, so
+/// together they weigh no more than the size of the edit.
+pub fn a_walk_below_a_conflict_renews_the_records()
+    ensures kept { (edits : List Edit) (edit : Edit) (old new : List Edge) → AreLive (graph edits) old → AreLive (graph (edit ∷ edits)) new
+        → CyclesStay old new → (records : Records) → AreKept (graph edits) old records → (on : Vertex → Bool) (made : List (Vertex × Kept))
+        → IsConflictWalk (edit_edge edit) (graph edits) (graph (edit ∷ edits)) old new records on made → AreKept (graph (edit ∷ edits)) new (put made records) }
+    ensures near { (edits : List Edit) (edit : Edit) (old new : List Edge) → AreLive (graph edits) old → AreLive (graph (edit ∷ edits)) new
+        → CyclesStay old new → (records : Records) → AreKept (graph edits) old records → (on : Vertex → Bool) (made : List (Vertex × Kept))
+        → IsConflictWalk (edit_edge edit) (graph edits) (graph (edit ∷ edits)) old new records on made
+        → (v : Vertex) → stands_in v (names made) ≡ true → IsNear (edit_edge edit) old new v }
+    ensures once { (edits : List Edit) (edit : Edit) (old new : List Edge) → AreLive (graph edits) old → AreLive (graph (edit ∷ edits)) new
+        → CyclesStay old new → (records : Records) → AreKept (graph edits) old records → (on : Vertex → Bool) (made : List (Vertex × Kept))
+        → IsConflictWalk (edit_edge edit) (graph edits) (graph (edit ∷ edits)) old new records on made → StandOnce (names made) }
+    ensures within { (edits : List Edit) (edit : Edit) (old new : List Edge) → AreLive (graph edits) old → AreLive (graph (edit ∷ edits)) new
+        → CyclesStay old new → (records : Records) → AreKept (graph edits) old records → (on : Vertex → Bool) (made : List (Vertex × Kept))
+        → IsConflictWalk (edit_edge edit) (graph edits) (graph (edit ∷ edits)) old new records on made
+        → (near : List Vertex) → AreNear (edit_edge edit) old new near → sum_by (weight old new) (names made) ≤ near_size old new near }
 {}
 
 /// Law: an edit leaves the roots of cycles as they were where its target is not above its source before the edit, and no other vertex

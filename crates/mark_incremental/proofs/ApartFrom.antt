@@ -137,11 +137,19 @@ by_few (p ∷ []) few is d held = ((λ zero. let no : Zero ≡ One p = sym zero 
   same a b h = cc
 by_few (p ∷ q ∷ es) few is d held = ((λ zero. let no : Zero ≡ More p q = sym zero ∙ is in cc), λ r one. (let no : One r ≡ More p q = sym one ∙ is in absurd cc))
 
+-- no edge leads to the target where it has no parents
+pub no_parent : (e : Edge) (edges : List Edge) → Zero ≡ first_two (parents_of e.target edges) → (d : Edge) → holds_edge d edges ≡ true → d.target ≡ e.target → ⊥
+no_parent e edges is d held to = (by_few (parents_of e.target edges) Zero is d (among_parents d e.target edges held to)).0 refl
+
+-- and none but the one where it has one
+pub one_parent : (e : Edge) (edges : List Edge) (p : Edge) → One p ≡ first_two (parents_of e.target edges) → (d : Edge) → holds_edge d edges ≡ true → d.target ≡ e.target → d ≡ p
+one_parent e edges p is d held to = (by_few (parents_of e.target edges) (One p) is d (among_parents d e.target edges held to)).1 p refl
+
 pub zero_led : (e : Edge) (edges : List Edge) → Zero ≡ first_two (parents_of e.target edges) → IsLedFrom e edges
-zero_led e edges is d held to = absurd ((by_few (parents_of e.target edges) Zero is d (among_parents d e.target edges held to)).0 refl)
+zero_led e edges is d held to = absurd (no_parent e edges is d held to)
 
 pub one_led : (e : Edge) (edges : List Edge) (p : Edge) → One p ≡ first_two (parents_of e.target edges) → p.source ≡ e.source → IsLedFrom e edges
-one_led e edges p is from d held to = ap (λ (x : Edge). x.source) ((by_few (parents_of e.target edges) (One p) is d (among_parents d e.target edges held to)).1 p refl) ∙ from
+one_led e edges p is from d held to = ap (λ (x : Edge). x.source) (one_parent e edges p is d held to) ∙ from
 
 -- ---- what the source alone sees
 

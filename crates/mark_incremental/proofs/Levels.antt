@@ -255,6 +255,43 @@ fresh_between live types ctxs l d o stands all agree opened left = record {
   row : drop o.next (positions l.vertex.ctor) ≡ positions l.vertex.ctor
   row = ap (λ c. drop o.next (positions c)) (sym ctor) ∙ left
 
+-- what is open after the next position has given something
+pub filled_gave : (types : List Typ) (ctxs : List Context) (l : Level) (fr : Frame) (p : Position × Sort) (ps : List (Position × Sort)) → IsOpenOf types ctxs fr.state → fr.state.ctor.now ≡ l.vertex.ctor
+    → drop fr.state.next (positions l.vertex.ctor) ≡ p ∷ ps
+    → opened_at types ctxs fr.state ≡ after l.vertex.ctor (node.demanded_at types ctxs fr.state.demand) (expression_of l.vertex l.forest l.demanded) l.forest (take fr.state.next (positions l.vertex.ctor))
+    → given_at types fr.given ≡ running.given_at p.1 (count_at l.forest p.0) l.forest p.0 (asked l fr.state)
+    → opened_at types ctxs (filled_with fr.given fr.state) ≡ after l.vertex.ctor (node.demanded_at types ctxs fr.state.demand) (expression_of l.vertex l.forest l.demanded) l.forest (take (fr.state.next + 1) (positions l.vertex.ctor))
+filled_gave types ctxs l fr p ps is_open ctor at gave gives =
+    opened_filled types ctxs fr.given fr.state is_open some
+    ∙ ap (machine.filled (given_at types fr.given)) gave
+    ∙ ap (λ (g : machine.Given). let v : machine.Opened = record { ctor = l.vertex.ctor; demanded = d; given = places_give x l.forest done [] ++ g ∷ [] } in v) gives
+    ∙ ap (λ (gs : List machine.Given). let v : machine.Opened = record { ctor = l.vertex.ctor; demanded = d; given = gs } in v) (sym (places_give-append x l.forest done (p ∷ []) []))
+    ∙ ap (λ qs. after l.vertex.ctor d x l.forest qs) (sym more.0 ∙ ap (λ n. take n (positions l.vertex.ctor)) (sym next_one))
+  where
+    x : Expression
+    x = expression_of l.vertex l.forest l.demanded
+
+    d : Demanded
+    d = node.demanded_at types ctxs fr.state.demand
+
+    done : List (Position × Sort)
+    done = take fr.state.next (positions l.vertex.ctor)
+
+    more : (take (suc fr.state.next) (positions l.vertex.ctor) ≡ done ++ p ∷ []) × (drop (suc fr.state.next) (positions l.vertex.ctor) ≡ ps)
+    more = one_more (positions l.vertex.ctor) fr.state.next p ps at
+
+    next_one : fr.state.next + 1 ≡ suc fr.state.next
+    next_one = omega arith
+
+    shorter : (n : ℕ) (row : List (Position × Sort)) → drop n row ≡ p ∷ ps → n < length row
+    shorter zero [] empty = absurd cc
+    shorter zero (q ∷ row) is_row = omega arith
+    shorter (suc n) [] empty = absurd cc
+    shorter (suc n) (q ∷ row) is_row = let less = shorter n row is_row in omega (arith, less)
+
+    some : fr.state.next < length (positions fr.state.ctor.now)
+    some = subst (λ c. fr.state.next < length (positions c)) (sym ctor) (shorter fr.state.next (positions l.vertex.ctor) at)
+
 -- a vertex whose children at a position are all taken
 pub filled_between : (live : List Edge) (types : List Typ) (ctxs : List Context) (l : Level) (fr : Frame) (p : Position × Sort) (ps : List (Position × Sort))
     → IsOpenOf types ctxs fr.state → fr.state.ctor.now ≡ l.vertex.ctor → drop fr.state.next (positions l.vertex.ctor) ≡ p ∷ ps → fr.left.now ≡ [] → IsLevel live types ctxs l fr
@@ -262,38 +299,12 @@ pub filled_between : (live : List Edge) (types : List Typ) (ctxs : List Context)
 filled_between live types ctxs l fr p ps is_open ctor at none_here is = record {
   stands = is.stands;
   agree = is.agree;
-  gave =
-      opened_filled types ctxs fr.given fr.state is_open some
-      ∙ ap (machine.filled (given_at types fr.given)) is.gave
-      ∙ ap (λ (g : machine.Given). let v : machine.Opened = record { ctor = l.vertex.ctor; demanded = d; given = places_give x l.forest done [] ++ g ∷ [] } in v) gives
-      ∙ ap (λ (gs : List machine.Given). let v : machine.Opened = record { ctor = l.vertex.ctor; demanded = d; given = gs } in v) (sym (places_give-append x l.forest done (p ∷ []) []))
-      ∙ ap (λ qs. after l.vertex.ctor d x l.forest qs) (sym more.0 ∙ ap (λ n. take n (positions l.vertex.ctor)) (sym next_one));
+  gave = filled_gave types ctxs l fr p ps is_open ctor at is.gave gives;
   tail = is.tail;
   edges = is.edges ∙ ap (λ es. es ++ edges_from live l.vertex (drop (suc fr.state.next) (positions l.vertex.ctor))) none_here ∙ ap (λ n. edges_from live l.vertex (drop n (positions l.vertex.ctor))) (sym next_one);
 } where
-  x : Expression
-  x = expression_of l.vertex l.forest l.demanded
-
-  d : Demanded
-  d = node.demanded_at types ctxs fr.state.demand
-
-  done : List (Position × Sort)
-  done = take fr.state.next (positions l.vertex.ctor)
-
-  more : (take (suc fr.state.next) (positions l.vertex.ctor) ≡ done ++ p ∷ []) × (drop (suc fr.state.next) (positions l.vertex.ctor) ≡ ps)
-  more = one_more (positions l.vertex.ctor) fr.state.next p ps at
-
   next_one : fr.state.next + 1 ≡ suc fr.state.next
   next_one = omega arith
-
-  shorter : (n : ℕ) (row : List (Position × Sort)) → drop n row ≡ p ∷ ps → n < length row
-  shorter zero [] empty = absurd cc
-  shorter zero (q ∷ row) is_row = omega arith
-  shorter (suc n) [] empty = absurd cc
-  shorter (suc n) (q ∷ row) is_row = let less = shorter n row is_row in omega (arith, less)
-
-  some : fr.state.next < length (positions fr.state.ctor.now)
-  some = subst (λ c. fr.state.next < length (positions c)) (sym ctor) (shorter fr.state.next (positions l.vertex.ctor) at)
 
   count : count_at l.forest p.0 ≡ length (children_of l.vertex p.0 live)
   count = count_at_position live l.vertex l.forest (stands_under live l.above l.vertex l.forest l.demanded is.stands).edges fr.state.next p ps at

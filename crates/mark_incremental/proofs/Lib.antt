@@ -1,7 +1,10 @@
 pub mod Tails
+pub mod Positions
 pub mod Growth
 pub mod Levels
 pub mod Steps
+pub mod Opened
+pub mod AtConflict
 pub mod Stack
 pub mod Ticks
 pub mod Paid
@@ -20,6 +23,7 @@ pub mod WholeTrees
 pub mod Roots
 pub mod Puts
 pub mod ShortRenewed
+pub mod ConflictRenewed
 pub mod ApartFrom
 pub mod AppliedOver
 pub mod Edited

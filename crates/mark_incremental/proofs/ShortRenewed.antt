@@ -211,7 +211,7 @@ module _ (edits : List Edit) (edit : Edit) (old new : List Edge) (are_old : AreL
             (ap (node.demanded_at types ctxs) there.is ∙ sym (kept_demand_of types ctxs records top there.kept (ap (option_map (kept_by types ctxs)) there.found)));
       }
 
-  leaves_top : LeavesRightBelow new (on false set) records top
+  pub leaves_top : LeavesRightBelow new (on false set) records top
   leaves_top u us v f d stands member is_left =
       left_below_top edits edit old new are_old are_new stay records kept sees way top leads (on false set) anew member.before member.behind v f d
       (subst (λ vs. Stands new vs v f d) member.are stands) (vertex_below edits edit new are_new u us v f d stands) is_left
@@ -219,12 +219,12 @@ module _ (edits : List Edit) (edit : Edit) (old new : List Edge) (are_old : AreL
   off_way : IsAlone new (on false set) records (edit_edge edit).target top → stands_in (edit_edge edit).target ((edit_edge edit).source ∷ way) ≡ true → ⊥
   off_way is stands = is.other (outer_on_way new (edit_edge edit).target (edit_edge edit).source way top leads is.outer stands)
 
-  leaves_target : LeavesRightAlone new (on false set) records (edit_edge edit).target top
+  pub leaves_target : LeavesRightAlone new (on false set) records (edit_edge edit).target top
   leaves_target is u us v f d stands member is_left =
       left_below_target edits edit old new are_old are_new stay records kept sees way top leads (on false set) anew is.outer (off_way is) is.not_left member.before member.behind v f d
       (subst (λ vs. Stands new vs v f d) member.are stands) (vertex_below edits edit new are_new u us v f d stands) is_left
 
-  makes_target : (made : List (Vertex × Kept)) → MakesAlone new (on false set) records (edit_edge edit).target top made → MakesTarget (edit_edge edit) new records way (on false set) made
+  pub makes_target : (made : List (Vertex × Kept)) → MakesAlone new (on false set) records (edit_edge edit).target top made → MakesTarget (edit_edge edit) new records way (on false set) made
   makes_target made (inner is none) = within is none
   makes_target made (begins is_top none) =
       on_way (subst (λ (w : Vertex). stands_in w ((edit_edge edit).source ∷ way) ≡ true) (sym is_top) (top_on_way new (edit_edge edit).source way top leads)) none

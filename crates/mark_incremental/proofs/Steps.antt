@@ -58,7 +58,7 @@ use Rattle.mark_store.specs.declared.record.Record.{Record}
 use Rattle.mark_store.specs.Places.{Places}
 use Rattle.mark_incremental.specs.declared.frame.Frame.{Frame}
 use Rattle.mark_incremental.specs.Reading.{kept_by, AreRecordsOf, demand_of}
-use Rattle.mark_incremental.specs.Looking.{IsFound, given_in, given_by_kept, HasToBeJudged, in_set, unknown, demanded}
+use Rattle.mark_incremental.specs.Looking.{IsFound, IsLeftAs, given_in, given_by_kept, HasToBeJudged, in_set, unknown, demanded}
 use Rattle.mark_incremental.specs.Walking.{Level, demands, made_of, behind, IsTail, IsBelow, AreLinked, Awaits, GoesOn, asked, GivesFirst, IsAtPlace, AreFramesOf, IsLevel, AreWaiting, AreLevels, IsAccepted, IsBetween, IsBegun, IsHanded, IsSettled, kept_closed, meant, AreMadeOf, ReadsAs, Start, start_at, IsStart, IsMember, StandBelow, LeavesRightBelow, HasMade, IsOnWay, IsUnderWay}
 use Rattle.mark_incremental.proofs.Tails.{tail_tree, tail_children, first_reference, first_tree, BeginsWithTree, none_left, past, past_left, down, up}
 use Rattle.mark_incremental.proofs.Growth.{reads_as-kept, meant-kept, levels_kept, level_kept}
@@ -70,7 +70,7 @@ in_middle : (P : Edge → Type 0) (done : List Edge) (e : Edge) (rest : List Edg
 in_middle P [] e rest all = all.0
 in_middle P (d ∷ done) e rest all = in_middle P done e rest all.1
 
-next_in : (P : Position × Sort → Type 0) (row : List (Position × Sort)) (n : ℕ) (p : Position × Sort) (ps : List (Position × Sort)) → AllByRecursion P row → drop n row ≡ p ∷ ps → P p
+pub next_in : (P : Position × Sort → Type 0) (row : List (Position × Sort)) (n : ℕ) (p : Position × Sort) (ps : List (Position × Sort)) → AllByRecursion P row → drop n row ≡ p ∷ ps → P p
 next_in P [] zero p ps all e = absurd cc
 next_in P [] (suc n) p ps all e = absurd cc
 next_in P (q ∷ row) zero p ps all e = subst P (first_same q p row ps e) all.0 where
@@ -223,7 +223,7 @@ module _ (live : List Edge) (well : AllByRecursion IsWellFormed live) (types : L
     pub child_stands_there : Stands live (l.vertex ∷ l.above) e.target b (demands l e.position)
     child_stands_there = child_stands live well l.vertex l.above l.forest l.demanded is.stands e b is_tree
 
-agree_expression : (s : Sort) (d e : Demanded) → Agree s d e → s ≡ Exp → d ≡ e
+pub agree_expression : (s : Sort) (d e : Demanded) → Agree s d e → s ≡ Exp → d ≡ e
 agree_expression s d e agree is = subst (λ t. Agree t d e) is agree
 
 -- a vertex that is among others is so with one more
@@ -258,6 +258,29 @@ kept_demand_of types ctxs records v r is =
     ap (λ (k : Option Kept). kept_demand (λ u. k) v) is ∙ demand_kept types ctxs r
 
 -- ---- a child that is left as it is, or a reference
+
+module _ (live : List Edge) (well : AllByRecursion IsWellFormed live) (types : List Typ) (ctxs : List Context) (places : Places Record) (judged : Vertex → Bool) (records : Records) (reads : ReadsAs types ctxs places records)
+    (l : Level) (fr : Frame) (is : IsLevel live types ctxs l fr) (e : Edge) (rest : List Edge) (first : fr.left.now ≡ e ∷ rest) (b after_it : Forest) (begins : l.left ≡ tree e b after_it)
+    (g : Given) (left : IsLeftAs types ctxs places judged fr.demand e.target g) where
+  read : records e.target ≡ Some (kept_by types ctxs left.kept)
+  read = reads e.target ∙ ap (option_map (kept_by types ctxs)) left.found
+
+  -- the first child that is left, a tree, is left as it is where it is found so
+  pub found_left : renewal.IsLeft judged records e.target (demands l e.position)
+  found_left = (
+    left.off,
+    λ exp. kept_demand_of types ctxs records e.target left.kept read ∙ left.still exp
+        ∙ agree_expression (sort_of_ctor e.target.ctor) (node.demanded_at types ctxs fr.demand) (demands l e.position)
+        (child_agrees live well types ctxs l fr is e rest first b after_it begins) exp,
+  )
+
+  -- and gives what it gives in the new graph
+  pub found_gives : records e.target ≡ Some (kept_of e.target b (demands l e.position)) → GivesFirst live types l fr g
+  found_gives there =
+      let kept : kept_by types ctxs left.kept ≡ kept_of e.target b (demands l e.position) =
+      some_part (kept_by types ctxs left.kept) (kept_of e.target b (demands l e.position)) (sym read ∙ there) in
+      tree_gives_first live well types ctxs l fr is e rest first b after_it begins g
+      (left.gives ∙ ap (given_by_kept e.target) kept ∙ record_gives (sort_of_ctor e.target.ctor) e.target b (demands l e.position))
 
 module _ (live : List Edge) (well : AllByRecursion IsWellFormed live) (types : List Typ) (ctxs : List Context) (places : Places Record) (judged : Vertex → Bool) (from : Start) (before : List (Vertex × Kept)) where
   pub passed : (fr now : Frame) (frames : List Frame) (made : List (Vertex × Record)) (e : Edge) (rest : List Edge) (g : Given) → fr.left.now ≡ e ∷ rest
@@ -294,19 +317,10 @@ module _ (live : List Edge) (well : AllByRecursion IsWellFormed live) (types : L
             (first_reference live l.left e (rest ++ edges_from live l.vertex (drop (suc fr.state.next) (positions l.vertex.ctor))) (are_left live well types ctxs l fr is e rest first) edges outer judged records (demands l)) goes)
         by_found (inr (inner, left)) =
             let begins : BeginsWithTree l.left e = first_tree live l.left e (rest ++ edges_from live l.vertex (drop (suc fr.state.next) (positions l.vertex.ctor))) (are_left live well types ctxs l fr is e rest first) edges inner in
-            let read : records e.target ≡ Some (kept_by types ctxs left.kept) = reads e.target ∙ ap (option_map (kept_by types ctxs)) left.found in
-            let as_left : renewal.IsLeft judged records e.target (demands l e.position) = (
-              left.off,
-              λ exp. kept_demand_of types ctxs records e.target left.kept read ∙ left.still exp
-                  ∙ agree_expression (sort_of_ctor e.target.ctor) (node.demanded_at types ctxs fr.demand) (demands l e.position)
-                  (child_agrees live well types ctxs l fr is e rest first begins.below begins.rest begins.is) exp,
-            ) in
-            let kept : kept_by types ctxs left.kept ≡ kept_of e.target begins.below (demands l e.position) =
-            some_part (kept_by types ctxs left.kept) (kept_of e.target begins.below (demands l e.position))
-            (sym read ∙ leaves l.vertex l.above e.target begins.below (demands l e.position) (child_stands_there live well types ctxs l fr is e rest first begins.below begins.rest begins.is) within.0 as_left) in
+            let as_left = found_left live well types ctxs places judged records reads l fr is e rest first begins.below begins.rest begins.is g left in
             made_so
-            (tree_gives_first live well types ctxs l fr is e rest first begins.below begins.rest begins.is g
-            (left.gives ∙ ap (given_by_kept e.target) kept ∙ record_gives (sort_of_ctor e.target.ctor) e.target begins.below (demands l e.position)))
+            (found_gives live well types ctxs places judged records reads l fr is e rest first begins.below begins.rest begins.is g left
+            (leaves l.vertex l.above e.target begins.below (demands l e.position) (child_stands_there live well types ctxs l fr is e rest first begins.below begins.rest begins.is) within.0 as_left))
             (past_left judged records (HasMade live judged records from before) l ls (meant types ctxs made) e begins.below begins.rest begins.is as_left goes)
 
 -- ---- the tables grow

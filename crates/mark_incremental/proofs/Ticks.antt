@@ -109,13 +109,16 @@ module _ (live : List Edge) (old new : List Typ) (oldc newc : List Context) (fr 
         omega (arith, a, b, c, d, e, f)
 
   -- a vertex none of whose positions is judged
-  pub fresh_costs : from_next fr ≡ positions fr.vertex.now.ctor → begun_cost fr + still_costs live fr fr.left.now ≤ 5 * weight live fr.vertex.now
-  fresh_costs all =
+  pub first_costs : from_next fr ≡ positions fr.vertex.now.ctor → begun_cost fr + still_costs live fr fr.left.now ≤ 5 + 4 * length (edges_under live fr.vertex.now)
+  first_costs all =
       let costs = begun_costs in
       let short = row_short fr.vertex.now.ctor in
       let row : length (from_next fr) ≡ length (positions fr.vertex.now.ctor) = ap length all in
       let edges : length (edges_from live fr.vertex.now (from_next fr)) ≡ length (edges_under live fr.vertex.now) = ap (λ qs. length (edges_from live fr.vertex.now qs)) all in
       omega (arith, costs, short, row, edges)
+
+  pub fresh_costs : from_next fr ≡ positions fr.vertex.now.ctor → begun_cost fr + still_costs live fr fr.left.now ≤ 5 * weight live fr.vertex.now
+  fresh_costs all = let costs = first_costs all in omega (arith, costs)
 
   -- a vertex at the position behind that of another frame
   pub next_costs : (before : Frame) → fr.vertex.now ≡ before.vertex.now → fr.state.next ≡ before.state.next + 1 → begun_cost fr + still_costs live fr fr.left.now ≤ still_costs live before before.left.now

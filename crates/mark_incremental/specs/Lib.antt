@@ -10,3 +10,4 @@ pub mod Rooting
 pub mod Ticks
 pub mod Cost
 pub mod Receipts
+pub mod AtConflict

@@ -85,8 +85,8 @@ fn is_from(few: &Few, source: &Vertex) -> bool
     }
 }
 
-// Whether there is no parent both times, or several both times.
-fn are_alike(before: &Few, after: &Few) -> bool
+/// Whether there is no parent both times, or several both times.
+pub(crate) fn are_alike(before: &Few, after: &Few) -> bool
     ensures { (v : Vertex) (old new : List Edge) → before.now ≡ first_two (parents_of v old) → after.now ≡ first_two (parents_of v new) → IsTrue result → IsHeadAlike v old new }
 {
     match (before, after) {

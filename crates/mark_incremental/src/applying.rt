@@ -151,7 +151,7 @@ impl Marks {
         ensures unchanged { OnErr result (IsBack store.old children.old parents.old self.old store.new children.new parents.new self.new) }
         ensures room_stays { KeepsRoom store.old store.new }
         ensures marks_room_stays { KeepMarksRoom self.old self.new }
-        ensures ticks { (size : ℕ) → IsSize (edit_edge edit.now) (state_in store.old) (graph_join (state_in store.old) (graph (edit.now ∷ []))) size → steps.new ≤ steps.old + 22 * size + 30 }
+        ensures ticks { (size : ℕ) → IsSize (edit_edge edit.now) (state_in store.old) (graph_join (state_in store.old) (graph (edit.now ∷ []))) size → steps.new ≤ steps.old + 23 * size + 31 }
     {
         let before = parents.few(&edge.target, steps);
         let apart = is_apart(

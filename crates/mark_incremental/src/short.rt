@@ -28,6 +28,7 @@ ghost use Rattle.mark_incremental.specs.ShortWalks.{IsDemandThere, EndsWithType,
 
 use crate::apart::may_be_short;
 use crate::applying::OldRecords;
+use crate::conflict::demand_at_conflict;
 use crate::looking::{Walk, is_demanded, is_inner};
 use crate::marks::Marks;
 use crate::no_memory::NoMemory;
@@ -133,8 +134,8 @@ impl<'t> Walk<'t> {
         true
     }
 
-    // The records of the tree of a vertex, if it heads one, is not left as it is, and the other walk begins elsewhere.
-    fn renew_alone<L: Ledger>(
+    /// The records of the tree of a vertex, if it heads one, is not left as it is, and the other walk begins elsewhere.
+    pub(crate) fn renew_alone<L: Ledger>(
         &self,
         alloc: Global,
         types: &mut TypeTable,
@@ -192,8 +193,8 @@ impl<'t> Walk<'t> {
     }
 }
 
-// The target of an edge where it has no record, and else the source.
-fn came_or_source(records: &MarkStore, edge: &Edge) -> Vertex
+/// The target of an edge where it has no record, and else the source.
+pub(crate) fn came_or_source(records: &MarkStore, edge: &Edge) -> Vertex
     ensures { IsCameOrSource records.now edge.now result }
 {
     match records.get(&edge.target) {
@@ -376,7 +377,7 @@ impl Marks {
         requires before { StoodBefore edge.now (state_in store.now) self.old before.now apart }
         ensures stand { IfOk result (λ r. IfSome r (λ old. StandFor (state_in store.now) self.new)) }
         ensures ticks { (was : StoodBefore edge.now (state_in store.now) self.old before.now apart) → (size : ℕ) → IsSize edge.now (graph was.edits) (graph (was.edit ∷ was.edits)) size
-            → steps.new ≤ steps.old + 16 * size + 21 }
+            → steps.new ≤ steps.old + 17 * size + 22 }
         ensures old { IfOk result (λ r. IfSome r (λ old. WasRenewed old self.old self.new)) }
         ensures can_put_back { IfOk result (λ r. IfSome r (λ old. CanRenewBack old self.new)) }
         ensures nothing { IfOk result (λ r. r ≡ None → HaveGrown self.old self.new) }
@@ -386,6 +387,16 @@ impl Marks {
         let after = parents.few(&edge.target, steps);
         if !may_be_short(edge, apart, before, &after) {
             return Ok(None);
+        }
+        if let Some(demand) = demand_at_conflict(
+            &self.records,
+            edge,
+            before,
+            &after,
+            children,
+            steps,
+        ) {
+            return self.renew_at_conflict(edge, demand, children, parents, steps);
         }
         self.renew_short(edge, children, parents, steps)
     }

@@ -237,6 +237,27 @@ fn a_use_is_bound_while_the_conflict_is_cut(rt: HostRuntime) -> Result<(), Fail>
 }
 
 #[test]
+fn a_fourth_child_of_a_conflict_comes_and_goes(rt: HostRuntime) -> Result<(), Fail> {
+    let fourth = "+4.2 1.1 lam body 4.1 var:x";
+    let lines = [
+        FUNCTION[0],
+        FUNCTION[1],
+        FUNCTION[3],
+        "+2.2 1.1 lam body 2.1 num:1",
+        "+3.2 1.1 lam body 3.1 num:2",
+        fourth,
+    ];
+    let cut = "-4.2 1.1 lam body 4.1 var:x";
+    let (alone, back) = told_with(rt.alloc(), &lines, cut, fourth)?;
+    assert_eq!(rt; alone, Some(("syn", "?", Mark::Free)));
+    assert_eq!(rt; back, Some(("syn", "?", Mark::None)));
+    let (first, first_back) = told_with(rt.alloc(), &lines, cut, FUNCTION[3])?;
+    assert_eq!(rt; first, Some(("syn", "?", Mark::None)));
+    assert_eq!(rt; first_back, Some(("syn", "?", Mark::None)));
+    Ok(())
+}
+
+#[test]
 fn a_shared_vertex_is_judged_by_itself(rt: HostRuntime) -> Result<(), Fail> {
     let left = "+1.4 1.1 plus left 1.3 num:7";
     let shared = "+1.5 1.1 plus right 1.3 num:7";

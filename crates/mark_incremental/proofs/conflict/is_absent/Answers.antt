@@ -1,0 +1,14 @@
+-- The child that is looked at is not the edge.
+use Rattle.std.proofs.Common.{◌≡◌, ◌∷◌, suc, ◌+◌, drop, drop-cons, ltb→lt, false, sym, ap, ◌∙◌, arith}
+use Rattle.std.specs.Prelude.{◌||◌}
+use Rattle.grove_edits.specs.declared.edge.Edge.{Edge}
+use Rattle.grove_edits.specs.Graph.{is_same_edge}
+use Rattle.grove_edits.proofs.Orders.{eq_is_same_edge}
+use Rattle.walks.specs.Live.{holds_edge}
+use Rattle.mark_incremental.proofs.AtConflict.{absent_past}
+use Rattle.mark_incremental.proofs.conflict.is_absent.Goals as goal
+
+pub loop-child-preserved : goal.loop-child-preserved
+loop-child-preserved c =
+    absent_past c.args.edge.now c.args.children.now c.loop-child.child-index c.child-item.result c.loop-child-test.true c.child-item.is
+    (sym (eq_is_same_edge c.child-item.result c.args.edge.now) ∙ sym c.eq.ensures ∙ c.if-eq.false) c.loop-child.invariant

@@ -1,0 +1,7 @@
+-- The edge is among all exactly where it is among those that are left.
+use Rattle.std.proofs.Common.{◌≡◌, drop}
+use Rattle.walks.specs.Live.{holds_edge}
+use Rattle.mark_incremental.proofs.conflict.is_absent.Given as goal
+
+abbrev pub invariant-loop-child : goal.invariant-loop-child
+invariant-loop-child l = holds_edge l.edge l.children ≡ holds_edge l.edge (drop l.child-index l.children)
