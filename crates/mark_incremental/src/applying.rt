@@ -70,8 +70,8 @@ fn reserve(
     Ok(())
 }
 
-// Whether the edge of an edit has at least the state that is asked of it.
-fn is_raised(edit: &Edit, store: &GraphStore) -> bool
+/// Whether the edge of an edit has at least the state that is asked of it, so that nothing changes where it is taken.
+pub fn is_raised(edit: &Edit, store: &GraphStore) -> bool
     ensures { IsTrue result ↔ IsAtMost (state_of (edit_kind edit.now)) (state_in store.now (edit_edge edit.now)) }
 {
     let asked = match edit.kind() {

@@ -22,7 +22,7 @@ mod short;
 mod walks_up;
 mod way;
 
-pub use applying::{Applied, OldRecords};
+pub use applying::{Applied, OldRecords, is_raised};
 pub use marks::Marks;
 pub use no_memory::NoMemory;
 

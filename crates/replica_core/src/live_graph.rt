@@ -1,11 +1,10 @@
-ghost use Rattle.std.specs.Prelude.{◌≡◌, ◌+◌, ◌<◌, ◌≤◌, [], ◌∷◌, List, map, if◌then◌else◌, OnOk, OnErr, IfOk, IsTrue, ◌↔◌};
+ghost use Rattle.std.specs.Prelude.{◌≡◌, ◌+◌, ◌<◌, ◌≤◌, [], ◌∷◌, List, map, if◌then◌else◌, OnOk, OnErr, IfOk};
 ghost use Rattle.grove_sorts.specs.declared.position.Position.{Position};
 ghost use Rattle.grove_edits.specs.declared.vertex.Vertex.{Vertex};
 ghost use Rattle.grove_edits.specs.declared.edge.Edge.{Edge};
 ghost use Rattle.grove_edits.specs.Vertex.{is_same_vertex};
-ghost use Rattle.edge_lattice.specs.State.{IsAtMost};
-ghost use Rattle.grove_edits.specs.Edit.{edit_edge, edit_kind};
-ghost use Rattle.grove_edits.specs.Graph.{Graph, graph, graph_join, state_of, IsSame};
+ghost use Rattle.grove_edits.specs.Edit.{edit_edge};
+ghost use Rattle.grove_edits.specs.Graph.{Graph, graph, graph_join, IsSame};
 ghost use Rattle.graph_store.specs.Store.{state_in};
 ghost use Rattle.edge_index.specs.Lists.{live};
 ghost use Rattle.child_index.specs.Origin.{room_at_origin, is_from};
@@ -16,9 +15,9 @@ ghost use Rattle.replica_core.specs.Indexes.{CanChange, changed_edges, StandsFor
 use crate::live_change::{LiveChange, live_change};
 use crate::no_memory::NoMemory;
 use child_index::ChildIndex;
-use edge_lattice::{State, leq};
 use graph_store::GraphStore;
-use grove_edits::{Edge, Edit, EditKind};
+use grove_edits::{Edge, Edit};
+use mark_incremental::is_raised;
 use parent_index::ParentIndex;
 use seeded_hash::HashSeed;
 use std::alloc::Global;
@@ -64,22 +63,11 @@ impl LiveGraph {
     {
         let mut news = Vec::new(alloc);
         for edit in edits {
-            if !self.knows(edit) {
+            if !is_raised(edit, &self.store) {
                 news.push(*edit)?;
             }
         }
         Ok(news)
-    }
-
-    // Whether the edge of an edit has at least the state that is asked of it.
-    fn knows(&self, edit: &Edit) -> bool
-        ensures { IsTrue result ↔ IsAtMost (state_of (edit_kind edit.now)) (state_in self.now.store (edit_edge edit.now)) }
-    {
-        let asked = match edit.kind() {
-            EditKind::Insert => State::Live,
-            EditKind::Delete => State::Deleted,
-        };
-        leq(asked, self.store.state(edit.as_edge()))
     }
 
     // Makes room for an edit of each of these edges, so that raising them takes no memory.
