@@ -128,11 +128,7 @@ All-drop P zero xs all = all
 All-drop P (suc n) [] all = tt
 All-drop P (suc n) (x ∷ xs) all = All-drop P n xs all.1
 
--- a group has its first line
-pub group_has_first : (first : NamedLine) (others : List NamedLine) → 1 ≤ group_length first.name (first ∷ others)
-group_has_first first others = subst (λ b. 1 ≤ cond b (suc (group_length first.name others)) 0) (sym (ap is_eq (tied_itself name_cmp_total first.name))) (omega arith)
-
--- and no more lines than there are
+-- a group has no more lines than there are
 group_within_by : (name : Name) (line : NamedLine) (lines : List NamedLine) (b : Bool) → group_length name lines ≤ length lines → cond b (suc (group_length name lines)) 0 ≤ length (line ∷ lines)
 group_within_by name line lines true rest = omega arith
 group_within_by name line lines false rest = omega arith
@@ -243,8 +239,3 @@ module _ (version : Version) (text : List ℕ) where
       let rest = first ∷ others in
       let written = subst (λ ls. IsWritten version text ls out new) (front ∙ ap (λ k. take k rest) count) more in
       subst (λ ls. IsWrittenTo lines ls new) (sym (back ∙ ap (λ k. drop k rest) count)) (written_more lines first others out new so_far written)
-
-  -- and nothing is left
-  pub written_all : (lines rest : List NamedLine) (out : List ℕ) → length rest < 1 → IsWrittenTo lines rest out → IsWritten version text lines [] out
-  written_all lines [] out none so_far = subst (λ ls. IsWritten version text ls [] out) (sym (so_far.parts ∙ append-nil so_far.done)) so_far.written
-  written_all lines (line ∷ rest) out none so_far = absurd (omega arith)
