@@ -34,10 +34,10 @@ any_version Show v w g answer not_merge is = is
 any_version Check v w g answer not_merge is = is
 
 -- the answer of the canonical list of a text is that of the text
-pub answer_told : (question : Question) (text answer : List ℕ) (version : Version) (list : List Edit) → IsListOf text version list → IsAnswerOf question version (graph list) answer → IsAnswered question text answer
-answer_told question text answer version list of_text is = record {
-  version = version;
+pub answer_told : (question : Question) (text answer : List ℕ) (list : List Edit) (of_text : IsListOf text list) → IsAnswerOf question of_text.version (graph list) answer → IsAnswered question text answer
+answer_told question text answer list of_text is = record {
+  version = of_text.version;
   edits = of_text.edits;
   spelled = of_text.spelled;
-  answered = answer_along question version (graph list) (graph of_text.edits) answer of_text.canonical.same is;
+  answered = answer_along question of_text.version (graph list) (graph of_text.edits) answer of_text.canonical.same is;
 }

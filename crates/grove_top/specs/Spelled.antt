@@ -12,8 +12,9 @@ pub record IsListOfLines (version : Version) (lines : List ℕ) (list : List Edi
   pub spelled : SpellsAll version lines edits
   pub canonical : IsCanonical (graph edits) list
 
--- the text is of the version, and the list is the canonical one of the graph of the edits that it spells
-pub record IsListOf (text : List ℕ) (version : Version) (list : List Edit) : Type 0 where
+-- the list is the canonical one of the graph of the edits that the text spells in its version
+pub record IsListOf (text : List ℕ) (list : List Edit) : Type 0 where
+  pub version : Version
   pub edits : List Edit
   pub spelled : IsTextOf text version edits
   pub canonical : IsCanonical (graph edits) list

@@ -1,15 +1,19 @@
-ghost use Rattle.std.specs.Prelude.{◌≡◌, ◌≤◌, ℕ, List, [], length, IfOk};
+ghost use Rattle.std.specs.Prelude.{◌≡◌, ◌≤◌, ℕ, List, [], ◌++◌, length, IfOk, IfErr};
 ghost use Rattle.grove_edits.specs.Graph.{graph, Ascends};
+ghost use Rattle.edit_text.specs.Whole.{HasWholeFault, header};
+ghost use Rattle.grove_answers.specs.Texts.{IsPrintText, IsCheckText};
 ghost use Rattle.grove_top.specs.declared.command.Command.TheVariants.{Ask, Run, Generate};
+ghost use Rattle.grove_top.specs.declared.command.Question.TheVariants.{Merge};
 ghost use Rattle.grove_top.specs.Words.{IsPlain, IsWithinLimits, most_loads};
-ghost use Rattle.grove_top.specs.Due.{IsCommandDue, IsAnswerOf, IsMergeText, most_bytes, malformed_text, fault_word};
+ghost use Rattle.grove_top.specs.Due.{IsCommandDue, IsAnswered, most_bytes, malformed_text, fault_word};
 
 use crate::command::{Command, Question};
 use crate::no_memory::NoMemory;
 use crate::outcome::{Fault, Status};
-use crate::reading::read_edits;
-use edit_text::{TextFault, write_version};
-use grove_answers::{append_canonical_text, check_text, print_text};
+use crate::reading::{fault_of_text, read_edits};
+use edit_merge::merge_lines;
+use edit_text::{TextFault, split_version, write_version};
+use grove_answers::{check_text, print_text};
 use grove_edits::EditList;
 use grove_io::Gate;
 use grove_sorts::Version;
@@ -78,15 +82,12 @@ fn form_answer(
     requires { length text.now ≤ most_bytes }
     ensures { IfOk result (λ due. IsCommandDue (Ask question) text.now due.journals due.status due.text.items) }
 {
-    match read_edits(alloc, text) {
-        Ok((version, edits)) => {
-            let text = answer(alloc, seed, question, version, edits)?;
-            Ok(Due {
-                status: Status::Done,
-                text,
-                journals: JournalList::new(alloc),
-            })
-        }
+    match answer(alloc, seed, question, text) {
+        Ok(text) => Ok(Due {
+            status: Status::Done,
+            text,
+            journals: JournalList::new(alloc),
+        }),
         Err(TextFault::Malformed { line, fault }) => malformed(alloc, line, Fault::from(fault)),
         Err(TextFault::Rest { line }) => malformed(alloc, line, Fault::Rest),
         Err(TextFault::NoMemory) => Err(NoMemory),
@@ -140,26 +141,61 @@ fn answer(
     alloc: Global,
     seed: HashSeed,
     question: Question,
-    version: Version,
-    edits: EditList,
-) -> Result<Vec<u8>, NoMemory>
-    requires { Ascends edits }
-    ensures { IfOk result (λ text. IsAnswerOf question version (graph edits) text.items) }
+    text: &[u8],
+) -> Result<Vec<u8>, TextFault>
+    requires { length text.now ≤ most_bytes }
+    ensures answered { IfOk result (λ answer. IsAnswered question text.now answer.items) }
+    ensures fault { IfErr result (HasWholeFault text.now) }
 {
-    Ok(match question {
-        Question::Merge => merge_text(alloc, version, &edits)?,
-        Question::Show => print_text(alloc, edits, seed)?,
-        Question::Check => check_text(alloc, edits, seed)?,
-    })
+    match question {
+        Question::Merge => merge_text(alloc, text),
+        Question::Show => {
+            let edits = read_edits(alloc, text)?;
+            Ok(show(alloc, seed, edits)?)
+        }
+        Question::Check => {
+            let edits = read_edits(alloc, text)?;
+            Ok(check(alloc, seed, edits)?)
+        }
+    }
 }
 
-fn merge_text(alloc: Global, version: Version, edits: &EditList) -> Result<Vec<u8>, NoMemory>
-    requires { Ascends edits.now }
-    ensures { IfOk result (λ text. IsMergeText version (graph edits.now) text.items) }
+fn show(alloc: Global, seed: HashSeed, edits: EditList) -> Result<Vec<u8>, NoMemory>
+    requires { Ascends edits }
+    ensures { IfOk result (λ text. IsPrintText (graph edits) text.items) }
+{
+    Ok(print_text(alloc, edits, seed)?)
+}
+
+fn check(alloc: Global, seed: HashSeed, edits: EditList) -> Result<Vec<u8>, NoMemory>
+    requires { Ascends edits }
+    ensures { IfOk result (λ text. IsCheckText (graph edits) text.items) }
+{
+    Ok(check_text(alloc, edits, seed)?)
+}
+
+// No edit is kept: the lines are sorted where they stand.
+fn merge_text(alloc: Global, text: &[u8]) -> Result<Vec<u8>, TextFault>
+    requires { length text.now ≤ most_bytes }
+    ensures answered { IfOk result (λ merged. IsAnswered Merge text.now merged.items) }
+    ensures fault { IfErr result (HasWholeFault text.now) }
+{
+    let (version, lines) = split_version(text);
+    match merge_lines(alloc, version, lines) {
+        Ok(merged) => Ok(with_version(alloc, version, merged)?),
+        Err(fault) => Err(fault_of_text(version, fault)),
+    }
+}
+
+fn with_version(alloc: Global, version: Version, lines: Vec<u8>) -> Result<Vec<u8>, NoMemory>
+    ensures { IfOk result (λ text. text.items ≡ header version ++ lines.items) }
 {
     let mut text = Vec::new(alloc);
     write_version(version, &mut text)?;
-    append_canonical_text(edits, &mut text)?;
+    if text.is_empty() {
+        return Ok(lines);
+    }
+    text.extend_from_slice(&lines)?;
     Ok(text)
 }
 

@@ -1,3 +1,7 @@
+ghost use Rattle.std.specs.Prelude.{◌≡◌};
+ghost use Rattle.edit_text.specs.declared.text_fault.TextFault.TheVariants.{NoMemory};
+
+use edit_text::TextFault;
 use std::alloc::{AllocError, AllocFailed};
 use std::error::Error;
 use std::fmt;
@@ -77,5 +81,13 @@ impl From<session_script::NoMemory> for NoMemory {
 impl From<session_answers::NoMemory> for NoMemory {
     fn from(_error: session_answers::NoMemory) -> NoMemory {
         NoMemory
+    }
+}
+
+impl From<NoMemory> for TextFault {
+    ghost from_gives = { λ _ fault. fault ≡ NoMemory };
+
+    fn from(_error: NoMemory) -> TextFault {
+        TextFault::NoMemory
     }
 }

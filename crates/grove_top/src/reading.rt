@@ -1,6 +1,6 @@
-ghost use Rattle.std.specs.Prelude.{◌≤◌, length, IfOk, IfErr};
+ghost use Rattle.std.specs.Prelude.{◌≤◌, ℕ, List, length, IfOk, IfErr};
 ghost use Rattle.edit_text.specs.Text.{HasTextFault};
-ghost use Rattle.edit_text.specs.Whole.{HasWholeFault};
+ghost use Rattle.edit_text.specs.Whole.{HasVersion, HasWholeFault};
 ghost use Rattle.grove_top.specs.Due.{most_bytes};
 ghost use Rattle.grove_top.specs.Spelled.{IsListOf, IsListOfLines};
 
@@ -10,23 +10,34 @@ use grove_edits::EditList;
 use grove_sorts::Version;
 use std::alloc::Global;
 
-/// The version of a text and the canonical list of the graph of the edits that it spells, or the first line that spells none.
-pub(crate) fn read_edits(alloc: Global, text: &[u8]) -> Result<(Version, EditList), TextFault>
+/// The canonical list of the graph of the edits that a text spells, or the first line that spells none.
+pub(crate) fn read_edits(alloc: Global, text: &[u8]) -> Result<EditList, TextFault>
     requires { length text.now ≤ most_bytes }
-    ensures list { IfOk result (λ read. IsListOf text.now read.0 read.1) }
+    ensures list { IfOk result (IsListOf text.now) }
     ensures fault { IfErr result (HasWholeFault text.now) }
 {
     let (version, lines) = split_version(text);
     match read_lines(alloc, version, lines) {
-        Ok(edits) => Ok((version, edits)),
-        Err(TextFault::Malformed { line, fault }) => Err(TextFault::Malformed {
-            line: header_lines(version) + line,
+        Ok(edits) => Ok(edits),
+        Err(fault) => Err(fault_of_text(version, fault)),
+    }
+}
+
+/// The fault of a text whose lines have the fault: its lines are counted with the one that tells the version.
+pub(crate) fn fault_of_text(version: Version, fault: TextFault) -> TextFault
+    requires few { (lines : List ℕ) × (length lines ≤ most_bytes) × HasTextFault version lines fault }
+    ensures { (text lines : List ℕ) → HasVersion text version lines → HasTextFault version lines fault → HasWholeFault text result }
+{
+    let before = header_lines(version);
+    match fault {
+        TextFault::Malformed { line, fault } => TextFault::Malformed {
+            line: before + line,
             fault,
-        }),
-        Err(TextFault::Rest { line }) => Err(TextFault::Rest {
-            line: header_lines(version) + line,
-        }),
-        Err(TextFault::NoMemory) => Err(TextFault::NoMemory),
+        },
+        TextFault::Rest { line } => TextFault::Rest {
+            line: before + line,
+        },
+        TextFault::NoMemory => TextFault::NoMemory,
     }
 }
 

@@ -1,0 +1,5 @@
+pub mod Canonical
+pub mod Groups
+pub mod Moved
+pub mod NamedLines
+pub mod Standing

@@ -1,0 +1,21 @@
+use Rattle.std.proofs.Common.{subst, sym}
+use Rattle.grove_top.specs.declared.command.Question.{Question}
+use Rattle.grove_top.specs.declared.command.Question.TheVariants.{Show, Check}
+use Rattle.grove_top.specs.Due.{IsAnswered}
+use Rattle.grove_top.proofs.Answered.{answer_told}
+use Rattle.grove_top.proofs.commands.answer.Goals as goal
+
+pub returns-in_ok-show-in-Show-clause-answered : goal.returns-in_ok-show-in-Show-clause-answered
+returns-in_ok-show-in-Show-clause-answered c =
+    let text = c.args.text.now in
+    let shown = c.in_ok-show-in-Show.field-0.items in
+    subst (λ question. IsAnswered question text shown) (sym c.in-Show.is)
+    (answer_told Show text shown c.in_ok-edits-in-Show.edits c.in_ok-edits-in-Show.ensures.list c.in_ok-show-in-Show.ensures)
+
+pub returns-in_ok-check-in-Check-clause-answered :
+    goal.returns-in_ok-check-in-Check-clause-answered
+returns-in_ok-check-in-Check-clause-answered c =
+    let text = c.args.text.now in
+    let checked = c.in_ok-check-in-Check.field-0.items in
+    subst (λ question. IsAnswered question text checked) (sym c.in-Check.is)
+    (answer_told Check text checked c.in_ok-edits-in-Check.edits c.in_ok-edits-in-Check.ensures.list c.in_ok-check-in-Check.ensures)
