@@ -53,6 +53,7 @@ fn take_from<O: ListOrder>(list: &mut Listed, edge: usize, edges: &EdgeNumbers)
     requires held { holds_number edge list.old.numbers ≡ true }
     ensures numbers { list.new.numbers ≡ without_number edge list.old.numbers }
     ensures places { list.new.places ≡ list.old.places }
+    ensures free { length list.new.numbers < list.new.places }
 {
     let index = place_in::<O>(list.numbers(), edge, edges);
     list.remove(index);

@@ -69,6 +69,7 @@ impl Listed {
     pub(crate) fn remove(&mut self, index: usize)
         requires { index < length self.old.numbers }
         ensures numbers { self.new.numbers ≡ remove self.old.numbers index }
+        ensures count { length self.new.numbers + 1 ≡ length self.old.numbers }
         ensures places { self.new.places ≡ self.old.places }
     {
         self.numbers.remove(index);
