@@ -78,9 +78,9 @@ unfolding IsDistinct
 state_set [] n state e within once = absurd (omega (arith, within))
 state_set (x ∷ xs) zero state e within once =
     by_test (is_same_edge e x.0) ∙ ap (λ b. cond b state (state_in (x ∷ xs) e)) (same_edge_laws.symm e x.0) where
-  by_test : (b : Bool) → unwrap_or (cond b (Some state) (entry_at xs e)) Absent ≡ cond b state (unwrap_or (cond b (Some x.1) (entry_at xs e)) Absent)
-  by_test true = refl
-  by_test false = refl
+      by_test : (b : Bool) → unwrap_or (cond b (Some state) (entry_at xs e)) Absent ≡ cond b state (unwrap_or (cond b (Some x.1) (entry_at xs e)) Absent)
+      by_test true = refl
+      by_test false = refl
 state_set (x ∷ xs) (suc n) state e within once = by_test (is_same_edge e x.0) refl (state_set xs n state e (omega (arith, within)) once.1) where
   other : Edge
   other = numbered_edge xs n
@@ -158,10 +158,11 @@ numbers_of_edges before after same n within =
     (omega (arith, count, within), ap (λ edges. get_or edges n no_edge) same)
 
 numbers_push : (entry : Edge × State) (entries : Entries) → KeepsPlaces entries (entries ++ entry ∷ [])
-numbers_push entry entries n within =
-    (omega (arith, length_push entries entry, within),
-    ap (λ edges. get_or edges n no_edge) (map_push (λ (e : Edge × State). e.0) entries entry)
-    ∙ get_or_append_left (edges_of entries) (entry.0 ∷ []) no_edge n (omega (arith, length-map entries (λ entry. entry.0), within)))
+numbers_push entry entries n within = (
+  omega (arith, length_push entries entry, within),
+  ap (λ edges. get_or edges n no_edge) (map_push (λ (e : Edge × State). e.0) entries entry)
+      ∙ get_or_append_left (edges_of entries) (entry.0 ∷ []) no_edge n (omega (arith, length-map entries (λ entry. entry.0), within)),
+)
 
 pub numbers_entered : (edge : Edge) (entries : Entries) → KeepsPlaces entries (with_entry edge entries)
 numbers_entered edge entries = by_test (list_any (is_same_edge edge) (edges_of entries)) where
