@@ -34,7 +34,7 @@ other_of_both false b fails h = h
 module _ (order : Edge → Edge → Ordering) (total : IsTotalOrder order) where
   -- ---- an edge more, and edges fewer
 
-  all_after : (x y : Edge) (ys : List Edge) → order x y ≡ Less → AllByRecursion (λ later. order y later ≡ Less) ys → AllByRecursion (λ later. order x later ≡ Less) ys
+  pub all_after : (x y : Edge) (ys : List Edge) → order x y ≡ Less → AllByRecursion (λ later. order y later ≡ Less) ys → AllByRecursion (λ later. order x later ≡ Less) ys
   all_after x y [] lt all = tt
   all_after x y (z ∷ zs) lt all = (total.trans x y z lt all.0, all_after x y zs lt all.1)
 

@@ -5,18 +5,21 @@ use Rattle.std.specs.List.{AllByRecursion, prefix_len}
 use Rattle.std.specs.declared.cmp.Ordering.{Ordering}
 use Rattle.std.specs.declared.cmp.Ordering.TheVariants.{Less, Equal, Greater}
 use Rattle.std.specs.Ordering.{ordering_then, is_eq}
+use Rattle.std.specs.Cmp.{IsTotalOrder}
 use Rattle.std.proofs.lemmas.Cmp.{alike_right}
 use Rattle.grove_sorts.specs.declared.position.Position.{Position}
-use Rattle.grove_sorts.specs.Position.{position_cmp}
+use Rattle.grove_sorts.specs.Position.{position_cmp, is_same_position}
 use Rattle.grove_sorts.proofs.Orders.{position_cmp_total, equal_from_test}
 use Rattle.grove_edits.specs.declared.edge.Edge.{Edge}
 use Rattle.grove_edits.specs.Edge.{edge_cmp}
 use Rattle.walks.specs.Live.{IsInEdgeOrder}
+use Rattle.edge_index.specs.Ordered.{put_before, with_edge}
 use Rattle.edge_lists.specs.Lists.{with_position}
-use Rattle.edge_lists.specs.Order.{IsInOrder, position_first}
+use Rattle.edge_lists.specs.Order.{IsInOrder, position_first, with_edge_by}
 use Rattle.edge_lists.specs.Places.{is_up_to}
 use Rattle.edge_lists.proofs.Prefixes.{Falls, prefix_len-none, all_fail}
 use Rattle.edge_lists.proofs.Numbers.{one_more}
+use Rattle.edge_lists.proofs.Ordered.{all_after}
 
 pub map-filter : (edge : ℕ → Edge) (test : Edge → Bool) (xs : List ℕ) → map edge (filter (λ n. test (edge n)) xs) ≡ filter test (map edge xs)
 map-filter edge test [] = refl
@@ -100,12 +103,7 @@ module _ (edge : ℕ → Edge) (p : Position) where
         ap (λ k. take k (x ∷ xs)) all ∙ ap (λ zs. x ∷ zs) (sym (ap (λ k. slice_range xs k to) none) ∙ rest)
     by_order rest Greater is = sym (filter-none xs (all_fail (λ n. is_up_to true (Stands n)) x xs (earlier_too true x xs ordered.0) (ap (is_up_to true) is)))
 
--- ---- in edge order
-
-then_second : (o q : Ordering) → is_eq o ≡ true → ordering_then o q ≡ q
-then_second Less q is = absurd cc
-then_second Equal q is = refl
-then_second Greater q is = absurd cc
+-- ---- in edge order, where an order is that among the edges of one position
 
 module _ (p : Position) where
   abbrev There : Edge → Bool
@@ -114,18 +112,97 @@ module _ (p : Position) where
   one_position : (a b : Edge) → There a ≡ true → There b ≡ true → is_eq (position_cmp a.position b.position) ≡ true
   one_position a b a_there b_there = ap is_eq (alike_right position_cmp_total b.position p a.position (equal_from_test (position_cmp b.position p) b_there)) ∙ a_there
 
-  all_after : (e : Edge) (es : List Edge) → There e ≡ true → AllByRecursion (λ later. position_first e later ≡ Less) es → AllByRecursion (λ later. edge_cmp e later ≡ Less) (filter There es)
-  all_after e [] there all = tt
-  all_after e (x ∷ xs) there all =
-      elim (There x) as (λ b. There x ≡ b → AllByRecursion (λ later. edge_cmp e later ≡ Less) (cond b (x ∷ filter There xs) (filter There xs))) [
-        | true ↦ λ x_there. (sym (then_second (position_cmp e.position x.position) (edge_cmp e x) (one_position e x there x_there)) ∙ all.0, all_after e xs there all.1)
-        | false ↦ λ _. all_after e xs there all.1
-      ] refl
+  module _ (order : Edge → Edge → Ordering) (within : (a b : Edge) → is_same_position a.position b.position ≡ true → order a b ≡ edge_cmp a b) where
+    in_edge_order : (a b : Edge) → There a ≡ true → There b ≡ true → edge_cmp a b ≡ order a b
+    in_edge_order a b a_there b_there = sym (within a b (one_position a b a_there b_there))
 
-  pub in_order-with_position : (es : List Edge) → IsInOrder position_first es → IsInEdgeOrder (with_position p es)
-  in_order-with_position [] ordered = tt
-  in_order-with_position (e ∷ es) ordered =
-      elim (There e) as (λ b. There e ≡ b → IsInEdgeOrder (cond b (e ∷ filter There es) (filter There es))) [
-        | true ↦ λ there. (all_after e es there ordered.0, in_order-with_position es ordered.1)
-        | false ↦ λ _. in_order-with_position es ordered.1
-      ] refl
+    after_there : (e : Edge) (es : List Edge) → There e ≡ true → AllByRecursion (λ later. order e later ≡ Less) es → AllByRecursion (λ later. edge_cmp e later ≡ Less) (filter There es)
+    after_there e [] there all = tt
+    after_there e (x ∷ xs) there all =
+        elim (There x) as (λ b. There x ≡ b → AllByRecursion (λ later. edge_cmp e later ≡ Less) (cond b (x ∷ filter There xs) (filter There xs))) [
+          | true ↦ λ x_there. (in_edge_order e x there x_there ∙ all.0, after_there e xs there all.1)
+          | false ↦ λ _. after_there e xs there all.1
+        ] refl
+
+    pub in_order-with_position : (es : List Edge) → IsInOrder order es → IsInEdgeOrder (with_position p es)
+    in_order-with_position [] ordered = tt
+    in_order-with_position (e ∷ es) ordered =
+        elim (There e) as (λ b. There e ≡ b → IsInEdgeOrder (cond b (e ∷ filter There es) (filter There es))) [
+          | true ↦ λ there. (after_there e es there ordered.0, in_order-with_position es ordered.1)
+          | false ↦ λ _. in_order-with_position es ordered.1
+        ] refl
+
+    -- ---- an edge more
+
+    with_edge-first : (e : Edge) (es : List Edge) → AllByRecursion (λ later. edge_cmp e later ≡ Less) es → with_edge e es ≡ e ∷ es
+    with_edge-first e [] all = refl
+    with_edge-first e (x ∷ xs) all = ap (λ o. put_before o e x xs (with_edge e xs)) all.0
+
+    -- an edge from another position is not seen
+    put_elsewhere : (e : Edge) (xs : List Edge) → There e ≡ false → with_position p (with_edge_by order e xs) ≡ with_position p xs
+    put_elsewhere e [] apart = ap (λ b. cond b (e ∷ []) []) apart
+    put_elsewhere e (x ∷ xs) apart =
+        elim (order e x) as (λ o. with_position p (put_before o e x xs (with_edge_by order e xs)) ≡ with_position p (x ∷ xs)) [
+          | Less ↦ ap (λ b. cond b (e ∷ with_position p (x ∷ xs)) (with_position p (x ∷ xs))) apart
+          | Equal ↦ refl
+          | Greater ↦ ap (λ zs. cond (There x) (x ∷ zs) zs) (put_elsewhere e xs apart)
+        ]
+
+    module _ (total : IsTotalOrder order) (exact : (a b : Edge) → order a b ≡ Equal → a ≡ b) (e : Edge) where
+      put_before_all : (there : There e ≡ true) (x : Edge) (xs : List Edge) → IsInOrder order (x ∷ xs) → order e x ≡ Less → with_position p (e ∷ x ∷ xs) ≡ with_edge e (with_position p (x ∷ xs))
+      put_before_all there x xs ordered lt =
+          ap (λ b. cond b (e ∷ with_position p (x ∷ xs)) (with_position p (x ∷ xs))) there
+          ∙ sym (with_edge-first e (with_position p (x ∷ xs)) (after_there e (x ∷ xs) there (lt, all_after order total e x xs lt ordered.0)))
+
+      put_again : (there : There e ≡ true) (x : Edge) (xs : List Edge) → order e x ≡ Equal → with_position p (x ∷ xs) ≡ with_edge e (with_position p (x ∷ xs))
+      put_again there x xs tie =
+          let x_there : There x ≡ true = ap There (sym (exact e x tie)) ∙ there in
+          let kept : with_position p (x ∷ xs) ≡ x ∷ with_position p xs = ap (λ b. cond b (x ∷ with_position p xs) (with_position p xs)) x_there in
+          kept
+          ∙ sym (ap (λ o. put_before o e x (with_position p xs) (with_edge e (with_position p xs))) (in_edge_order e x there x_there ∙ tie))
+          ∙ sym (ap (with_edge e) kept)
+
+      put_behind : (there : There e ≡ true) (x : Edge) (xs : List Edge) → order e x ≡ Greater → with_position p (with_edge_by order e xs) ≡ with_edge e (with_position p xs)
+          → with_position p (x ∷ with_edge_by order e xs) ≡ with_edge e (with_position p (x ∷ xs))
+      put_behind there x xs gt rest =
+          elim (There x) as (λ b. There x ≡ b → cond b (x ∷ with_position p (with_edge_by order e xs)) (with_position p (with_edge_by order e xs)) ≡ with_edge e (cond b (x ∷ with_position p xs) (with_position p xs))) [
+            | true ↦ λ x_there.
+                ap (λ zs. x ∷ zs) rest ∙ sym (ap (λ o. put_before o e x (with_position p xs) (with_edge e (with_position p xs))) (in_edge_order e x there x_there ∙ gt))
+            | false ↦ λ _. rest
+          ] refl
+
+      put_there : (xs : List Edge) → There e ≡ true → IsInOrder order xs → with_position p (with_edge_by order e xs) ≡ with_edge e (with_position p xs)
+      put_there [] there ordered = ap (λ b. cond b (e ∷ []) []) there
+      put_there (x ∷ xs) there ordered =
+          elim (order e x) as (λ o. order e x ≡ o → with_position p (put_before o e x xs (with_edge_by order e xs)) ≡ with_edge e (with_position p (x ∷ xs))) [
+            | Less ↦ λ lt. put_before_all there x xs ordered lt
+            | Equal ↦ λ tie. put_again there x xs tie
+            | Greater ↦ λ gt. put_behind there x xs gt (put_there xs there ordered.1)
+          ] refl
+
+      -- among the edges of one position the edge is put in edge order, and those of others stay
+      pub with_position-with_edge_by : (xs : List Edge) → IsInOrder order xs
+          → with_position p (with_edge_by order e xs) ≡ cond (is_same_position e.position p) (with_edge e (with_position p xs)) (with_position p xs)
+      with_position-with_edge_by xs ordered =
+          elim (There e) as (λ b. There e ≡ b → with_position p (with_edge_by order e xs) ≡ cond b (with_edge e (with_position p xs)) (with_position p xs)) [
+            | true ↦ λ there. put_there xs there ordered
+            | false ↦ λ apart. put_elsewhere e xs apart
+          ] refl
+
+-- ---- an edge fewer
+
+pub filter-filter : (first second : Edge → Bool) (xs : List Edge) → filter first (filter second xs) ≡ filter second (filter first xs)
+filter-filter first second [] = refl
+filter-filter first second (x ∷ xs) =
+    elim (first x) as (λ a. first x ≡ a → filter first (cond (second x) (x ∷ filter second xs) (filter second xs)) ≡ filter second (cond a (x ∷ filter first xs) (filter first xs))) [
+      | true ↦ λ passes.
+          elim (second x) as (λ b. filter first (cond b (x ∷ filter second xs) (filter second xs)) ≡ cond b (x ∷ filter second (filter first xs)) (filter second (filter first xs))) [
+            | true ↦ ap (λ a. cond a (x ∷ filter first (filter second xs)) (filter first (filter second xs))) passes ∙ ap (λ zs. x ∷ zs) (filter-filter first second xs)
+            | false ↦ filter-filter first second xs
+          ]
+      | false ↦ λ fails.
+          elim (second x) as (λ b. filter first (cond b (x ∷ filter second xs) (filter second xs)) ≡ filter second (filter first xs)) [
+            | true ↦ ap (λ a. cond a (x ∷ filter first (filter second xs)) (filter first (filter second xs))) fails ∙ filter-filter first second xs
+            | false ↦ filter-filter first second xs
+          ]
+    ] refl

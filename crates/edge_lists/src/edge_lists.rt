@@ -1,7 +1,8 @@
-ghost use Rattle.std.specs.Prelude.{◌≡◌, ℕ, ◌+◌, ◌<◌, ◌≤◌, ◌^◌, ◌++◌, ◌∷◌, ◌||◌, ◌&&◌, ◌==◌, not, true, false, [], length, map, OnOk, OnErr};
+ghost use Rattle.std.specs.Prelude.{◌≡◌, ℕ, ◌+◌, ◌<◌, ◌≤◌, ◌^◌, ◌++◌, ◌∷◌, ◌||◌, ◌&&◌, ◌==◌, not, true, false, [], length, map, if◌then◌else◌, OnOk, OnErr};
+ghost use Rattle.grove_sorts.specs.declared.position.Position.{Position};
 ghost use Rattle.grove_sorts.specs.Position.{is_same_position};
 ghost use Rattle.walks.specs.Live.{IsInEdgeOrder, holds_edge};
-ghost use Rattle.edge_index.specs.Ordered.{without_edge};
+ghost use Rattle.edge_index.specs.Ordered.{with_edge, without_edge};
 ghost use Rattle.edge_numbers.specs.Numbered.{edge_at, IsEdgeNumber};
 ghost use Rattle.edge_lists.specs.Lists.{nothing_listed, numbers_at, places_at, edges_at, HasVertex, HasFreePlace, KeepsOthers, AreEdgeNumbers, holds_number, without_number, with_position, numbers_with_position};
 ghost use Rattle.edge_lists.specs.Order.{IsInOrder, position_first, with_edge_by, by_edge, with_number};
@@ -118,6 +119,7 @@ impl<O: ListOrder> EdgeLists<O> {
         requires new { holds_edge (edge_at edges.now edge) (edges_at edges.now self.old vertex) ≡ false }
         requires place { HasFreePlace self.old vertex }
         ensures edges { edges_at edges.now self.new vertex ≡ with_edge_by O.order (edge_at edges.now edge) (edges_at edges.now self.old vertex) }
+        ensures positions { (p : Position) → with_position p (edges_at edges.now self.new vertex) ≡ (if is_same_position (edge_at edges.now edge).position p then with_edge (edge_at edges.now edge) (with_position p (edges_at edges.now self.old vertex)) else with_position p (edges_at edges.now self.old vertex)) }
         ensures numbers { numbers_at self.new vertex ≡ with_number (by_edge O.order edges.now) edge (numbers_at self.old vertex) }
         ensures holds { (n : ℕ) → holds_number n (numbers_at self.new vertex) ≡ ((edge == n) || holds_number n (numbers_at self.old vertex)) }
         ensures in_order { IsInOrder O.order (edges_at edges.now self.new vertex) }
@@ -135,6 +137,7 @@ impl<O: ListOrder> EdgeLists<O> {
         requires in_order { IsInOrder O.order (edges_at edges.now self.old vertex) }
         requires held { holds_number edge (numbers_at self.old vertex) ≡ true }
         ensures edges { edges_at edges.now self.new vertex ≡ without_edge (edge_at edges.now edge) (edges_at edges.now self.old vertex) }
+        ensures positions { (p : Position) → with_position p (edges_at edges.now self.new vertex) ≡ without_edge (edge_at edges.now edge) (with_position p (edges_at edges.now self.old vertex)) }
         ensures numbers { numbers_at self.new vertex ≡ without_number edge (numbers_at self.old vertex) }
         ensures holds { (n : ℕ) → holds_number n (numbers_at self.new vertex) ≡ (not (edge == n) && holds_number n (numbers_at self.old vertex)) }
         ensures in_order { IsInOrder O.order (edges_at edges.now self.new vertex) }

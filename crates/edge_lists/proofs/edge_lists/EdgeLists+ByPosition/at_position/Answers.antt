@@ -4,6 +4,7 @@ use Rattle.walks.specs.Live.{IsInEdgeOrder}
 use Rattle.edge_numbers.specs.Numbered.{edge_at}
 use Rattle.edge_lists.specs.Lists.{numbers_at, edges_at, numbers_with_position}
 use Rattle.edge_lists.specs.Order.{IsInOrder, position_first}
+use Rattle.edge_lists.specs.OrderLaws.{position_first_within}
 use Rattle.edge_lists.specs.Places.{is_from_before}
 use Rattle.edge_lists.proofs.Prefixes.{prefix_len-le}
 use Rattle.edge_lists.proofs.Positions.{map-filter, prefix_lens, slice-position, in_order-with_position}
@@ -43,4 +44,4 @@ returns-clause-edges c =
 pub returns-clause-in_order : goal.returns-clause-in_order
 returns-clause-in_order c =
     subst IsInEdgeOrder (sym (returns-clause-edges c))
-    (in_order-with_position c.args.position (edges_at c.args.edges.now c.args.self.now c.args.vertex) c.requires.in_order)
+    (in_order-with_position c.args.position position_first position_first_within (edges_at c.args.edges.now c.args.self.now c.args.vertex) c.requires.in_order)
