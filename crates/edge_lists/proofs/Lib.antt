@@ -2,3 +2,4 @@ pub mod Prefixes
 pub mod Numbers
 pub mod Ordered
 pub mod Positions
+pub mod CallerLemmas
