@@ -16,6 +16,7 @@ fn numbers_stand_in_the_order_in_which_they_were_added(rt: HostRuntime) -> Resul
     assert_eq!(rt; numbers.with_name(name(1, 5)), [9, 3].as_slice());
     assert_eq!(rt; numbers.with_name(name(2, 5)), [4].as_slice());
     assert_eq!(rt; numbers.with_name(name(1, 4)), [].as_slice());
+    assert_eq!(rt; numbers.with_name(name(1, 6)), [].as_slice());
     Ok(())
 }
 
