@@ -1,5 +1,5 @@
 -- An open vertex from position to position, where no child of a conflict is taken.
-use Rattle.std.proofs.Common.{◌≡◌, ◌⊎◌, inl, inr, ℕ, zero, suc, ◌+◌, ◌<◌, Bool, true, false, List, [], ◌∷◌, ◌++◌, take, drop, length, Some, refl, sym, ap, subst, ◌∙◌, append_assoc, arith}
+use Rattle.std.proofs.Common.{◌≡◌, inl, inr, ℕ, zero, suc, ◌+◌, ◌<◌, Bool, true, false, List, [], ◌∷◌, ◌++◌, take, drop, length, Some, refl, sym, ap, subst, ◌∙◌, append_assoc, arith}
 use Rattle.std.specs.Prelude.{IsTrue, slice_get}
 use Rattle.std.specs.List.{AllByRecursion}
 use Rattle.grove_sorts.specs.declared.position.Position.{Position}
@@ -10,7 +10,7 @@ use Rattle.grove_edits.specs.declared.vertex.Vertex.{Vertex}
 use Rattle.grove_edits.specs.declared.edge.Edge.{Edge}
 use Rattle.grove_edits.specs.Edge.{IsWellFormed}
 use Rattle.walks.specs.Live.{children_of}
-use Rattle.grove_terms.specs.Forest.{Forest, child_edges, edges_from, edges_under, StandsUnder}
+use Rattle.grove_terms.specs.Forest.{Forest, child_edges, edges_from, StandsUnder}
 use Rattle.grove_terms.specs.Nodes.{count_at}
 use Rattle.type_core.specs.Typ.{Typ}
 use Rattle.type_core.specs.TypeTable.{KeepsTypes}
@@ -22,10 +22,10 @@ use Rattle.mark_step.specs.Node as node
 use Rattle.judging.specs.declared.frame.Given.{Given}
 use Rattle.judging.specs.declared.frame.OpenVertex.{OpenVertex}
 use Rattle.judging.specs.Machine as machine
-use Rattle.judging.specs.Frames.{given_at, opened_at, left_of, filled_with, IsOpenOf}
+use Rattle.judging.specs.Frames.{opened_at, left_of, filled_with, IsOpenOf}
 use Rattle.judging.proofs.Running as running
 use Rattle.judging.proofs.Running.{Agree}
-use Rattle.kept_records.specs.Kept.{Records, Stands}
+use Rattle.kept_records.specs.Kept.{Records}
 use Rattle.kept_records.proofs.Standing.{stands_under}
 use Rattle.kept_records.proofs.Before.{count_at_position}
 use Rattle.mark_store.specs.declared.record.Record.{Record}

@@ -1,5 +1,5 @@
 -- The code's test of positions is that of their order.
-use Rattle.std.proofs.Common.{◌≡◌, Bool, true, false, is_eq, sym, ap, ◌∙◌}
+use Rattle.std.proofs.Common.{◌≡◌, true, false, is_eq, sym, ap, ◌∙◌}
 use Rattle.grove_sorts.specs.declared.position.Position.{Position}
 use Rattle.grove_sorts.specs.contracts.position.PositionPartialEq.TheImpl as position_eq
 use Rattle.grove_sorts.specs.contracts.position.PositionOrd.TheImpl.Laws.{matches_eq-law}

@@ -1,10 +1,6 @@
 -- The child that is looked at is not the edge.
-use Rattle.std.proofs.Common.{◌≡◌, ◌∷◌, suc, ◌+◌, drop, drop-cons, ltb→lt, false, sym, ap, ◌∙◌, arith}
-use Rattle.std.specs.Prelude.{◌||◌}
-use Rattle.grove_edits.specs.declared.edge.Edge.{Edge}
-use Rattle.grove_edits.specs.Graph.{is_same_edge}
+use Rattle.std.proofs.Common.{sym, ◌∙◌}
 use Rattle.grove_edits.proofs.Orders.{eq_is_same_edge}
-use Rattle.walks.specs.Live.{holds_edge}
 use Rattle.mark_incremental.proofs.AtConflict.{absent_past}
 use Rattle.mark_incremental.proofs.conflict.is_absent.Goals as goal
 

@@ -1,5 +1,5 @@
 -- No edge leads to the target, or one that comes from the position.
-use Rattle.std.proofs.Common.{◌≡◌, true, sym, ap, ◌∙◌}
+use Rattle.std.proofs.Common.{sym, ap, ◌∙◌}
 use Rattle.grove_edits.specs.declared.edge.Edge.{Edge}
 use Rattle.grove_edits.proofs.Vertices.{same_vertex_exact}
 use Rattle.mark_incremental.proofs.ApartFrom.{no_parent, one_parent}

@@ -1,13 +1,11 @@
 -- A vertex is opened and goes on from position to position until it comes to that of the edge.
-use Rattle.std.proofs.Common.{◌≡◌, ◌∷◌, ◌+◌, ◌*◌, ◌≤◌, suc, drop, length, sym, ap, ◌∙◌, arith}
+use Rattle.std.proofs.Common.{◌≡◌, ◌∷◌, suc, drop, length, sym, ap, ◌∙◌, arith}
 use Rattle.grove_sorts.specs.Ctor.{positions}
 use Rattle.grove_edits.specs.declared.vertex.Vertex.{Vertex}
 use Rattle.grove_terms.specs.Forest.{edges_under}
 use Rattle.edge_index.specs.Lists.{live}
 use Rattle.judging.specs.declared.frame.OpenVertex.{OpenVertex}
 use Rattle.judging.proofs.Kept.{types-then, contexts-then}
-use Rattle.mark_incremental.specs.declared.frame.Frame.{Frame}
-use Rattle.mark_incremental.specs.Looking.{on}
 use Rattle.mark_incremental.specs.AtConflict.{level_at}
 use Rattle.mark_incremental.proofs.Growth.{records_kept, reads_as-kept}
 use Rattle.mark_incremental.proofs.Positions.{same_positions}

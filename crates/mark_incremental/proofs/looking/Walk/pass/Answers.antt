@@ -1,5 +1,5 @@
 -- A conflict gives nothing, and an only child what it is found to give.
-use Rattle.std.proofs.Common.{drop, false, sym}
+use Rattle.std.proofs.Common.{drop, sym}
 use Rattle.edge_index.specs.Lists.{live}
 use Rattle.mark_incremental.specs.Looking.{on}
 use Rattle.mark_incremental.proofs.Steps.{first_is}

@@ -1,5 +1,5 @@
 -- What is demanded at the position is found, and then what is made for the target.
-use Rattle.std.proofs.Common.{◌≡◌, sym, ◌∙◌, arith}
+use Rattle.std.proofs.Common.{sym, ◌∙◌, arith}
 use Rattle.edge_index.specs.Lists.{live}
 use Rattle.mark_incremental.specs.Looking.{on}
 use Rattle.mark_incremental.specs.Walking.{demands, ReadsAs}

@@ -1,5 +1,5 @@
 -- The target is judged by itself where it heads a tree, left as it is, or judged again with what stands below it.
-use Rattle.std.proofs.Common.{◌≡◌, sym, ap, ◌∙◌}
+use Rattle.std.proofs.Common.{sym, ap, ◌∙◌}
 use Rattle.edge_index.specs.Lists.{live}
 use Rattle.mark_incremental.specs.Looking.{on}
 use Rattle.mark_incremental.specs.Walking.{meant}
