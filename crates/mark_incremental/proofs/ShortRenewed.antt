@@ -201,7 +201,7 @@ module _ (edits : List Edit) (edit : Edit) (old new : List Edge) (are_old : AreL
   start_there =
       let place = has_place new well top in
       let same : kept_demand records top ≡ place.demanded =
-      demand_at_top edits edit old new are_old are_new stay records kept sees way top leads place.above place.forest place.demanded place.stands (inl there.sort) in
+      demand_at_top edits edit old new are_old are_new stay records kept sees way top leads place.above place.forest place.demanded place.stands there.sort in
       record {
         above = place.above;
         forest = place.forest;

@@ -1,6 +1,6 @@
 -- Inner model, which no public contract cites: a walk down that begins near the source of an edge.
 use Rattle.std.specs.Prelude.{◌≡◌, ◌⊎◌, Bool, true, false, ℕ, ◌+◌, ◌*◌, ◌≤◌, List, [], ◌∷◌, ◌++◌, length, IsTrue, Option, Some, None}
-use Rattle.grove_sorts.specs.declared.sort.Sort.TheVariants.{Exp}
+use Rattle.grove_sorts.specs.declared.sort.Sort.TheVariants.{Top, Exp}
 use Rattle.grove_sorts.specs.Ctor.{positions, sort_of_ctor}
 use Rattle.grove_edits.specs.declared.vertex.Vertex.{Vertex}
 use Rattle.grove_edits.specs.declared.edge.Edge.{Edge}
@@ -45,9 +45,9 @@ pub record IsApartUpTo (live : List Edge) (target source at : Vertex) : Type 0 w
 
 -- ---- what is demanded where the walk begins, and whether it may end there
 
--- of an expression that has a record is demanded what the record says
+-- of an expression or the root, if it has a record, is demanded what the record says
 pub record IsDemandThere (places : Places Record) (v : Vertex) (d : Demand) : Type 0 where
-  pub sort : sort_of_ctor v.ctor ≡ Exp
+  pub sort : (sort_of_ctor v.ctor ≡ Exp) ⊎ (sort_of_ctor v.ctor ≡ Top)
   pub kept : Record
   pub found : value_at places v ≡ Some kept
   pub is : d ≡ demand_of kept

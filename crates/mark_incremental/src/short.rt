@@ -49,12 +49,13 @@ use walks::{Few, ParentOf, Steps};
 // So many vertices above the source of an edge a short walk may begin.
 const MOST_ABOVE: u64 = 16;
 
-/// What is demanded of an expression by its record, if it has one.
+/// What is demanded of an expression or the root by its record, if it has one.
 pub(crate) fn kept_demand(records: &MarkStore, vertex: &Vertex) -> Option<Demand>
     ensures { IfSome result (IsDemandThere records.now vertex.now) }
 {
-    if sort_of(&vertex.ctor) != Sort::Exp {
-        return None;
+    match sort_of(&vertex.ctor) {
+        Sort::Exp | Sort::Top => {}
+        Sort::Pat | Sort::Typ => return None,
     }
     let kept = records.get(vertex)?;
     Some(Demand {
