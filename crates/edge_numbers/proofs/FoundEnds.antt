@@ -1,5 +1,5 @@
 -- The narrow edge of an edge whose ends have numbers.
-use Rattle.std.proofs.Common.{◌≡◌, ℕ, List, length, get_or, slice_get, Some, None, sym, ap, ◌∙◌}
+use Rattle.std.proofs.Common.{◌≡◌, ℕ, List, Some, None, sym, ap, ◌∙◌}
 use Rattle.std.specs.Prelude.{Option, IfSome}
 use Rattle.std.specs.List.{IsDistinct, position}
 use Rattle.std.specs.Map.{keys_of}

@@ -1,6 +1,6 @@
 -- What narrow edges stand for.
-use Rattle.std.proofs.Common.{◌≡◌, ℕ, zero, suc, ◌+◌, ◌<◌, ◌≤◌, Bool, true, false, cond, List, [], ◌∷◌, ◌++◌, length, get_or, slice_get, map, Some, None, is_some, refl, sym, ap, subst, ◌∙◌, arith}
-use Rattle.std.specs.Prelude.{◌||◌, ◌^◌, Option, set}
+use Rattle.std.proofs.Common.{◌≡◌, ℕ, zero, suc, ◌+◌, ◌<◌, ◌≤◌, Bool, true, false, cond, List, [], ◌∷◌, ◌++◌, length, get_or, slice_get, map, Some, None, refl, sym, ap, subst, ◌∙◌, arith}
+use Rattle.std.specs.Prelude.{◌||◌, ◌^◌, set}
 use Rattle.std.specs.Option.{option_map}
 use Rattle.std.specs.List.{AllByRecursion, IsDistinct, list_any}
 use Rattle.std.specs.Map.{keys_of, values_of, lookup}
@@ -17,9 +17,9 @@ use Rattle.grove_edits.specs.Vertex.{is_same_vertex, root}
 use Rattle.grove_edits.specs.Graph.{is_same_edge}
 use Rattle.grove_edits.proofs.Orders.{one_edge, same_edge_laws}
 use Rattle.edge_numbers.specs.declared.narrow_edge.NarrowEdge.{NarrowEdge}
-use Rattle.edge_numbers.specs.Numbered.{Numbered, edges_of, states_of, edge_at, IsEdgeNumber, IsNumberOfEdge, IsNumberOfVertex, HasEndsIn, BeginsWith, with_entry, no_edge}
+use Rattle.edge_numbers.specs.Numbered.{edges_of, states_of, edge_at, IsNumberOfEdge, IsNumberOfVertex, HasEndsIn, BeginsWith, with_entry, no_edge}
 use Rattle.edge_numbers.specs.Narrow.{NarrowEntries, edge_of, entry_of, entries_of, numbered, HasEnds, IsNumbered}
-use Rattle.edge_numbers.proofs.NarrowEq.{eq, itself, exact}
+use Rattle.edge_numbers.proofs.NarrowEq.{eq, itself}
 use Rattle.edge_numbers.proofs.Places.{stands_last}
 use Rattle.edge_numbers.proofs.Vertices.{one_number, numbered_stands}
 

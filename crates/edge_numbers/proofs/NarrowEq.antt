@@ -1,5 +1,5 @@
 -- The comparison of narrow edges is equality.
-use Rattle.std.proofs.Common.{◌≡◌, ℕ, Bool, true, refl, sym, ap, ◌∙◌}
+use Rattle.std.proofs.Common.{◌≡◌, Bool, true, refl, sym, ap, ◌∙◌}
 use Rattle.std.specs.declared.cmp.Ordering.{Ordering}
 use Rattle.std.specs.declared.cmp.Ordering.TheVariants.{Less, Equal, Greater}
 use Rattle.std.specs.Ordering.{ordering_then, nat_cmp, is_eq}
@@ -12,7 +12,6 @@ use Rattle.grove_sorts.specs.Position.{position_cmp}
 use Rattle.grove_sorts.proofs.Orders.{cmp_is_position_cmp, position_cmp_total, position_cmp_exact, equal_from_test}
 use Rattle.edge_numbers.specs.declared.narrow_edge.NarrowEdge.{NarrowEdge}
 use Rattle.edge_numbers.specs.contracts.narrow_edge.NarrowEdgePartialEq.TheImpl as narrow_eq
-use Rattle.edge_numbers.specs.contracts.narrow_edge.NarrowEdgeOrd.TheImpl as narrow_impl
 use Rattle.edge_numbers.specs.contracts.narrow_edge.NarrowEdgeOrd.TheImpl.Laws.{matches_eq-law}
 
 abbrev pub eq : NarrowEdge → NarrowEdge → Bool

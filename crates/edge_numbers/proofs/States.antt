@@ -1,9 +1,8 @@
 -- The states of edges by their entries.
-use Rattle.std.proofs.Common.{◌≡◌, ℕ, zero, suc, ◌<◌, Bool, true, false, cond, List, [], ◌∷◌, ◌++◌, length, get_or, slice_get, map, Some, None, IsSome, is_some, refl, sym, ap, subst, ◌∙◌, arith}
+use Rattle.std.proofs.Common.{◌≡◌, ℕ, zero, suc, ◌<◌, Bool, true, false, cond, [], ◌∷◌, ◌++◌, length, get_or, slice_get, Some, None, IsSome, is_some, refl, sym, ap, ◌∙◌, arith}
 use Rattle.std.specs.Prelude.{Option, unwrap_or}
 use Rattle.std.specs.Option.{option_map}
-use Rattle.std.specs.List.{AllByRecursion, IsDistinct, list_any}
-use Rattle.std.specs.Map.{lookup, keys_of}
+use Rattle.std.specs.List.{IsDistinct, list_any}
 use Rattle.std.proofs.lemmas.List.{get_or-map, length-map, length_push, map_push, get_or_append_left}
 use Rattle.std.proofs.lemmas.List.Elements.{All-from_recursion, All-get_or}
 use Rattle.std.proofs.lemmas.Option.{slice_get-map, slice_get_within, slice_get-get_or, get_or_from_slice_get}
@@ -16,7 +15,7 @@ use Rattle.edge_lattice.specs.declared.state.State.TheVariants.{Absent}
 use Rattle.grove_edits.specs.declared.edge.Edge.{Edge}
 use Rattle.grove_edits.specs.Graph.{is_same_edge}
 use Rattle.grove_edits.proofs.Orders.{one_edge, same_edge_laws}
-use Rattle.edge_numbers.specs.Numbered.{Numbered, Entries, edges_of, states_of, edge_at, state_at, entry_at, state_in, with_state, with_entry, no_edge, HasRoom, KeepsRoom, IsNumberOfEdge}
+use Rattle.edge_numbers.specs.Numbered.{Numbered, Entries, edges_of, state_at, entry_at, state_in, with_state, with_entry, no_edge, HasRoom, KeepsRoom, IsNumberOfEdge}
 
 same_number : (m n : ℕ) → Some m ≡ Some n → m ≡ n
 same_number m n same = cc

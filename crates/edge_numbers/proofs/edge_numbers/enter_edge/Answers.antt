@@ -1,11 +1,10 @@
-use Rattle.std.proofs.Common.{◌≡◌, List, [], ◌∷◌, ◌++◌, Some, None, slice_get, sym, ap, subst, ◌∙◌}
+use Rattle.std.proofs.Common.{sym, ap, subst, ◌∙◌}
 use Rattle.std.specs.Map.{keys_of}
 use Rattle.indexmap.proofs.CallerLemmas.{insert_entry-new}
 use Rattle.edge_lattice.specs.declared.state.State.TheVariants.{Absent}
-use Rattle.edge_numbers.specs.Numbered.{with_entry}
-use Rattle.edge_numbers.specs.Narrow.{edge_of, entries_of, IsNumbered}
+use Rattle.edge_numbers.specs.Narrow.{entries_of, IsNumbered}
 use Rattle.edge_numbers.proofs.NarrowEq.{eq, itself, exact}
-use Rattle.edge_numbers.proofs.Places.{place_found, stands_last, none_from}
+use Rattle.edge_numbers.proofs.Places.{place_found, none_from}
 use Rattle.edge_numbers.proofs.Narrow.{entry_there, entry_pushed, numbered_push, last_number}
 use Rattle.edge_numbers.proofs.edge_numbers.enter_edge.Goals as goal
 

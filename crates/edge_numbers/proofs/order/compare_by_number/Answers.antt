@@ -1,7 +1,6 @@
 use Rattle.std.proofs.Common.{get_or, sym, ap, ◌∙◌}
 use Rattle.grove_edits.specs.Vertex.{vertex_cmp, root}
 use Rattle.grove_edits.proofs.Vertices.{vertex_cmp_itself}
-use Rattle.edge_numbers.proofs.Narrow.{edges_are}
 use Rattle.edge_numbers.proofs.order.compare_by_number.Goals as goal
 
 pub returns-then-a-b : goal.returns-then-a-b

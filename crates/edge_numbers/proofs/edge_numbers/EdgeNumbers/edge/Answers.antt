@@ -1,8 +1,5 @@
-use Rattle.std.proofs.Common.{◌≡◌, ◌<◌, length, get_or, sym, ap, subst, ◌∙◌}
-use Rattle.std.proofs.lemmas.List.{get_or_default}
-use Rattle.grove_edits.specs.Vertex.{root}
+use Rattle.std.proofs.Common.{sym, ap, ◌∙◌}
 use Rattle.edge_numbers.specs.Numbered.{Numbered, edge_at}
-use Rattle.edge_numbers.specs.Narrow.{edge_of}
 use Rattle.edge_numbers.proofs.Narrow.{edge_read, edge_of_ends, ends_read}
 use Rattle.edge_numbers.proofs.edge_numbers.EdgeNumbers.edge.Goals as goal
 

@@ -1,9 +1,6 @@
-use Rattle.std.proofs.Common.{◌≡◌, ◌<◌, length, sym, ap, subst, ◌∙◌}
+use Rattle.std.proofs.Common.{sym, ap, subst, ◌∙◌}
 use Rattle.std.specs.Prelude.{set}
-use Rattle.std.specs.List.{IsDistinct}
 use Rattle.indexmap.specs.IndexMap.{set_value_at}
-use Rattle.grove_edits.specs.declared.edge.Edge.{Edge}
-use Rattle.grove_edits.specs.Graph.{is_same_edge}
 use Rattle.edge_numbers.specs.Numbered.{Numbered, edges_of, states_of, edge_at, state_in, with_state, KeepsRoom, IsEdgeNumber}
 use Rattle.edge_numbers.specs.Narrow.{entries_of, numbered}
 use Rattle.edge_numbers.proofs.Narrow.{numbered_set, entries_set, edges_set, states_set}

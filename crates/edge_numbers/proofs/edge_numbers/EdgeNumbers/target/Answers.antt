@@ -1,4 +1,4 @@
-use Rattle.std.proofs.Common.{sym, subst}
+use Rattle.std.proofs.Common.{subst}
 use Rattle.edge_numbers.specs.Numbered.{Numbered, edge_at, IsNumberOfVertex}
 use Rattle.edge_numbers.proofs.Narrow.{target_read}
 use Rattle.edge_numbers.proofs.edge_numbers.EdgeNumbers.target.Goals as goal

@@ -1,4 +1,4 @@
-use Rattle.std.proofs.Common.{◌≡◌, ℕ, slice_get, Some, sym, ap, subst, ◌∙◌}
+use Rattle.std.proofs.Common.{◌≡◌, ℕ, Some, subst, ◌∙◌}
 use Rattle.std.specs.Prelude.{IfSome}
 use Rattle.edge_numbers.specs.Numbered.{Numbered, IsNumberOfVertex}
 use Rattle.edge_numbers.proofs.Vertices.{vertex_numbers, only_vertex_number}
