@@ -2,9 +2,9 @@ ghost use Rattle.std.specs.Prelude.{◌≡◌, ◌<◌};
 
 use super::*;
 use edit_text::read_line;
-use grove_edits::{Action, Actor, Answer, Bytes, Command, EditList};
+use grove_edits::{Action, Actor, Answer, Bytes, Command, EditList, Place};
 use grove_names::Name;
-use grove_sorts::Version;
+use grove_sorts::{Ctor, Position, Version};
 use mark_step::Mark;
 use shared_replica::Machine;
 use std::alloc::Global;
@@ -32,7 +32,7 @@ fn after_counting<L: Ledger>(
 {
     let mut steps = Steps::<L>::new(blank);
     for line in lines {
-        let edit = read_line(Version::One, line.as_bytes())?;
+        let edit = read_line(Version::Two, line.as_bytes())?;
         marked.apply(alloc, &edit, &mut steps)?;
     }
     Ok(marked)
@@ -122,6 +122,44 @@ fn what_an_action_leaves_is_marked(rt: HostRuntime) -> Result<(), Fail> {
     let mended = acted(rt.alloc(), opened(rt.alloc(), &SUM)?, &cut)?;
     let mark = mark_in(mended, SUM[2])?;
     assert_eq!(rt; mark, Some(Mark::None));
+    Ok(())
+}
+
+// Whether the vertex to which the edge of a line leads has the type of truth values, by its kept record.
+fn is_boolean(marked: &mut MarkedReplica, line: &str) -> Result<bool, Fail> {
+    let edge = read_line(Version::Two, line.as_bytes())?.edge();
+    let boolean = marked.types().boolean();
+    Ok(match marked.kept(&edge.target) {
+        Some(record) => record.typ == Some(boolean),
+        None => false,
+    })
+}
+
+fn has_boolean_type(mut marked: MarkedReplica, line: &str) -> Result<bool, Fail> {
+    is_boolean(&mut marked, line)
+}
+
+#[test]
+fn a_use_takes_the_type_of_what_comes_in_place(rt: HostRuntime) -> Result<(), Fail> {
+    let definition = [
+        "+1.2 0.0 root main 1.1 let",
+        "+1.4 1.1 let param 1.3 pvar:x",
+        "+1.6 1.1 let def 1.5 num:7",
+        "+1.8 1.1 let body 1.7 var:x",
+    ];
+    let literal = Action::Become {
+        place: Place {
+            name: Name {
+                author: 1,
+                counter: 1,
+            },
+            position: Position::Def,
+        },
+        ctor: Ctor::LitTrue,
+    };
+    let defined = acted(rt.alloc(), opened(rt.alloc(), &definition)?, &literal)?;
+    let boolean = has_boolean_type(defined, definition[3])?;
+    assert_eq!(rt; boolean, true);
     Ok(())
 }
 
