@@ -1,5 +1,0 @@
-pub mod Prefixes
-pub mod Numbers
-pub mod Ordered
-pub mod Positions
-pub mod CallerLemmas

@@ -1,4 +1,0 @@
-pub mod Lists
-pub mod Order
-pub mod OrderLaws
-pub mod Places
