@@ -1,5 +1,5 @@
 -- Lists of edges by position first: the edges from one position stand together, in edge order.
-use Rattle.std.proofs.Common.{◌≡◌, ℕ, suc, ◌+◌, ◌-◌, ◌≤◌, Bool, true, false, cond, ◌⊎◌, inl, inr, List, [], ◌∷◌, length, map, take, drop, refl, sym, ap, subst, ◌∙◌, arith}
+use Rattle.std.proofs.Common.{◌≡◌, ℕ, suc, ◌+◌, ◌-◌, ◌≤◌, Bool, true, false, cond, ◌⊎◌, inl, inr, List, [], ◌∷◌, map, take, drop, refl, sym, ap, ◌∙◌, arith}
 use Rattle.std.specs.Prelude.{filter, slice_range}
 use Rattle.std.specs.List.{AllByRecursion, prefix_len}
 use Rattle.std.specs.declared.cmp.Ordering.{Ordering}
@@ -90,8 +90,10 @@ module _ (edge : ℕ → Edge) (p : Position) where
   slice-position (x ∷ xs) ordered = by_order (slice-position xs ordered.1) (Stands x) refl where
     from : ℕ
     from = prefix_len (λ n. is_up_to false (Stands n)) xs
+
     to : ℕ
     to = prefix_len (λ n. is_up_to true (Stands n)) xs
+
     by_order : slice_range xs from to ≡ filter (λ n. is_eq (Stands n)) xs → (o : Ordering) → Stands x ≡ o
         → slice_range (x ∷ xs) (cond (is_up_to false o) (1 + from) 0) (cond (is_up_to true o) (1 + to) 0) ≡ cond (is_eq o) (x ∷ filter (λ n. is_eq (Stands n)) xs) (filter (λ n. is_eq (Stands n)) xs)
     by_order rest Less is =

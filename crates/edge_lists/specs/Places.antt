@@ -1,5 +1,5 @@
 -- Inner model, which no public contract cites: how many first numbers of a list are of edges that come before another.
-use Rattle.std.specs.Prelude.{ℕ, ◌≤◌, Bool, true, false, List, length}
+use Rattle.std.specs.Prelude.{ℕ, Bool, true, false, List}
 use Rattle.std.specs.List.{prefix_len}
 use Rattle.std.specs.declared.cmp.Ordering.{Ordering}
 use Rattle.std.specs.declared.cmp.Ordering.TheVariants.{Less, Equal, Greater}

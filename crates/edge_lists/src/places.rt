@@ -42,12 +42,7 @@ fn is_before(a: Position, b: Position, itself: bool) -> bool
 }
 
 /// How many first numbers of a list are of edges from positions before this one, or from this one where it counts itself.
-pub(crate) fn place_of(
-    list: &[u32],
-    position: Position,
-    itself: bool,
-    edges: &EdgeNumbers,
-) -> usize
+pub(crate) fn place_of(list: &[u32], position: Position, itself: bool, edges: &EdgeNumbers) -> usize
     requires known { AreEdgeNumbers edges.now list.now }
     requires in_order { IsInOrder position_first (map (edge_at edges.now) list.now) }
     ensures { result ≡ place_of_position itself position edges.now list.now }

@@ -1,4 +1,4 @@
-use Rattle.std.proofs.Common.{◌≡◌, ◌<◌, false, length, map, refl, sym, ap, subst, arith}
+use Rattle.std.proofs.Common.{◌<◌, length, map, sym, ap, subst, arith}
 use Rattle.walks.specs.Live.{holds_edge}
 use Rattle.edge_numbers.specs.Numbered.{edge_at}
 use Rattle.edge_lists.specs.Lists.{AreEdgeNumbers}

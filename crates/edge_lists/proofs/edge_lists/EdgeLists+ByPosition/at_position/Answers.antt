@@ -1,4 +1,4 @@
-use Rattle.std.proofs.Common.{◌≡◌, ◌-◌, ◌≤◌, rules, true, false, length, map, take, drop, sym, ap, subst, ◌∙◌, arith}
+use Rattle.std.proofs.Common.{◌-◌, ◌≤◌, rules, true, false, length, map, take, drop, sym, ap, subst, ◌∙◌, arith}
 use Rattle.grove_sorts.specs.Position.{is_same_position}
 use Rattle.walks.specs.Live.{IsInEdgeOrder}
 use Rattle.edge_numbers.specs.Numbered.{edge_at}
