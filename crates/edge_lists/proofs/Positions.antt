@@ -1,0 +1,131 @@
+-- Lists of edges by position first: the edges from one position stand together, in edge order.
+use Rattle.std.proofs.Common.{◌≡◌, ℕ, suc, ◌+◌, ◌-◌, ◌≤◌, Bool, true, false, cond, ◌⊎◌, inl, inr, List, [], ◌∷◌, length, map, take, drop, refl, sym, ap, subst, ◌∙◌, arith}
+use Rattle.std.specs.Prelude.{filter, slice_range}
+use Rattle.std.specs.List.{AllByRecursion, prefix_len}
+use Rattle.std.specs.declared.cmp.Ordering.{Ordering}
+use Rattle.std.specs.declared.cmp.Ordering.TheVariants.{Less, Equal, Greater}
+use Rattle.std.specs.Ordering.{ordering_then, is_eq}
+use Rattle.std.proofs.lemmas.Cmp.{alike_right}
+use Rattle.grove_sorts.specs.declared.position.Position.{Position}
+use Rattle.grove_sorts.specs.Position.{position_cmp}
+use Rattle.grove_sorts.proofs.Orders.{position_cmp_total, equal_from_test}
+use Rattle.grove_edits.specs.declared.edge.Edge.{Edge}
+use Rattle.grove_edits.specs.Edge.{edge_cmp}
+use Rattle.walks.specs.Live.{IsInEdgeOrder}
+use Rattle.edge_lists.specs.Lists.{with_position}
+use Rattle.edge_lists.specs.Order.{IsInOrder, position_first}
+use Rattle.edge_lists.specs.Places.{is_up_to}
+use Rattle.edge_lists.proofs.Prefixes.{Falls, prefix_len-none, all_fail}
+use Rattle.edge_lists.proofs.Numbers.{one_more}
+
+pub map-filter : (edge : ℕ → Edge) (test : Edge → Bool) (xs : List ℕ) → map edge (filter (λ n. test (edge n)) xs) ≡ filter test (map edge xs)
+map-filter edge test [] = refl
+map-filter edge test (x ∷ xs) =
+    elim (test (edge x)) as (λ b. map edge (cond b (x ∷ filter (λ n. test (edge n)) xs) (filter (λ n. test (edge n)) xs)) ≡ cond b (edge x ∷ filter test (map edge xs)) (filter test (map edge xs))) [
+      | true ↦ ap (λ zs. edge x ∷ zs) (map-filter edge test xs)
+      | false ↦ map-filter edge test xs
+    ]
+
+-- ---- up to a position
+
+not_after : (a b : Edge) → position_first a b ≡ Less → (position_cmp a.position b.position ≡ Less) ⊎ (position_cmp a.position b.position ≡ Equal)
+not_after a b lt = by_order (position_cmp a.position b.position) refl where
+  by_order : (o : Ordering) → position_cmp a.position b.position ≡ o → (o ≡ Less) ⊎ (o ≡ Equal)
+  by_order Less is = inl refl
+  by_order Equal is = inr refl
+  by_order Greater is =
+      let greater : position_first a b ≡ Greater = ap (λ o. ordering_then o (edge_cmp a b)) is in
+      absurd cc
+
+-- where a position is counted, so is one that is not after it
+up_to_earlier : (itself : Bool) (a b p : Position) → (position_cmp a b ≡ Less) ⊎ (position_cmp a b ≡ Equal) → is_up_to itself (position_cmp b p) ≡ true → is_up_to itself (position_cmp a p) ≡ true
+up_to_earlier itself a b p (inr same) counted = ap (is_up_to itself) (position_cmp_total.congr a b p same) ∙ counted
+up_to_earlier itself a b p (inl before) counted = by_order (position_cmp b p) refl counted where
+  by_order : (o : Ordering) → position_cmp b p ≡ o → is_up_to itself o ≡ true → is_up_to itself (position_cmp a p) ≡ true
+  by_order Less is _ = ap (is_up_to itself) (position_cmp_total.trans a b p before is)
+  by_order Equal is _ = ap (is_up_to itself) (sym (alike_right position_cmp_total b p a is) ∙ before)
+  by_order Greater is fails = absurd cc
+
+module _ (edge : ℕ → Edge) (p : Position) where
+  -- how the position of the edge with a number stands to this
+  abbrev Stands : ℕ → Ordering
+  Stands n = position_cmp (edge n).position p
+
+  earlier_too : (itself : Bool) (x : ℕ) (xs : List ℕ) → AllByRecursion (λ later. position_first (edge x) later ≡ Less) (map edge xs)
+      → AllByRecursion (λ later. is_up_to itself (Stands later) ≡ true → is_up_to itself (Stands x) ≡ true) xs
+  earlier_too itself x [] all = tt
+  earlier_too itself x (y ∷ ys) all =
+      (up_to_earlier itself (edge x).position (edge y).position p (not_after (edge x) (edge y) all.0), earlier_too itself x ys all.1)
+
+  pub falls-position : (itself : Bool) (xs : List ℕ) → IsInOrder position_first (map edge xs) → Falls (λ n. is_up_to itself (position_cmp (edge n).position p)) xs
+  falls-position itself [] ordered = tt
+  falls-position itself (x ∷ xs) ordered = (earlier_too itself x xs ordered.0, falls-position itself xs ordered.1)
+
+  -- ---- the part of a list with a position
+
+  pub prefix_lens : (xs : List ℕ) → prefix_len (λ n. is_up_to false (position_cmp (edge n).position p)) xs ≤ prefix_len (λ n. is_up_to true (position_cmp (edge n).position p)) xs
+  prefix_lens [] = omega arith
+  prefix_lens (x ∷ xs) =
+      elim (Stands x) as (λ o. cond (is_up_to false o) (1 + prefix_len (λ n. is_up_to false (Stands n)) xs) 0 ≤ cond (is_up_to true o) (1 + prefix_len (λ n. is_up_to true (Stands n)) xs) 0) [
+        | Less ↦ let rest = prefix_lens xs in omega (arith, rest)
+        | Equal ↦ omega arith
+        | Greater ↦ omega arith
+      ]
+
+  not_there : (o : Ordering) → is_up_to true o ≡ false → is_eq o ≡ false
+  not_there Less fails = absurd cc
+  not_there Equal fails = absurd cc
+  not_there Greater fails = refl
+
+  filter-none : (xs : List ℕ) → AllByRecursion (λ n. is_up_to true (Stands n) ≡ false) xs → filter (λ n. is_eq (Stands n)) xs ≡ []
+  filter-none [] all = refl
+  filter-none (x ∷ xs) all = ap (λ b. cond b (x ∷ filter (λ n. is_eq (Stands n)) xs) (filter (λ n. is_eq (Stands n)) xs)) (not_there (Stands x) all.0) ∙ filter-none xs all.1
+
+  pub slice-position : (xs : List ℕ) → IsInOrder position_first (map edge xs)
+      → slice_range xs (prefix_len (λ n. is_up_to false (position_cmp (edge n).position p)) xs) (prefix_len (λ n. is_up_to true (position_cmp (edge n).position p)) xs) ≡ filter (λ n. is_eq (position_cmp (edge n).position p)) xs
+  slice-position [] ordered = refl
+  slice-position (x ∷ xs) ordered = by_order (slice-position xs ordered.1) (Stands x) refl where
+    from : ℕ
+    from = prefix_len (λ n. is_up_to false (Stands n)) xs
+    to : ℕ
+    to = prefix_len (λ n. is_up_to true (Stands n)) xs
+    by_order : slice_range xs from to ≡ filter (λ n. is_eq (Stands n)) xs → (o : Ordering) → Stands x ≡ o
+        → slice_range (x ∷ xs) (cond (is_up_to false o) (1 + from) 0) (cond (is_up_to true o) (1 + to) 0) ≡ cond (is_eq o) (x ∷ filter (λ n. is_eq (Stands n)) xs) (filter (λ n. is_eq (Stands n)) xs)
+    by_order rest Less is =
+        let less : (1 + to) - (1 + from) ≡ to - from = omega arith in
+        ap (λ k. take k (drop (1 + from) (x ∷ xs))) less ∙ ap (λ k. take (to - from) (drop k (x ∷ xs))) (one_more from) ∙ rest
+    by_order rest Equal is =
+        let none : from ≡ 0 = prefix_len-none (λ n. is_up_to false (Stands n)) xs (all_fail (λ n. is_up_to false (Stands n)) x xs (earlier_too false x xs ordered.0) (ap (is_up_to false) is)) in
+        let all : (1 + to) - 0 ≡ suc (to - 0) = omega arith in
+        ap (λ k. take k (x ∷ xs)) all ∙ ap (λ zs. x ∷ zs) (sym (ap (λ k. slice_range xs k to) none) ∙ rest)
+    by_order rest Greater is = sym (filter-none xs (all_fail (λ n. is_up_to true (Stands n)) x xs (earlier_too true x xs ordered.0) (ap (is_up_to true) is)))
+
+-- ---- in edge order
+
+then_second : (o q : Ordering) → is_eq o ≡ true → ordering_then o q ≡ q
+then_second Less q is = absurd cc
+then_second Equal q is = refl
+then_second Greater q is = absurd cc
+
+module _ (p : Position) where
+  abbrev There : Edge → Bool
+  There e = is_eq (position_cmp e.position p)
+
+  one_position : (a b : Edge) → There a ≡ true → There b ≡ true → is_eq (position_cmp a.position b.position) ≡ true
+  one_position a b a_there b_there = ap is_eq (alike_right position_cmp_total b.position p a.position (equal_from_test (position_cmp b.position p) b_there)) ∙ a_there
+
+  all_after : (e : Edge) (es : List Edge) → There e ≡ true → AllByRecursion (λ later. position_first e later ≡ Less) es → AllByRecursion (λ later. edge_cmp e later ≡ Less) (filter There es)
+  all_after e [] there all = tt
+  all_after e (x ∷ xs) there all =
+      elim (There x) as (λ b. There x ≡ b → AllByRecursion (λ later. edge_cmp e later ≡ Less) (cond b (x ∷ filter There xs) (filter There xs))) [
+        | true ↦ λ x_there. (sym (then_second (position_cmp e.position x.position) (edge_cmp e x) (one_position e x there x_there)) ∙ all.0, all_after e xs there all.1)
+        | false ↦ λ _. all_after e xs there all.1
+      ] refl
+
+  pub in_order-with_position : (es : List Edge) → IsInOrder position_first es → IsInEdgeOrder (with_position p es)
+  in_order-with_position [] ordered = tt
+  in_order-with_position (e ∷ es) ordered =
+      elim (There e) as (λ b. There e ≡ b → IsInEdgeOrder (cond b (e ∷ filter There es) (filter There es))) [
+        | true ↦ λ there. (all_after e es there ordered.0, in_order-with_position es ordered.1)
+        | false ↦ λ _. in_order-with_position es ordered.1
+      ] refl

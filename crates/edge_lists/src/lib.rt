@@ -1,0 +1,16 @@
+//! Lists of edges by number, one for each vertex by its number, each in an order: edges alone, or by position first. Its model is the
+//! list of the numbers at each vertex, and how many places each list has. It is for the children and the parents of a live graph.
+#![tactic(auto)]
+
+mod edge_lists;
+mod list_order;
+mod listed;
+mod no_memory;
+mod places;
+
+pub use edge_lists::EdgeLists;
+pub use list_order::{ByEdge, ByPosition, ListOrder};
+pub use no_memory::NoMemory;
+
+#[cfg(test)]
+mod tests;
