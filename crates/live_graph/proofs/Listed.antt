@@ -6,19 +6,22 @@ use Rattle.std.specs.declared.cmp.Ordering.{Ordering}
 use Rattle.std.proofs.lemmas.Bool.{eqb-true}
 use Rattle.std.proofs.lemmas.List.{length-append, length_push, get_or_append_left}
 use Rattle.std.proofs.lemmas.Option.{slice_get-get_or}
+use Rattle.edge_lattice.specs.declared.state.State.{State}
 use Rattle.edge_lattice.specs.declared.state.State.TheVariants.{Absent}
 use Rattle.grove_edits.specs.declared.vertex.Vertex.{Vertex}
 use Rattle.grove_edits.specs.declared.edge.Edge.{Edge}
 use Rattle.grove_edits.specs.Vertex.{is_same_vertex, stands_in, root}
 use Rattle.grove_edits.specs.Edge.{edge_cmp}
 use Rattle.grove_edits.specs.Graph.{is_same_edge}
-use Rattle.edge_numbers.specs.Numbered.{Numbered, Entries, edges_of, state_in, with_entry, BeginsWith, HasEndsIn, IsNumberOfVertex, KeepsNumbers}
+use Rattle.edge_numbers.specs.Numbered.{Numbered, Entries, edges_of, state_in, state_at, with_entry, IsEdgeNumber, BeginsWith, HasEndsIn, IsNumberOfVertex, KeepsNumbers}
 use Rattle.edge_numbers.proofs.Vertices.{numbered_stands}
 use Rattle.edge_lists.specs.Lists.{Listed, numbers_at, places_at}
 use Rattle.edge_lists.specs.Order.{position_first}
-use Rattle.live_graph.specs.Around.{once, is_at, idle, AreAround, HasPlace, KeepsLists, IsListed, source_of, target_of}
-use Rattle.live_graph.proofs.Numbers.{is_at-number}
+use Rattle.live_graph.specs.Around.{once, is_at, idle, AreAround, HasPlace, KeepsLists, IsListed, IsStateSet, source_of, target_of}
+use Rattle.live_graph.proofs.Numbers.{is_at-number, kept_fits}
+use Rattle.live_graph.specs.Live.{is_live}
 use Rattle.live_graph.proofs.Around.{around-places, around-vertices, place-vertices, around-push}
+use Rattle.live_graph.proofs.Changes.{around-kept}
 
 pub on_ok_always : {T E P : Type 0} (r : Result T E) → P → OnOk r P
 on_ok_always (Ok x) p = p
@@ -109,3 +112,19 @@ listed-entered edges after children parents e is fits has from to ends begins en
         sources = around-push source_of position_first grown after children e refl more keeps states (place-vertices source_of position_first from_source edges grown refl begins ends children e has from) before.sources;
         targets = around-push target_of edge_cmp grown after parents e refl more keeps states (place-vertices target_of edge_cmp from_target edges grown refl begins ends parents e has to) before.targets;
       }
+
+-- ---- a state that is as live
+
+pub listed-kept : (edges : Numbered) (n : ℕ) (state : State) (after : Numbered) (children parents : List Listed) → IsDistinct is_same_edge (edges_of edges.entries) → IsEdgeNumber edges n
+    → IsStateSet edges n state after → is_live state ≡ is_live (state_at edges n) → IsListed edges children parents → IsListed after children parents
+listed-kept edges n state after children parents once_edges number set same is = record {
+  fits = kept_fits edges after set.kept_edges is.fits;
+  sources = around-kept source_of position_first edges n once_edges number children is.sources state after set same;
+  targets = around-kept target_of edge_cmp edges n once_edges number parents is.targets state after set same;
+}
+
+pub listed-twice : (first second third : Numbered) (children parents : List Listed) → second.entries ≡ first.entries → BeginsWith second.vertices first.vertices
+    → third.entries ≡ second.entries → BeginsWith third.vertices second.vertices → AllByRecursion (HasEndsIn first.vertices) (edges_of first.entries)
+    → IsListed first children parents → IsListed third children parents
+listed-twice first second third children parents same begins again further ends is =
+    listed-vertices first third children parents (again ∙ same) (begins_twice first.vertices second.vertices third.vertices begins further) ends is

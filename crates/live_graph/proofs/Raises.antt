@@ -51,3 +51,14 @@ not_raised g edit below e = by_test (is_same_edge (edit_edge edit) e) refl where
   by_test true same =
       sym (join_below (g e) (state_of (edit_kind edit)) (subst (λ x. rank (state_of (edit_kind edit)) ≤ rank (g x)) (one_edge (edit_edge edit) e same) below))
   by_test false _ = sym (join_none (g e))
+
+pub above_from_not : (s t : State) → (rank t ≤ rank s → ⊥) → rank s < rank t
+above_from_not Absent Absent not_below = absurd (not_below (omega arith))
+above_from_not Absent Live not_below = omega arith
+above_from_not Absent Deleted not_below = omega arith
+above_from_not Live Absent not_below = absurd (not_below (omega arith))
+above_from_not Live Live not_below = absurd (not_below (omega arith))
+above_from_not Live Deleted not_below = omega arith
+above_from_not Deleted Absent not_below = absurd (not_below (omega arith))
+above_from_not Deleted Live not_below = absurd (not_below (omega arith))
+above_from_not Deleted Deleted not_below = absurd (not_below (omega arith))
