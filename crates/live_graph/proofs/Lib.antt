@@ -6,3 +6,4 @@ pub mod Changes
 pub mod Listed
 pub mod Entered
 pub mod Raises
+pub mod Children

@@ -3,12 +3,15 @@
 #![tactic(auto)]
 
 mod change;
+mod edges;
 mod live_graph;
 mod live_lists;
+mod neighbours;
 mod no_memory;
 mod places;
 
 pub use change::Change;
+pub use edges::Edges;
 pub use live_graph::LiveGraph;
 pub use no_memory::NoMemory;
 

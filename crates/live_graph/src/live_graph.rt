@@ -1,21 +1,26 @@
-ghost use Rattle.std.specs.Prelude.{◌≡◌, [], ◌∷◌, OnOk, IfOk};
-ghost use Rattle.edge_lattice.specs.State.{state_join};
+ghost use Rattle.std.specs.Prelude.{◌≡◌, ◌+◌, [], ◌∷◌, length, OnOk};
 ghost use Rattle.grove_edits.specs.Edit.{edit_edge, edit_kind};
 ghost use Rattle.grove_edits.specs.Graph.{IsSame, graph, graph_join, state_of};
+ghost use Rattle.walks.specs.Live.{IsInEdgeOrder, children_of};
 ghost use Rattle.edge_numbers.specs.Numbered.{state_in, with_state, HasRoom, KeepsRoom};
 ghost use Rattle.live_graph.specs.Change.{IsChange};
 ghost use Rattle.live_graph.specs.Live.{live};
 
 use crate::change::Change;
+use crate::edges::Edges;
 use crate::live_lists::{enter, set_state};
+use crate::neighbours::children_at;
 use crate::no_memory::NoMemory;
 use edge_lattice::{State, join, leq};
 use edge_lists::{ByEdge, ByPosition, EdgeLists};
 use edge_numbers::EdgeNumbers;
-use grove_edits::{Edge, Edit, EditKind};
+use grove_edits::{Edge, Edit, EditKind, Vertex};
+use grove_sorts::Position;
 use seeded_hash::HashSeed;
 use std::alloc::Global;
 use std::marker::Model;
+use std::sync::ledger::Ledger;
+use walks::Steps;
 
 /// A live graph: the state of each edge, with the live edges around each vertex. Contracts see its entries, of which those with the state
 /// Absent are room.
@@ -114,6 +119,28 @@ impl LiveGraph {
         }
         self.put_back(edge, asked);
         Change::Raised { old }
+    }
+
+    /// The live edges from a position of a vertex, in edge order. It ticks once for the call, and once for each edge.
+    pub fn children<L: Ledger>(
+        &self,
+        vertex: &Vertex,
+        position: Position,
+        steps: &mut Steps<L>,
+    ) -> Edges<'_>
+        ensures children { result ≡ children_of vertex.now position (live self.now) }
+        ensures in_order { IsInEdgeOrder (live self.now) }
+        ensures ticks { steps.new ≡ steps.old + 1 + length result }
+    {
+        let numbers = children_at(&self.edges, &self.children, vertex, position);
+        steps.tick();
+        for _child in numbers {
+            steps.tick();
+        }
+        Edges {
+            edges: &self.edges,
+            numbers,
+        }
     }
 }
 
