@@ -1,5 +1,5 @@
 -- How the lists around the vertices go on where vertices, edges and places are added.
-use Rattle.std.proofs.Common.{◌≡◌, ℕ, ◌+◌, ◌<◌, ◌≤◌, Bool, true, false, List, [], ◌∷◌, ◌++◌, Some, length, get_or, map, cond, refl, sym, ap, subst, ◌∙◌, arith}
+use Rattle.std.proofs.Common.{◌≡◌, ℕ, ◌+◌, ◌<◌, Bool, true, false, List, [], ◌∷◌, ◌++◌, Some, length, get_or, map, cond, refl, sym, ap, subst, ◌∙◌, arith}
 use Rattle.std.specs.Prelude.{◌&&◌, not, unwrap_or}
 use Rattle.std.specs.Map.{lookup}
 use Rattle.std.specs.List.{AllByRecursion}
@@ -13,7 +13,7 @@ use Rattle.grove_edits.specs.Graph.{is_same_edge}
 use Rattle.grove_edits.proofs.Orders.{one_edge}
 use Rattle.walks.specs.Live.{holds_edge}
 use Rattle.edge_numbers.specs.Numbered.{Numbered, Entries, edges_of, edge_at, no_edge, state_in, BeginsWith, HasEndsIn, KeepsNumbers}
-use Rattle.edge_lists.specs.Lists.{Listed, numbers_at, places_at, AreEdgeNumbers}
+use Rattle.edge_lists.specs.Lists.{Listed, numbers_at, AreEdgeNumbers}
 use Rattle.edge_lists.specs.Order.{IsInOrder}
 use Rattle.live_graph.specs.Live.{is_live}
 use Rattle.live_graph.specs.Around.{once, is_at, total, idle, idle_weight, AreAround, HasPlace, KeepsLists}
@@ -95,6 +95,6 @@ module _ (end : Edge → Vertex) (order : Edge → Edge → Ordering) where
     held = λ n x. ap (holds_edge x) (edges_stay edges after (numbers_at lists n) keeps (around.known n)) ∙ around.held n x ∙ (λ j. is_at (sym vertices j) (end x) n && is_live (sym (states x) j));
     places = λ n.
         let more : idle after end n ≡ idle edges end n + once (is_at edges.vertices (end e) n) =
-          (λ j. total (idle_weight (vertices j) end n) (entries j)) ∙ total-push (idle_weight edges.vertices end n) edges.entries e Absent in
+        (λ j. total (idle_weight (vertices j) end n) (entries j)) ∙ total-push (idle_weight edges.vertices end n) edges.entries e Absent in
         omega (arith, more, place n);
   }

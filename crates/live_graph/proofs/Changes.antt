@@ -1,12 +1,11 @@
 -- How the lists around the vertices go on where one edge gets another state.
-use Rattle.std.proofs.Common.{◌≡◌, ℕ, ◌+◌, ◌<◌, ◌≤◌, Bool, true, false, List, [], ◌∷◌, Some, length, get_or, map, cond, refl, sym, ap, subst, ◌∙◌, arith}
+use Rattle.std.proofs.Common.{◌≡◌, ℕ, ◌+◌, ◌≤◌, Bool, true, false, List, [], ◌∷◌, Some, length, map, cond, refl, sym, ap, subst, ◌∙◌, arith}
 use Rattle.std.specs.Prelude.{◌&&◌, ◌||◌, ◌==◌, not}
 use Rattle.std.specs.List.{IsDistinct}
 use Rattle.std.specs.declared.cmp.Ordering.{Ordering}
 use Rattle.std.specs.declared.cmp.Ordering.TheVariants.{Less, Equal, Greater}
 use Rattle.std.proofs.lemmas.Bool.{eqb-true, eqb-false, eq-eqb}
 use Rattle.edge_lattice.specs.declared.state.State.{State}
-use Rattle.edge_lattice.specs.declared.state.State.TheVariants.{Absent}
 use Rattle.grove_sorts.proofs.Truths.{or_swap}
 use Rattle.grove_edits.specs.declared.vertex.Vertex.{Vertex}
 use Rattle.grove_edits.specs.declared.edge.Edge.{Edge}
@@ -16,7 +15,7 @@ use Rattle.grove_edits.proofs.Orders.{one_edge, same_edge_laws}
 use Rattle.walks.specs.Live.{holds_edge}
 use Rattle.edge_index.specs.Ordered.{put_before, without_edge}
 use Rattle.edge_index.proofs.Ordered.{holds-filter}
-use Rattle.edge_numbers.specs.Numbered.{Numbered, Entries, edges_of, edge_at, state_at, state_in, with_state, IsEdgeNumber, IsNumberOfEdge, IsNumberOfVertex}
+use Rattle.edge_numbers.specs.Numbered.{Numbered, edges_of, edge_at, state_at, state_in, with_state, IsEdgeNumber, IsNumberOfVertex}
 use Rattle.edge_numbers.proofs.States.{state_numbered}
 use Rattle.edge_lists.specs.Lists.{Listed, listed_at, numbers_at, places_at, edges_at, holds_number, without_number, AreEdgeNumbers, HasVertex, HasFreePlace, KeepsOthers}
 use Rattle.edge_lists.specs.Order.{IsInOrder, with_edge_by, by_edge, with_number}
@@ -188,7 +187,7 @@ module _ (end : Edge → Vertex) (order : Edge → Edge → Ordering) (edges : N
                   let old : counts m (state_at edges n) ≡ 1 = counts_dead m (state_at edges n) not_live ∙ ap once here in
                   let new : counts m state ≡ 0 = counts_live m state lives in
                   let count : length (numbers_at lists m) ≡ length (numbers_at before m) + 1 =
-                    ap (λ x. length (numbers_at lists x)) (sym at) ∙ ap length put_numbers ∙ length-with_number (by_edge order edges) n (numbers_at before k) ∙ ap (λ x. length (numbers_at before x) + 1) at in
+                  ap (λ x. length (numbers_at lists x)) (sym at) ∙ ap length put_numbers ∙ length-with_number (by_edge order edges) n (numbers_at before k) ∙ ap (λ x. length (numbers_at before x) + 1) at in
                   let room : places_at lists m ≡ places_at before m = ap (places_at lists) (sym at) ∙ same_places ∙ ap (places_at before) at in
                   omega (arith, change, old, new, count, room, around.places m)
               by_test false apart =

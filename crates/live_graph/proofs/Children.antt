@@ -1,9 +1,8 @@
 -- The live edges at a vertex by its list.
-use Rattle.std.proofs.Common.{◌≡◌, ℕ, zero, suc, ◌+◌, ◌<◌, ◌≤◌, Bool, true, false, cond, List, [], ◌∷◌, Some, None, length, get_or, map, refl, sym, ap, subst, ◌∙◌, arith}
-use Rattle.std.specs.Prelude.{Option, ◌&&◌, ◌||◌, ◌==◌, not, filter}
+use Rattle.std.proofs.Common.{◌≡◌, ℕ, zero, suc, ◌<◌, Bool, true, false, cond, List, [], ◌∷◌, length, get_or, refl, sym, ap, subst, ◌∙◌, arith}
+use Rattle.std.specs.Prelude.{◌&&◌, ◌||◌, ◌==◌, not, filter}
 use Rattle.std.specs.List.{AllByRecursion, IsDistinct}
 use Rattle.std.proofs.lemmas.Bool.{eq-eqb}
-use Rattle.std.proofs.lemmas.Option.{slice_get-get_or}
 use Rattle.grove_sorts.specs.declared.position.Position.{Position}
 use Rattle.grove_sorts.specs.Position.{is_same_position}
 use Rattle.grove_edits.specs.declared.vertex.Vertex.{Vertex}
@@ -16,7 +15,7 @@ use Rattle.grove_edits.proofs.Vertices.{same_vertex_exact, same_vertex_itself}
 use Rattle.walks.specs.Live.{IsInEdgeOrder, holds_edge, children_of, parents_of}
 use Rattle.edge_index.proofs.Ordered.{holds-filter, in_order-filter, same_lists}
 use Rattle.edge_numbers.specs.Numbered.{Numbered, edges_of, edge_at, state_in, HasEndsIn, IsNumberOfVertex}
-use Rattle.edge_lists.specs.Lists.{Listed, listed_at, numbers_at, edges_at, with_position, numbers_with_position, holds_number, AreEdgeNumbers}
+use Rattle.edge_lists.specs.Lists.{Listed, numbers_at, edges_at, with_position, numbers_with_position, holds_number, AreEdgeNumbers}
 use Rattle.edge_lists.specs.Order.{IsInOrder, position_first}
 use Rattle.live_graph.specs.Live.{is_live, live}
 use Rattle.live_graph.specs.Around.{is_at, AreAround, source_of, target_of}
@@ -81,18 +80,18 @@ module _ (edges : Numbered) (v : Vertex) (once_edges : IsDistinct is_same_edge (
         same_lists (with_position p (edges_at edges lists n)) (children_of v p (live edges.entries)) ordered
         (in_order-filter (λ e. is_same_vertex e.source v && is_same_position e.position p) (live edges.entries) (in_order-live edges.entries))
         (λ e.
-          holds-filter (λ x. is_same_position x.position p) e (edges_at edges lists n) ∙ ap (λ b. is_same_position e.position p && b) (around.held n e)
-          ∙ and_swap (is_same_position e.position p) (is_at edges.vertices e.source n) (is_live (state_in edges.entries e))
-          ∙ (λ j. (is_at-same edges v e.source n once_vertices number j && is_same_position e.position p) && sym (holds-live edges.entries e once_edges) j)
-          ∙ sym (holds-filter (λ x. is_same_vertex x.source v && is_same_position x.position p) e (live edges.entries)))
+        holds-filter (λ x. is_same_position x.position p) e (edges_at edges lists n) ∙ ap (λ b. is_same_position e.position p && b) (around.held n e)
+        ∙ and_swap (is_same_position e.position p) (is_at edges.vertices e.source n) (is_live (state_in edges.entries e))
+        ∙ (λ j. (is_at-same edges v e.source n once_vertices number j && is_same_position e.position p) && sym (holds-live edges.entries e once_edges) j)
+        ∙ sym (holds-filter (λ x. is_same_vertex x.source v && is_same_position x.position p) e (live edges.entries)))
 
     pub parents_listed : AreAround target_of edge_cmp edges lists → edges_at edges lists n ≡ parents_of v (live edges.entries)
     parents_listed around =
         same_lists (edges_at edges lists n) (parents_of v (live edges.entries)) (in_edge_order (edges_at edges lists n) (around.in_order n))
         (in_order-filter (λ e. is_same_vertex e.target v) (live edges.entries) (in_order-live edges.entries))
         (λ e.
-          around.held n e ∙ (λ j. is_at-same edges v e.target n once_vertices number j && sym (holds-live edges.entries e once_edges) j)
-          ∙ sym (holds-filter (λ x. is_same_vertex x.target v) e (live edges.entries)))
+        around.held n e ∙ (λ j. is_at-same edges v e.target n once_vertices number j && sym (holds-live edges.entries e once_edges) j)
+        ∙ sym (holds-filter (λ x. is_same_vertex x.target v) e (live edges.entries)))
       where
         in_edge_order : (es : List Edge) → IsInOrder edge_cmp es → IsInEdgeOrder es
         in_edge_order [] o = tt

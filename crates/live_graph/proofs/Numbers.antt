@@ -1,14 +1,13 @@
 -- The numbers of vertices and of edges among those that a graph has.
-use Rattle.std.proofs.Common.{◌≡◌, ℕ, zero, suc, ◌+◌, ◌<◌, ◌≤◌, Bool, true, false, cond, List, [], ◌∷◌, ◌++◌, length, get_or, map, Some, is_some, refl, sym, ap, subst, ◌∙◌, arith}
+use Rattle.std.proofs.Common.{◌≡◌, ℕ, zero, suc, ◌+◌, ◌<◌, ◌≤◌, Bool, true, false, cond, List, [], ◌∷◌, ◌++◌, length, get_or, map, Some, is_some, refl, sym, ap, ◌∙◌, arith}
 use Rattle.std.specs.Prelude.{◌&&◌, ◌||◌, ◌==◌, not}
 use Rattle.std.specs.declared.cmp.Ordering.{Ordering}
 use Rattle.std.specs.Ordering.{is_lt}
-use Rattle.std.specs.List.{AllByRecursion, IsDistinct}
+use Rattle.std.specs.List.{IsDistinct}
 use lib.Dec.{eqb-suc-suc, eqb-suc-zero, eqb-zero-suc}
 use Rattle.std.proofs.lemmas.Bool.{eq-eqb}
 use Rattle.std.proofs.lemmas.List.{length-map}
 use Rattle.std.proofs.lemmas.List.Elements.{All-from_recursion, All-get_or}
-use Rattle.edge_lattice.specs.declared.state.State.{State}
 use Rattle.grove_edits.specs.declared.vertex.Vertex.{Vertex}
 use Rattle.grove_edits.specs.declared.edge.Edge.{Edge}
 use Rattle.grove_edits.specs.Vertex.{is_same_vertex, stands_in, root}
@@ -16,7 +15,7 @@ use Rattle.grove_edits.specs.Graph.{is_same_edge}
 use Rattle.grove_edits.proofs.Orders.{one_edge, same_edge_laws}
 use Rattle.grove_edits.proofs.Vertices.{same_vertex_itself}
 use Rattle.walks.specs.Live.{holds_edge}
-use Rattle.edge_numbers.specs.Numbered.{Numbered, Entries, edges_of, edge_at, no_edge, entry_at, HasRoom, IsEdgeNumber, IsNumberOfVertex, KeepsNumbers}
+use Rattle.edge_numbers.specs.Numbered.{Numbered, Entries, edges_of, edge_at, no_edge, entry_at, HasRoom, IsEdgeNumber, KeepsNumbers}
 use Rattle.edge_lists.specs.Lists.{Listed, holds_number, without_number, AreEdgeNumbers, places_at, listed_at, nothing_listed, HasVertex}
 use Rattle.edge_lists.specs.Order.{with_number}
 use Rattle.live_graph.specs.Around.{is_at}
@@ -32,7 +31,7 @@ is_at-number (w ∷ ws) v zero (suc n) once within at = ap (λ b. not b && is_at
 is_at-number (w ∷ ws) v (suc k) n once within at =
     let inner : k < length ws = omega (arith, within) in
     let differs : is_same_vertex w v ≡ false =
-      ap (is_same_vertex w) (sym at) ∙ All-get_or (λ x. is_same_vertex w x ≡ false) ws k root inner (All-from_recursion (λ x. is_same_vertex w x ≡ false) ws once.0) in
+    ap (is_same_vertex w) (sym at) ∙ All-get_or (λ x. is_same_vertex w x ≡ false) ws k root inner (All-from_recursion (λ x. is_same_vertex w x ≡ false) ws once.0) in
     by_number n differs (λ m. is_at-number ws v k m once.1 inner at)
   where
     by_number : (n : ℕ) → is_same_vertex w v ≡ false → ((m : ℕ) → is_at ws v m ≡ (k == m)) → is_at (w ∷ ws) v n ≡ (suc k == n)
@@ -57,12 +56,12 @@ one_number [] i j once first second same = absurd (omega (arith, first))
 one_number (e ∷ es) zero zero once first second same = refl
 one_number (e ∷ es) zero (suc j) once first second same =
     let apart : is_same_edge e (get_or es j no_edge) ≡ false =
-      All-get_or (λ x. is_same_edge e x ≡ false) es j no_edge (omega (arith, second)) (All-from_recursion (λ x. is_same_edge e x ≡ false) es once.0) in
+    All-get_or (λ x. is_same_edge e x ≡ false) es j no_edge (omega (arith, second)) (All-from_recursion (λ x. is_same_edge e x ≡ false) es once.0) in
     let itself : is_same_edge e (get_or es j no_edge) ≡ true = ap (is_same_edge e) (sym same) ∙ same_edge_laws.refl e in
     absurd cc
 one_number (e ∷ es) (suc i) zero once first second same =
     let apart : is_same_edge e (get_or es i no_edge) ≡ false =
-      All-get_or (λ x. is_same_edge e x ≡ false) es i no_edge (omega (arith, first)) (All-from_recursion (λ x. is_same_edge e x ≡ false) es once.0) in
+    All-get_or (λ x. is_same_edge e x ≡ false) es i no_edge (omega (arith, first)) (All-from_recursion (λ x. is_same_edge e x ≡ false) es once.0) in
     let itself : is_same_edge e (get_or es i no_edge) ≡ true = ap (is_same_edge e) same ∙ same_edge_laws.refl e in
     absurd cc
 one_number (e ∷ es) (suc i) (suc j) once first second same = ap suc (one_number es i j once.1 (omega (arith, first)) (omega (arith, second)) same)

@@ -1,4 +1,4 @@
-//! A live graph: the state of each edge, with the live edges from each vertex and to it. Each vertex and each edge stands in it once, and
+//! A live graph: the state of each edge, with the live edges from each vertex and those to it. Each vertex and each edge stands in it once, and
 //! else by its number. Its model is the list of its edges, each with its state, in the order of their numbers.
 #![tactic(auto)]
 

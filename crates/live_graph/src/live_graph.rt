@@ -1,7 +1,7 @@
 ghost use Rattle.std.specs.Prelude.{◌≡◌, ◌+◌, [], ◌∷◌, length, OnOk};
 ghost use Rattle.grove_edits.specs.Edit.{edit_edge, edit_kind};
 ghost use Rattle.grove_edits.specs.Graph.{IsSame, graph, graph_join, state_of};
-ghost use Rattle.walks.specs.Live.{IsInEdgeOrder, children_of};
+ghost use Rattle.walks.specs.Live.{IsInEdgeOrder, children_of, parents_of};
 ghost use Rattle.edge_numbers.specs.Numbered.{state_in, with_state, HasRoom, KeepsRoom};
 ghost use Rattle.live_graph.specs.Change.{IsChange};
 ghost use Rattle.live_graph.specs.Live.{live};
@@ -9,7 +9,7 @@ ghost use Rattle.live_graph.specs.Live.{live};
 use crate::change::Change;
 use crate::edges::Edges;
 use crate::live_lists::{enter, set_state};
-use crate::neighbours::children_at;
+use crate::neighbours::{children_at, parents_at};
 use crate::no_memory::NoMemory;
 use edge_lattice::{State, join, leq};
 use edge_lists::{ByEdge, ByPosition, EdgeLists};
@@ -135,6 +135,23 @@ impl LiveGraph {
         let numbers = children_at(&self.edges, &self.children, vertex, position);
         steps.tick();
         for _child in numbers {
+            steps.tick();
+        }
+        Edges {
+            edges: &self.edges,
+            numbers,
+        }
+    }
+
+    /// The live parent edges of a vertex, in edge order. It ticks once for the call, and once for each edge.
+    pub fn parents<L: Ledger>(&self, vertex: &Vertex, steps: &mut Steps<L>) -> Edges<'_>
+        ensures parents { result ≡ parents_of vertex.now (live self.now) }
+        ensures in_order { IsInEdgeOrder (live self.now) }
+        ensures ticks { steps.new ≡ steps.old + 1 + length result }
+    {
+        let numbers = parents_at(&self.edges, &self.parents, vertex);
+        steps.tick();
+        for _parent in numbers {
             steps.tick();
         }
         Edges {

@@ -1,4 +1,4 @@
-use Rattle.std.proofs.Common.{◌≡◌, ◌<◌, ◌^◌, length, sym, ap, subst, ◌∙◌}
+use Rattle.std.proofs.Common.{◌<◌, ◌^◌, length, sym, ap, subst, ◌∙◌}
 use Rattle.edge_numbers.specs.Numbered.{Entries, with_entry}
 use Rattle.edge_numbers.proofs.Entered.{on_err_always}
 use Rattle.live_graph.proofs.Listed.{listed-vertices, listed-entered}

@@ -46,11 +46,11 @@ returns c state after set lives =
     record {
       fits = kept_fits c.args.edges.now after set.kept_edges c.requires.listed.fits;
       sources =
-        around-put source_of position_first c.args.edges.now c.args.number once_edges c.requires.number c.args.children.now c.requires.listed.sources
-        c.source.result once_vertices c.source.ensures c.requires.not_live position_first_exact state after c.put.new.self set lives
-        from.edges from.numbers from.holds from.in_order from.places from.others;
+          around-put source_of position_first c.args.edges.now c.args.number once_edges c.requires.number c.args.children.now c.requires.listed.sources
+          c.source.result once_vertices c.source.ensures c.requires.not_live position_first_exact state after c.put.new.self set lives
+          from.edges from.numbers from.holds from.in_order from.places from.others;
       targets =
-        around-put target_of edge_cmp c.args.edges.now c.args.number once_edges c.requires.number c.args.parents.now c.requires.listed.targets
-        c.target.result once_vertices c.target.ensures c.requires.not_live edge_cmp_exact state after c.put-2.new.self set lives
-        to.edges to.numbers to.holds to.in_order to.places to.others;
+          around-put target_of edge_cmp c.args.edges.now c.args.number once_edges c.requires.number c.args.parents.now c.requires.listed.targets
+          c.target.result once_vertices c.target.ensures c.requires.not_live edge_cmp_exact state after c.put-2.new.self set lives
+          to.edges to.numbers to.holds to.in_order to.places to.others;
     }

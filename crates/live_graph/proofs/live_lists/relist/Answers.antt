@@ -1,10 +1,7 @@
-use Rattle.std.proofs.Common.{rules, ◌≡◌, sym, ap, ◌∙◌, arith}
+use Rattle.std.proofs.Common.{◌≡◌, arith}
 use Rattle.std.proofs.lemmas.Grind.{common_steps}
-use Rattle.grove_edits.specs.Edge.{edge_cmp}
 use Rattle.edge_numbers.specs.Numbered.{state_at}
-use Rattle.edge_lists.specs.Order.{position_first}
 use Rattle.live_graph.specs.Live.{is_live}
-use Rattle.live_graph.specs.Around.{source_of, target_of}
 use Rattle.live_graph.proofs.Listed.{listed-kept}
 use Rattle.live_graph.proofs.live_lists.relist.Goals as goal
 

@@ -34,11 +34,11 @@ returns c state after set dead =
     record {
       fits = kept_fits c.args.edges.now after set.kept_edges c.requires.listed.fits;
       sources =
-        around-take_out source_of position_first c.args.edges.now c.args.number once_edges c.requires.number c.args.children.now c.requires.listed.sources
-        c.source.result once_vertices c.source.ensures c.requires.live state after c.take_out.new.self set dead
-        from.edges from.numbers from.holds from.in_order from.places from.others;
+          around-take_out source_of position_first c.args.edges.now c.args.number once_edges c.requires.number c.args.children.now c.requires.listed.sources
+          c.source.result once_vertices c.source.ensures c.requires.live state after c.take_out.new.self set dead
+          from.edges from.numbers from.holds from.in_order from.places from.others;
       targets =
-        around-take_out target_of edge_cmp c.args.edges.now c.args.number once_edges c.requires.number c.args.parents.now c.requires.listed.targets
-        c.target.result once_vertices c.target.ensures c.requires.live state after c.take_out-2.new.self set dead
-        to.edges to.numbers to.holds to.in_order to.places to.others;
+          around-take_out target_of edge_cmp c.args.edges.now c.args.number once_edges c.requires.number c.args.parents.now c.requires.listed.targets
+          c.target.result once_vertices c.target.ensures c.requires.live state after c.take_out-2.new.self set dead
+          to.edges to.numbers to.holds to.in_order to.places to.others;
     }

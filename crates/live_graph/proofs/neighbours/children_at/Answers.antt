@@ -20,7 +20,7 @@ returns-then-number-vertex_count-clause-edges c =
     let none : with_position c.args.position (edges_at c.args.edges.now lists n) ≡ [] = ap (λ ns. with_position c.args.position (map (edge_at c.args.edges.now) ns)) nothing in
     sym none
     ∙ children_listed c.args.edges.now c.args.vertex.now c.edge_count-edges.ensures.once c.vertex_count-vertices.ensures.once n c.in-Some.ensures.number lists c.requires c.args.position
-      (subst IsInEdgeOrder (sym none) tt)
+    (subst IsInEdgeOrder (sym none) tt)
 
 pub returns-clause-known : goal.returns-clause-known
 returns-clause-known c =
@@ -31,4 +31,4 @@ pub returns-clause-edges : goal.returns-clause-edges
 returns-clause-edges c =
     c.at_position.ensures.edges
     ∙ children_listed c.args.edges.now c.args.vertex.now c.edge_count-edges.ensures.once c.vertex_count-vertices.ensures.once c.in-Some.number c.in-Some.ensures.number c.args.children.now c.requires c.args.position
-      (subst IsInEdgeOrder c.at_position.ensures.edges c.at_position.ensures.in_order)
+    (subst IsInEdgeOrder c.at_position.ensures.edges c.at_position.ensures.in_order)

@@ -1,4 +1,4 @@
-use Rattle.std.proofs.Common.{◌≡◌, List, Some, slice_get, sym, ap, subst, ◌∙◌}
+use Rattle.std.proofs.Common.{List, Some, slice_get, sym, ap, subst, ◌∙◌}
 use Rattle.std.specs.Option.{option_map}
 use Rattle.std.proofs.lemmas.Option.{slice_get-map, slice_get_within, get_or_from_slice_get}
 use Rattle.grove_edits.specs.declared.edge.Edge.{Edge}
@@ -17,8 +17,8 @@ edge-requires c =
 pub returns : goal.returns
 returns c = record {
   edge =
-    let edges = c.self.inside.edges.now in
-    let numbers = c.self.inside.numbers.now in
-    ap Some c.edge.ensures ∙ ap (option_map (edge_at edges)) c.in_ok-number.ensures ∙ sym (slice_get-map (edge_at edges) numbers c.args.index)
-        ∙ ap (λ (es : List Edge). slice_get es c.args.index) c.self.view_is;
+      let edges = c.self.inside.edges.now in
+      let numbers = c.self.inside.numbers.now in
+      ap Some c.edge.ensures ∙ ap (option_map (edge_at edges)) c.in_ok-number.ensures ∙ sym (slice_get-map (edge_at edges) numbers c.args.index)
+      ∙ ap (λ (es : List Edge). slice_get es c.args.index) c.self.view_is;
 }

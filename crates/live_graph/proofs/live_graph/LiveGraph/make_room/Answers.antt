@@ -1,4 +1,4 @@
-use Rattle.std.proofs.Common.{◌≡◌, sym, ap, subst, ◌∙◌}
+use Rattle.std.proofs.Common.{sym, ap, subst, ◌∙◌}
 use Rattle.edge_numbers.specs.Numbered.{Entries, state_in, HasRoom}
 use Rattle.live_graph.specs.Live.{live}
 use Rattle.live_graph.proofs.Numbers.{room-at}

@@ -1,5 +1,5 @@
 use Rattle.std.proofs.Common.{◌≡◌, Some, None, sym, subst}
-use Rattle.std.specs.Prelude.{ℕ, Option}
+use Rattle.std.specs.Prelude.{ℕ}
 use Rattle.edge_numbers.specs.Numbered.{Entries, HasRoom}
 use Rattle.live_graph.proofs.Numbers.{number_of_room}
 use Rattle.live_graph.proofs.live_graph.LiveGraph.put_back.Goals as goal

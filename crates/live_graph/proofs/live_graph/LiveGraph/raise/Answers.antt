@@ -1,4 +1,4 @@
-use Rattle.std.proofs.Common.{◌≡◌, ◌≤◌, ◌<◌, true≢false, sym, ap, subst, ◌∙◌}
+use Rattle.std.proofs.Common.{◌≤◌, ◌<◌, true≢false, sym, ap, subst, ◌∙◌}
 use Rattle.edge_lattice.specs.State.{rank}
 use Rattle.grove_edits.specs.Edit.{edit_edge}
 use Rattle.grove_edits.specs.Graph.{state_of}
@@ -21,7 +21,7 @@ returns-clause-joined c =
     let old = c.state-old.ensures ∙ ap g edge in
     let asked = c.asked_by-asked.ensures ∙ ap state_of c.kind.ensures in
     let above : rank c.state-old.result < rank c.asked_by-asked.result =
-      above_from_not c.state-old.result c.asked_by-asked.result (λ below. true≢false (sym (c.leq.ensures.at_most.1 below) ∙ c.if-leq.false)) in
+    above_from_not c.state-old.result c.asked_by-asked.result (λ below. true≢false (sym (c.leq.ensures.at_most.1 below) ∙ c.if-leq.false)) in
     raised g (state_in c.put_back.new.self) c.args.edit.now
     (λ e. c.put_back.ensures.state e ∙ (λ j. with_state (edge j) (asked j) g e))
     (subst (λ s. rank (g (edit_edge c.args.edit.now)) < rank s) asked (subst (λ s. rank s < rank c.asked_by-asked.result) old above))
