@@ -6,10 +6,10 @@ ghost use Rattle.grove_edits.specs.declared.edge.Edge.{Edge};
 ghost use Rattle.grove_edits.specs.Edge.{edge_cmp};
 ghost use Rattle.grove_edits.specs.Graph.{is_same_edge};
 ghost use Rattle.grove_edits.specs.Vertex.{is_same_vertex};
-ghost use Rattle.edge_numbers.specs.Numbered.{edges_of, states_of, state_in, with_state, edge_at, state_at, vertex_at, with_ends, with_entry, IsEdgeNumber, IsVertexNumber, IsNumberOfEdge, IsNumberOfVertex, HasEndsIn, BeginsWith, HasRoom, KeepsRoom, KeepsNumbers};
+ghost use Rattle.edge_numbers.specs.Numbered.{edges_of, states_of, state_in, with_state, edge_at, state_at, vertex_at, with_vertex, with_ends, with_entry, IsEdgeNumber, IsVertexNumber, IsNumberOfEdge, IsNumberOfVertex, HasEndsIn, BeginsWith, HasRoom, KeepsRoom, KeepsNumbers};
 ghost use Rattle.edge_numbers.specs.Narrow.{edge_of, entries_of, HasEnds, IsNumbered};
 
-use crate::ends::{enter_ends, find_ends};
+use crate::ends::{enter_ends, enter_vertex, find_ends};
 use crate::narrow_edge::NarrowEdge;
 use crate::no_memory::NoMemory;
 use crate::order::compare_edges;
@@ -143,6 +143,17 @@ impl EdgeNumbers {
             Some(number) => self.state_at(number),
             None => State::Absent,
         }
+    }
+
+    /// The number of a vertex, which gets the next one where it has none.
+    pub fn enter_vertex(&mut self, vertex: &Vertex) -> Result<usize, NoMemory>
+        ensures number { IfOk result (IsNumberOfVertex self.new vertex.now) }
+        ensures vertices { OnOk result (self.new.vertices ≡ with_vertex vertex.now self.old.vertices) }
+        ensures vertices_stay { BeginsWith self.new.vertices self.old.vertices }
+        ensures entries { self.new.entries ≡ self.old.entries }
+    {
+        let number = enter_vertex(&mut self.vertices, vertex)?;
+        Ok(number as usize)
     }
 
     /// The number of an edge, which gets the next one and the state Absent where it has none, as do its ends. Where memory or numbers

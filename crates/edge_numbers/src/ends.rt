@@ -12,7 +12,10 @@ use indexmap::IndexSet;
 use seeded_hash::HashSeed;
 
 /// The number of a vertex, which gets the next one where it has none.
-fn enter_vertex(vertices: &mut IndexSet<Vertex, HashSeed>, vertex: &Vertex) -> Result<u32, NoMemory>
+pub(crate) fn enter_vertex(
+    vertices: &mut IndexSet<Vertex, HashSeed>,
+    vertex: &Vertex,
+) -> Result<u32, NoMemory>
     requires { length vertices.old.keys ≤ 2 ^ 32 }
     ensures number { IfOk result (λ number. slice_get vertices.new.keys number ≡ Some vertex.now) }
     ensures vertices { OnOk result (vertices.new.keys ≡ with_vertex vertex.now vertices.old.keys) }

@@ -1,0 +1,28 @@
+use Rattle.std.proofs.Common.{sym, ap, subst, ◌∙◌}
+use Rattle.edge_numbers.specs.Numbered.{Entries, state_in, HasRoom}
+use Rattle.live_graph.specs.Live.{live}
+use Rattle.live_graph.proofs.Numbers.{room-at}
+use Rattle.live_graph.proofs.Entered.{graph_stays, live_stays, room_kept, room_made}
+use Rattle.live_graph.proofs.live_graph.LiveGraph.make_room.Goals as goal
+
+pub returns-in-Some-clause-room : goal.returns-in-Some-clause-room
+returns-in-Some-clause-room c =
+    let number = c.in-Some.ensures.number in
+    subst (λ (es : Entries). HasRoom es c.args.edge.now) c.self.view_is (subst (HasRoom c.self.inside.edges.entries) number.1 (room-at c.self.inside.edges.entries c.in-Some._number number.0))
+
+pub returns-clause-room : goal.returns-clause-room
+returns-clause-room c = room_made c.enter.result c.self.inside.edges.entries c.enter.new.edges.entries c.args.edge.now c.enter.ensures.entries
+
+pub returns-clause-room_stays : goal.returns-clause-room_stays
+returns-clause-room_stays c e has =
+    room_kept c.enter.result c.self.inside.edges.entries c.enter.new.edges.entries c.args.edge.now c.enter.ensures.entries c.enter.ensures.unchanged e
+    (subst (λ (es : Entries). HasRoom es e) (sym c.self.view_is) has)
+
+pub returns-clause-unchanged : goal.returns-clause-unchanged
+returns-clause-unchanged c e =
+    graph_stays c.enter.result c.self.inside.edges.entries c.enter.new.edges.entries c.args.edge.now c.enter.ensures.entries c.enter.ensures.unchanged e
+    ∙ ap (λ (es : Entries). state_in es e) c.self.view_is
+
+pub returns-clause-live_stays : goal.returns-clause-live_stays
+returns-clause-live_stays c =
+    live_stays c.enter.result c.self.inside.edges.entries c.enter.new.edges.entries c.args.edge.now c.enter.ensures.entries c.enter.ensures.unchanged ∙ ap live c.self.view_is

@@ -1,0 +1,19 @@
+//! A live graph: the state of each edge, with the live edges from each vertex and those to it. Each vertex and each edge stands in it once, and
+//! else by its number. Its model is the list of its edges, each with its state, in the order of their numbers.
+#![tactic(auto)]
+
+mod change;
+mod edges;
+mod live_graph;
+mod live_lists;
+mod neighbours;
+mod no_memory;
+mod places;
+
+pub use change::Change;
+pub use edges::Edges;
+pub use live_graph::LiveGraph;
+pub use no_memory::NoMemory;
+
+#[cfg(test)]
+mod tests;
