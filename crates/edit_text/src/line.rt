@@ -1,4 +1,5 @@
 ghost use Rattle.std.specs.Prelude.{◌≡◌, ◌≢◌, ◌∷◌, ◌++◌, ℕ, List, IfOk, IfErr, IfSome, IfNone, IsSomeAnd, Some};
+ghost use Rattle.text_parts.specs.Separated.{Lacks};
 ghost use Rattle.grove_names.specs.declared.name.Name.{Name};
 ghost use Rattle.grove_names.specs.Name.{name_text, InRange as NameInRange};
 ghost use Rattle.grove_sorts.specs.declared.ctor.Ctor.{Ctor};
@@ -15,9 +16,9 @@ ghost use Rattle.edit_text.specs.Line.{Spells, HasFault, form, spaced, edge_part
 
 use crate::line_fault::LineFault;
 use grove_edits::{Edge, Edit, EditKind, Vertex};
-use grove_names::{Name, read_name};
+use grove_names::Name;
 use grove_sorts::{Ctor, Position, Version, read_ctor, read_position};
-use text_parts::split_at_first;
+use text_parts::split_at_next;
 
 /// Reads a line of the version, given without its LF, or answers the first fault that applies. It takes no memory.
 pub fn read_line(version: Version, line: &[u8]) -> Result<Edit, LineFault>
@@ -86,15 +87,16 @@ fn take_vertex(version: Version, text: &[u8]) -> Option<(Vertex, &[u8])>
 }
 
 // A name and the space behind it, and what stands after them.
+#[inline(never)]
 fn take_name(text: &[u8]) -> Option<(Name, &[u8])>
     ensures found { IfSome result (λ read. text.now ≡ name_text read.0 ++ 32 ∷ read.1.now) }
     ensures only { (name : Name) (rest : List ℕ) → NameInRange name → text.now ≡ name_text name ++ 32 ∷ rest
         → IsSomeAnd result (λ read. (read.0 ≡ name) × (read.1.now ≡ rest)) }
 {
-    let (part, rest) = split_at_first(text, b' ')?;
-    match read_name(part) {
-        Ok(name) => Some((name, rest)),
-        Err(_) => None,
+    let (name, rest) = grove_names::take_name(text)?;
+    match rest {
+        [b' ', rest @ ..] => Some((name, rest)),
+        _ => None,
     }
 }
 
@@ -105,7 +107,7 @@ fn take_ctor(version: Version, text: &[u8]) -> Option<(Ctor, &[u8])>
     ensures only { (ctor : Ctor) (rest : List ℕ) → CtorInRange ctor → IsCtorOf version ctor → text.now ≡ ctor_text ctor ++ 32 ∷ rest
         → IsSomeAnd result (λ read. (read.0 ≡ ctor) × (read.1.now ≡ rest)) }
 {
-    let (part, rest) = split_at_first(text, b' ')?;
+    let (part, rest) = take_part(text)?;
     let ctor = read_ctor(version, part)?;
     Some((ctor, rest))
 }
@@ -117,7 +119,17 @@ fn take_position(version: Version, text: &[u8]) -> Option<(Position, &[u8])>
     ensures only { (position : Position) (rest : List ℕ) → IsPositionOf version position → text.now ≡ position_text position ++ 32 ∷ rest
         → IsSomeAnd result (λ read. (read.0 ≡ position) × (read.1.now ≡ rest)) }
 {
-    let (part, rest) = split_at_first(text, b' ')?;
+    let (part, rest) = take_part(text)?;
     let position = read_position(version, part)?;
     Some((position, rest))
+}
+
+// The part before the next space, and what stands after that. It stands by itself so that its loop is quick.
+#[inline(never)]
+fn take_part(text: &[u8]) -> Option<(&[u8], &[u8])>
+    ensures parts { IfSome result (λ parts. text.now ≡ parts.0.now ++ 32 ∷ parts.1.now) }
+    ensures first { IfSome result (λ parts. Lacks 32 parts.0.now) }
+    ensures none { IfNone result (Lacks 32 text.now) }
+{
+    split_at_next(text, b' ')
 }

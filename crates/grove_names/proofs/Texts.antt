@@ -1,11 +1,11 @@
 -- The text of names.
-use Rattle.std.proofs.Common.{Result, Ok, Err, IfOk, IsErr, refl, ◌≡◌, ◌≢◌, ℕ, ◌<◌, ◌≤◌, ◌^◌, ◌⊎◌, List, ◌∷◌, ◌++◌, length, decimal, ap, sym, ◌∙◌, inl, subst, arith, length-append}
+use Rattle.std.proofs.Common.{Result, Ok, Err, IfOk, IsErr, refl, ◌≡◌, ◌≢◌, ℕ, ◌<◌, ◌≤◌, ◌^◌, ◌⊎◌, List, ◌∷◌, ◌++◌, length, decimal, ap, sym, ◌∙◌, inl, arith, length-append}
 use Rattle.std.specs.Str.Parse.{digits_value}
 use Rattle.std.proofs.lemmas.Fmt.{decimal_injective, length-decimal-le}
 use Rattle.text_parts.specs.Number.{IsNumberText}
 use Rattle.text_parts.specs.Separated.{Lacks}
 use Rattle.text_parts.proofs.Numbers.{Lacks-decimal, decimal_from_IsNumberText}
-use Rattle.text_parts.proofs.Parts.{Lacks-append, Lacks-separated, first_part}
+use Rattle.text_parts.proofs.Parts.{Lacks-append, first_part}
 use Rattle.grove_names.specs.declared.name.Name.{Name}
 use Rattle.grove_names.specs.Name.{InRange, name_text}
 
@@ -51,25 +51,6 @@ pub name_text_from_parts : (author counter : List ℕ) → IsNumberText author �
 name_text_from_parts author counter spelled also small fits =
     ap (λ a. a ++ 46 ∷ counter) (decimal_from_IsNumberText author spelled (omega arith))
     ∙ ap (λ b. decimal (digits_value 10 author) ++ 46 ∷ b) (decimal_from_IsNumberText counter also fits)
-
--- a text without a dot is no name's
-pub no_name_undotted : (bytes : List ℕ) → Lacks 46 bytes → (name : Name) → InRange name → bytes ≢ name_text name
-no_name_undotted bytes none name in_range same =
-    Lacks-separated 46 (decimal name.author) (decimal name.counter) (subst (Lacks 46) same none)
-
--- nor is one with no number before the dot, or one that is too large, or none after it
-pub no_name_author : (bytes author counter : List ℕ) → bytes ≡ author ++ 46 ∷ counter → Lacks 46 author → ((n : ℕ) → n < 2 ^ 64 → author ≢ decimal n) → (name : Name) → InRange name → bytes ≢ name_text name
-no_name_author bytes author counter split first none name in_range same =
-    none name.author (omega arith) (name_text-parts name in_range author counter first (sym split ∙ same)).0
-
-pub no_name_large : (bytes author counter : List ℕ) (n : ℕ) → bytes ≡ author ++ 46 ∷ counter → Lacks 46 author → author ≡ decimal n → n < 2 ^ 64 → 2 ^ 32 ≤ n → (name : Name) → InRange name → bytes ≢ name_text name
-no_name_large bytes author counter n split first is fits large name in_range same =
-    let parts = name_text-parts name in_range author counter first (sym split ∙ same) in
-    omega (arith, decimal_injective n name.author fits (omega arith) (sym is ∙ parts.0))
-
-pub no_name_counter : (bytes author counter : List ℕ) → bytes ≡ author ++ 46 ∷ counter → Lacks 46 author → ((n : ℕ) → n < 2 ^ 64 → counter ≢ decimal n) → (name : Name) → InRange name → bytes ≢ name_text name
-no_name_counter bytes author counter split first none name in_range same =
-    none name.counter (omega arith) (name_text-parts name in_range author counter first (sym split ∙ same)).1
 
 -- what answers as reading does gives the name that a text spells
 pub read_name_gives : {E : Type 0} (bytes : List ℕ) (r : Result Name E) → IfOk r (λ name. bytes ≡ name_text name) → IfOk r InRange → (IsErr r → (name : Name) → InRange name → bytes ≢ name_text name) → (name : Name) → InRange name → bytes ≡ name_text name → r ≡ Ok name

@@ -10,7 +10,7 @@ mod text;
 pub use fault::NameFault;
 pub use name::{Name, names_are_ordered};
 pub use no_memory::NoMemory;
-pub use text::{name_has_one_text, read_name, write_name};
+pub use text::{name_has_one_text, read_name, take_name, write_name};
 
 #[cfg(test)]
 mod tests;

@@ -1,13 +1,13 @@
-ghost use Rattle.std.specs.Prelude.{◌≡◌, ◌≢◌, ◌↔◌, ℕ, ◌<◌, ◌^◌, List, ◌∷◌, ◌++◌, take, vec_len, IfSome, IfNone, IfOk, OnOk, OnErr, IsErr};
+ghost use Rattle.std.specs.Prelude.{◌≡◌, ◌≢◌, ◌↔◌, ℕ, ◌<◌, ◌^◌, List, false, ◌∷◌, ◌++◌, take, vec_len, IfSome, IsSomeAnd, IfOk, OnOk, OnErr, IsErr};
 ghost use Rattle.std.specs.Str.Parse.{digits_value};
-ghost use Rattle.text_parts.specs.Number.{IsNumberText};
+ghost use Rattle.text_parts.specs.Number.{IsNumberText, begins_with_digit};
 ghost use Rattle.grove_names.specs.declared.name.Name.{Name};
 ghost use Rattle.grove_names.specs.Name.{InRange, name_text};
 
 use crate::fault::NameFault;
 use crate::name::Name;
 use crate::no_memory::NoMemory;
-use text_parts::{read_number, split_at_first, write_number};
+use text_parts::{take_number, write_number};
 
 /// Reads a name, which all of the bytes spell: the author's number, a dot and the counter.
 pub fn read_name(bytes: &[u8]) -> Result<Name, NameFault>
@@ -15,7 +15,33 @@ pub fn read_name(bytes: &[u8]) -> Result<Name, NameFault>
     ensures in_range { IfOk result InRange }
     ensures not_a_name { IsErr result ↔ ((name : Name) → InRange name → bytes.now ≢ name_text name) }
 {
-    name_of(bytes).ok_or(NameFault::NotAName)
+    let Some((name, rest)) = take_name(bytes) else {
+        return Err(NameFault::NotAName);
+    };
+    if rest.is_empty() {
+        Ok(name)
+    } else {
+        Err(NameFault::NotAName)
+    }
+}
+
+/// Reads the name that the bytes begin with, with all digits of its counter, and answers what stands behind it.
+#[inline(always)]
+pub fn take_name(bytes: &[u8]) -> Option<(Name, &[u8])>
+    ensures found { IfSome result (λ read. bytes.now ≡ name_text read.0 ++ read.1.now) }
+    ensures in_range { IfSome result (λ read. InRange read.0) }
+    ensures only { (name : Name) (rest : List ℕ) → InRange name → begins_with_digit rest ≡ false → bytes.now ≡ name_text name ++ rest
+        → IsSomeAnd result (λ read. (read.0 ≡ name) × (read.1.now ≡ rest)) }
+{
+    let (author, rest) = take_number(bytes)?;
+    let [b'.', counter @ ..] = rest else {
+        return None;
+    };
+    let (counter, rest) = take_number(counter)?;
+    let Ok(author) = u32::try_from(author) else {
+        return None;
+    };
+    Some((Name { author, counter }, rest))
 }
 
 /// Appends the text of a name.
@@ -38,17 +64,6 @@ pub fn name_has_one_text()
         → digits_value 10 author < 2 ^ 32 → digits_value 10 counter < 2 ^ 64
         → author ++ 46 ∷ counter ≡ name_text (record { author = digits_value 10 author; counter = digits_value 10 counter }) }
 {}
-
-fn name_of(bytes: &[u8]) -> Option<Name>
-    ensures found { IfSome result (λ name. bytes.now ≡ name_text name) }
-    ensures in_range { IfSome result InRange }
-    ensures none { IfNone result ((name : Name) → InRange name → bytes.now ≢ name_text name) }
-{
-    let (author, counter) = split_at_first(bytes, b'.')?;
-    let author = u32::try_from(read_number(author)?).ok()?;
-    let counter = read_number(counter)?;
-    Some(Name { author, counter })
-}
 
 // Where memory runs out, a part of the text may stand at the end.
 fn append_text(name: Name, out: &mut Vec<u8>) -> Result<(), NoMemory>

@@ -49,6 +49,7 @@ fn is_inner_byte(byte: u8) -> bool
 }
 
 /// Reads the text of a constructor of the version.
+#[inline(always)]
 pub fn read_ctor(version: Version, bytes: &[u8]) -> Option<Ctor>
     ensures found { IfSome result (λ ctor. bytes.now ≡ ctor_text ctor) }
     ensures in_range { IfSome result InRange }
@@ -58,6 +59,7 @@ pub fn read_ctor(version: Version, bytes: &[u8]) -> Option<Ctor>
     read_any_ctor(bytes).filter(|ctor| knows_ctor(version, ctor))
 }
 
+#[inline(always)]
 fn read_any_ctor(bytes: &[u8]) -> Option<Ctor>
     ensures found { IfSome result (λ ctor. bytes.now ≡ ctor_text ctor) }
     ensures in_range { IfSome result InRange }
@@ -103,6 +105,7 @@ fn read_plain(bytes: &[u8]) -> Option<Ctor>
 }
 
 /// Reads the word of a position of the version.
+#[inline(always)]
 pub fn read_position(version: Version, bytes: &[u8]) -> Option<Position>
     ensures found { IfSome result (λ position. bytes.now ≡ position_text position) }
     ensures of_version { IfSome result (IsPositionOf version) }

@@ -1,6 +1,6 @@
-ghost use Rattle.std.specs.Prelude.{◌≡◌, ◌≢◌, ℕ, ◌<◌, ◌^◌, ◌++◌, List, decimal, IfSome, OnSome, IfNone, OnOk, OnErr};
+ghost use Rattle.std.specs.Prelude.{◌≡◌, ◌≢◌, ℕ, ◌<◌, ◌≤◌, ◌^◌, ◌++◌, List, false, length, take, drop, decimal, IfSome, OnSome, IfNone, IsSomeAnd, OnOk, OnErr};
 ghost use Rattle.std.specs.Str.Parse.{AllDigits, digits_value};
-ghost use Rattle.text_parts.specs.Number.{IsNumberText};
+ghost use Rattle.text_parts.specs.Number.{IsNumberText, begins_with_digit};
 
 use crate::no_memory::NoMemory;
 use itoa::Buffer;
@@ -19,11 +19,32 @@ pub fn read_number(bytes: &[u8]) -> Option<u64>
     value_of(bytes)
 }
 
+/// Reads the number that the bytes begin with, all of its digits, and answers what stands behind it.
+#[inline(always)]
+pub fn take_number(bytes: &[u8]) -> Option<(u64, &[u8])>
+    ensures found { IfSome result (λ read. bytes.now ≡ decimal read.0 ++ read.1.now) }
+    ensures only { (number : ℕ) (rest : List ℕ) → number < 2 ^ 64 → begins_with_digit rest ≡ false → bytes.now ≡ decimal number ++ rest
+        → IsSomeAnd result (λ read. (read.0 ≡ number) × (read.1.now ≡ rest)) }
+{
+    let (number, len) = leading_number(bytes)?;
+    if len == 0 {
+        return None;
+    }
+    if bytes[0] == b'0' && len > 1 {
+        return None;
+    }
+    Some((number, &bytes[len..]))
+}
+
 /// Appends the digits of a number.
 pub fn write_number(number: u64, out: &mut Vec<u8>) -> Result<(), NoMemory>
     ensures appended { OnOk result (out.new.items ≡ out.old.items ++ decimal number) }
     ensures unchanged { OnErr result (out.new.items ≡ out.old.items) }
 {
+    if number < 10 {
+        out.push(b'0' + number as u8)?;
+        return Ok(());
+    }
     let mut buffer = Buffer::new();
     out.extend_from_slice(buffer.format(number).as_bytes())?;
     Ok(())
@@ -52,4 +73,25 @@ fn value_of(bytes: &[u8]) -> Option<u64>
         value = value.checked_mul(10)?.checked_add(u64::from(*byte - b'0'))?;
     }
     Some(value)
+}
+
+// The value of the digits that the bytes begin with, and how many they are.
+#[inline(always)]
+fn leading_number(bytes: &[u8]) -> Option<(u64, usize)>
+    ensures within { IfSome result (λ read. read.1 ≤ length bytes.now) }
+    ensures digits { IfSome result (λ read. AllDigits 10 (take read.1 bytes.now)) }
+    ensures all { IfSome result (λ read. begins_with_digit (drop read.1 bytes.now) ≡ false) }
+    ensures value { IfSome result (λ read. read.0 ≡ digits_value 10 (take read.1 bytes.now)) }
+    ensures none { IfNone result ((number : ℕ) (rest : List ℕ) → number < 2 ^ 64 → begins_with_digit rest ≡ false → bytes.now ≢ decimal number ++ rest) }
+{
+    let mut value: u64 = 0;
+    for i in 0..bytes.len() {
+        if !bytes[i].is_ascii_digit() {
+            return Some((value, i));
+        }
+        value = value
+            .checked_mul(10)?
+            .checked_add(u64::from(bytes[i] - b'0'))?;
+    }
+    Some((value, bytes.len()))
 }

@@ -23,10 +23,33 @@ fn numbers_have_one_spelling(rt: HostRuntime) -> Result<(), Fail> {
 }
 
 #[test]
+fn a_number_is_taken_from_the_front(rt: HostRuntime) {
+    for (text, want) in [
+        (b"0.1".as_slice(), Some((0, b".1".as_slice()))),
+        (b"417".as_slice(), Some((417, b"".as_slice()))),
+        (
+            b"18446744073709551615 x".as_slice(),
+            Some((u64::MAX, b" x".as_slice())),
+        ),
+        (b"18446744073709551616 ".as_slice(), None),
+        (b"01 ".as_slice(), None),
+        (b" 1".as_slice(), None),
+        (b"".as_slice(), None),
+    ] {
+        assert_eq!(rt; take_number(text), want);
+    }
+}
+
+#[test]
 fn the_first_separator_parts(rt: HostRuntime) {
     assert_eq!(rt;
         split_at_first(b"a b c", b' '),
         Some((b"a".as_slice(), b"b c".as_slice()))
     );
     assert_eq!(rt; split_at_first(b"abc", b' '), None);
+    assert_eq!(rt;
+        split_at_next(b"a b c", b' '),
+        Some((b"a".as_slice(), b"b c".as_slice()))
+    );
+    assert_eq!(rt; split_at_next(b"abc", b' '), None);
 }
