@@ -21,6 +21,7 @@ use grove_sorts::{Ctor, Position, Version, read_ctor, read_position};
 use text_parts::split_at_next;
 
 /// Reads a line of the version, given without its LF, or answers the first fault that applies. It takes no memory.
+#[inline(always)]
 pub fn read_line(version: Version, line: &[u8]) -> Result<Edit, LineFault>
     ensures edit { IfOk result (Spells version line.now) }
     ensures first_fault { IfErr result (HasFault version line.now) }
@@ -32,6 +33,7 @@ pub fn read_line(version: Version, line: &[u8]) -> Result<Edit, LineFault>
 }
 
 // The edge of a line need not be well formed.
+#[inline(always)]
 fn read_form(version: Version, line: &[u8]) -> Option<(EditKind, Edge)>
     ensures found { IfSome result (λ read. line.now ≡ form read.0 read.1) }
     ensures of_version { IfSome result (λ read. IsEdgeOf version read.1) }
@@ -44,6 +46,7 @@ fn read_form(version: Version, line: &[u8]) -> Option<(EditKind, Edge)>
     }
 }
 
+#[inline(always)]
 fn read_edge(version: Version, text: &[u8]) -> Option<Edge>
     ensures found { IfSome result (λ edge. text.now ≡ spaced (edge_parts edge)) }
     ensures of_version { IfSome result (IsEdgeOf version) }
@@ -62,6 +65,7 @@ fn read_edge(version: Version, text: &[u8]) -> Option<Edge>
 }
 
 // A vertex: its name, a space and its constructor.
+#[inline(always)]
 fn read_vertex(version: Version, text: &[u8]) -> Option<Vertex>
     ensures found { IfSome result (λ vertex. text.now ≡ name_text vertex.name ++ 32 ∷ ctor_text vertex.ctor) }
     ensures of_version { IfSome result (λ vertex. IsCtorOf version vertex.ctor) }
@@ -74,6 +78,7 @@ fn read_vertex(version: Version, text: &[u8]) -> Option<Vertex>
 }
 
 // A vertex and the space behind it, and what stands after them.
+#[inline(always)]
 fn take_vertex(version: Version, text: &[u8]) -> Option<(Vertex, &[u8])>
     ensures found { IfSome result (λ read. text.now ≡ name_text read.0.name ++ 32 ∷ (ctor_text read.0.ctor ++ 32 ∷ read.1.now)) }
     ensures of_version { IfSome result (λ read. IsCtorOf version read.0.ctor) }
@@ -101,6 +106,7 @@ fn take_name(text: &[u8]) -> Option<(Name, &[u8])>
 }
 
 // A constructor and the space behind it, and what stands after them.
+#[inline(always)]
 fn take_ctor(version: Version, text: &[u8]) -> Option<(Ctor, &[u8])>
     ensures found { IfSome result (λ read. text.now ≡ ctor_text read.0 ++ 32 ∷ read.1.now) }
     ensures of_version { IfSome result (λ read. IsCtorOf version read.0) }
@@ -113,6 +119,7 @@ fn take_ctor(version: Version, text: &[u8]) -> Option<(Ctor, &[u8])>
 }
 
 // A position's word and the space behind it, and what stands after them.
+#[inline(always)]
 fn take_position(version: Version, text: &[u8]) -> Option<(Position, &[u8])>
     ensures found { IfSome result (λ read. text.now ≡ position_text read.0 ++ 32 ∷ read.1.now) }
     ensures of_version { IfSome result (λ read. IsPositionOf version read.0) }

@@ -38,6 +38,7 @@ pub enum EdgeFault {
     WrongSort,
 }
 
+#[inline(always)]
 fn is_well_formed(vertex: &Vertex) -> bool
     ensures well_formed { result ≡ is_vertex vertex.now }
     ensures in_range { VertexInRange vertex.now }
@@ -51,6 +52,7 @@ fn is_well_formed(vertex: &Vertex) -> bool
 }
 
 /// The first fault that applies, in the order of `EdgeFault`.
+#[inline(always)]
 pub fn check_edge(edge: &Edge) -> Result<(), EdgeFault>
     ensures well_formed { OnOk result (edge_fault edge.now ≡ None) }
     ensures first_fault { IfErr result (λ fault. edge_fault edge.now ≡ Some fault) }

@@ -23,6 +23,7 @@ impl Edit {
     ghost use Rattle.grove_edits.specs.Edit.{edit_edge, edit_kind};
 
     /// An edit of an edge, or the edge's first fault.
+    #[inline(always)]
     pub fn new(kind: EditKind, edge: Edge) -> Result<Edit, EdgeFault>
         ensures edge { IfOk result (λ edit. edit_edge edit ≡ edge) }
         ensures kind { IfOk result (λ edit. edit_kind edit ≡ kind) }

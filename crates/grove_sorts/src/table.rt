@@ -95,6 +95,7 @@ pub fn place_at(ctor: &Ctor, index: usize) -> Option<(Position, Sort)>
 }
 
 /// The sort of the children at a position of the constructor.
+#[inline(always)]
 pub fn position_sort(ctor: &Ctor, position: Position) -> Option<Sort>
     ensures value { result ≡ sort_at ctor.now position }
     ensures found { IfSome result (λ sort. Contains (positions ctor.now) (position, sort)) }
