@@ -19,20 +19,24 @@ fn to_number(counter: u64) -> Edge {
 }
 
 // A tree of a head and, where there is one, a child.
-fn tree_with(alloc: Global, child: Option<Edge>) -> Result<Tree, NoMemory> {
+fn tree_with<'g>(
+    alloc: Global,
+    root: &'g Vertex,
+    child: Option<&'g Edge>,
+) -> Result<Tree<'g>, NoMemory> {
     let mut tree = Tree::new(alloc);
-    tree.push(Node {
+    tree.push(LentNode {
         depth: 0,
         position: None,
         edge: None,
-        what: What::Vertex(Vertex::ROOT),
+        what: LentWhat::Vertex(root),
     })?;
     if let Some(edge) = child {
-        tree.push(Node {
+        tree.push(LentNode {
             depth: 1,
             position: Some(edge.position),
             edge: Some(edge),
-            what: What::MultiRef(edge.target),
+            what: LentWhat::MultiRef(&edge.target),
         })?;
     }
     Ok(tree)
@@ -41,19 +45,21 @@ fn tree_with(alloc: Global, child: Option<Edge>) -> Result<Tree, NoMemory> {
 #[test]
 fn edges_are_listed_tree_by_tree(rt: HostRuntime) -> Result<(), Fail> {
     let alloc = rt.alloc();
+    let root = Vertex::ROOT;
+    let (first, second, third) = (to_number(1), to_number(2), to_number(3));
     let mut grove = Grove {
         none: TreeList::new(alloc),
         multi: TreeList::new(alloc),
         cycle: TreeList::new(alloc),
     };
-    grove.cycle.push(tree_with(alloc, Some(to_number(3)))?)?;
-    grove.none.push(tree_with(alloc, Some(to_number(1)))?)?;
-    grove.none.push(tree_with(alloc, None)?)?;
-    grove.multi.push(tree_with(alloc, Some(to_number(2)))?)?;
+    grove.cycle.push(tree_with(alloc, &root, Some(&third))?)?;
+    grove.none.push(tree_with(alloc, &root, Some(&first))?)?;
+    grove.none.push(tree_with(alloc, &root, None)?)?;
+    grove.multi.push(tree_with(alloc, &root, Some(&second))?)?;
     let listed = edges(alloc, &grove)?;
     assert_eq!(rt; listed.len(), 3);
-    assert_eq!(rt; listed.get(0), Some(to_number(1)));
-    assert_eq!(rt; listed.get(1), Some(to_number(2)));
-    assert_eq!(rt; listed.get(2), Some(to_number(3)));
+    assert_eq!(rt; listed.get(0), Some(first));
+    assert_eq!(rt; listed.get(1), Some(second));
+    assert_eq!(rt; listed.get(2), Some(third));
     Ok(())
 }

@@ -1,28 +1,30 @@
 ghost use Rattle.std.specs.Prelude.{◌≡◌, ◌<◌, ◌^◌, [], ◌∷◌, ◌++◌, length, slice_get, OnOk, OnErr};
+ghost use Rattle.grove_terms.specs.Lent.{node_of, nodes_of};
 
 use crate::no_memory::NoMemory;
-use crate::node::Node;
+use crate::node::{LentNode, Node};
 use std::alloc::Global;
 use std::marker::Model;
 
-/// The nodes of a tree in preorder.
+/// The nodes of a tree in preorder, with edges and vertices lent by the graph.
 #[derive(Debug, Drop)]
-pub struct Tree {
-    nodes: Vec<Node>,
+pub struct Tree<'g> {
+    nodes: Vec<LentNode<'g>>,
 }
 
-impl Model for Tree {
+impl<'g> Model for Tree<'g> {
     ghost use Rattle.std.specs.Prelude.{List};
     ghost use Rattle.grove_terms.specs.declared.node.Node.{Node};
+    ghost use Rattle.grove_terms.specs.Lent.{nodes_of};
 
     ghost Value = { List Node };
 
-    ghost view = { λ tree. tree.nodes.items };
+    ghost view = { λ tree. nodes_of tree.nodes.items };
 }
 
-impl Tree {
+impl<'g> Tree<'g> {
     /// A tree without nodes, to which they are pushed in preorder.
-    pub fn new(alloc: Global) -> Tree
+    pub fn new(alloc: Global) -> Tree<'g>
         ensures empty { result ≡ [] }
     {
         Tree {
@@ -31,8 +33,8 @@ impl Tree {
     }
 
     /// Appends a node.
-    pub fn push(&mut self, node: Node) -> Result<(), NoMemory>
-        ensures appended { OnOk result (self.new ≡ self.old ++ node ∷ []) }
+    pub fn push(&mut self, node: LentNode<'g>) -> Result<(), NoMemory>
+        ensures appended { OnOk result (self.new ≡ self.old ++ node_of node.entry ∷ []) }
         ensures unchanged { OnErr result (self.new ≡ self.old) }
     {
         self.nodes.push(node)?;
@@ -50,11 +52,12 @@ impl Tree {
     pub fn get(&self, index: usize) -> Option<Node>
         ensures { result ≡ slice_get self.now index }
     {
-        self.nodes.get(index).copied()
+        let node = self.nodes.get(index)?;
+        Some(node.node())
     }
 
-    pub fn as_slice(&self) -> &[Node]
-        ensures { result.now ≡ self.now }
+    pub fn as_slice(&self) -> &[LentNode<'g>]
+        ensures { nodes_of result.now ≡ self.now }
     {
         &self.nodes
     }

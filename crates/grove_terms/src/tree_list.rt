@@ -8,11 +8,11 @@ use std::marker::Model;
 
 /// Trees in order.
 #[derive(Debug, Drop)]
-pub struct TreeList {
-    trees: Vec<Tree>,
+pub struct TreeList<'g> {
+    trees: Vec<Tree<'g>>,
 }
 
-impl Model for TreeList {
+impl<'g> Model for TreeList<'g> {
     ghost use Rattle.std.specs.Prelude.{List};
     ghost use Rattle.grove_terms.specs.declared.node.Node.{Node};
 
@@ -21,8 +21,8 @@ impl Model for TreeList {
     ghost view = { λ list. list.trees.items };
 }
 
-impl TreeList {
-    pub fn new(alloc: Global) -> TreeList
+impl<'g> TreeList<'g> {
+    pub fn new(alloc: Global) -> TreeList<'g>
         ensures empty { result ≡ [] }
     {
         TreeList {
@@ -31,8 +31,8 @@ impl TreeList {
     }
 
     /// Appends a tree.
-    pub fn push(&mut self, tree: Tree) -> Result<(), NoMemory>
-        ensures appended { OnOk result (self.new ≡ self.old ++ tree ∷ []) }
+    pub fn push(&mut self, tree: Tree<'g>) -> Result<(), NoMemory>
+        ensures appended { OnOk result (self.new ≡ self.old ++ tree.entry ∷ []) }
         ensures unchanged { OnErr result (self.new ≡ self.old) }
     {
         self.trees.push(tree)?;
@@ -46,13 +46,13 @@ impl TreeList {
     }
 
     /// The tree at an index, or None past the end.
-    pub fn get(&self, index: usize) -> Option<&Tree>
+    pub fn get(&self, index: usize) -> Option<&Tree<'g>>
         ensures { option_map (λ tree. tree.now) result ≡ slice_get self.now index }
     {
         self.trees.get(index)
     }
 
-    pub fn as_slice(&self) -> &[Tree]
+    pub fn as_slice(&self) -> &[Tree<'g>]
         ensures { result.now ≡ self.now }
     {
         &self.trees
