@@ -4,6 +4,7 @@ use Rattle.std.specs.Option.{option_map}
 use Rattle.type_core.specs.Typ.{Typ}
 use Rattle.type_core.specs.TypeTable.{type_at}
 use Rattle.grove_terms.specs.declared.node.Node.{Node}
+use Rattle.grove_terms.specs.Lent.{node_of}
 use Rattle.mark_step.specs.Node.{wanted_at}
 use Rattle.marking.specs.Marking.{MarkedNode as MeantNode}
 use Rattle.marking.specs.Grove.{MarkedTrees}
@@ -13,7 +14,7 @@ use Rattle.marking.specs.declared.marked_grove.MarkedGrove.{MarkedGrove}
 -- the node that a node by number stands for
 abbrev pub meant : List Typ → MarkedNode → MeantNode
 meant types m = record {
-  node = m.node.now;
+  node = node_of m.node;
   wanted = option_map (wanted_at types) m.mode;
   typ = option_map (type_at types) m.typ;
   mark = m.mark;
@@ -31,4 +32,4 @@ meant_grove types grove = record {
 
 -- the nodes without what marking added
 abbrev pub bare_nodes : List MarkedNode → List Node
-bare_nodes ms = map (λ m. m.node.now) ms
+bare_nodes ms = map (λ m. node_of m.node) ms

@@ -8,7 +8,7 @@ use std::alloc::Global;
 use std::marker::Model;
 use type_core::TypeId;
 
-/// The nodes of a marked tree in preorder, borrowed from the tree.
+/// The nodes of a marked tree in preorder. Edges and vertices are lent by the graph, as those of the tree.
 #[derive(Debug, Drop)]
 pub struct MarkedTree<'t> {
     nodes: Vec<MarkedNode<'t>>,
