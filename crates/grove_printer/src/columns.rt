@@ -1,18 +1,20 @@
 ghost use Rattle.std.specs.Prelude.{◌≡◌, ◌++◌, OnOk, OnErr};
+ghost use Rattle.grove_terms.specs.Lent.{node_of, what_of};
+ghost use Rattle.std.specs.Option.{option_map};
 ghost use Rattle.grove_printer.specs.Print.{Extends, position_column, edge_column, vertex_column, what_column, place_columns, node_columns};
 
 use crate::no_memory::NoMemory;
 use grove_edits::Edge;
 use grove_names::write_name;
 use grove_sorts::{Position, write_ctor, write_position};
-use grove_terms::{Node, What};
+use grove_terms::{LentNode, LentWhat};
 use text_parts::write_number;
 
 // After an error each of these functions may have appended a part.
 
 /// Appends the columns of a node, with a space between each two.
-pub(crate) fn append_columns(node: &Node, out: &mut Vec<u8>) -> Result<(), NoMemory>
-    ensures appended { OnOk result (out.new.items ≡ out.old.items ++ node_columns node.now) }
+pub(crate) fn append_columns(node: &LentNode, out: &mut Vec<u8>) -> Result<(), NoMemory>
+    ensures appended { OnOk result (out.new.items ≡ out.old.items ++ node_columns (node_of node.now)) }
     ensures in_part { OnErr result (Extends out.old.items out.new.items) }
 {
     append_place(node, out)?;
@@ -22,15 +24,15 @@ pub(crate) fn append_columns(node: &Node, out: &mut Vec<u8>) -> Result<(), NoMem
     append_what(&node.what, out)
 }
 
-fn append_place(node: &Node, out: &mut Vec<u8>) -> Result<(), NoMemory>
-    ensures appended { OnOk result (out.new.items ≡ out.old.items ++ place_columns node.now) }
+fn append_place(node: &LentNode, out: &mut Vec<u8>) -> Result<(), NoMemory>
+    ensures appended { OnOk result (out.new.items ≡ out.old.items ++ place_columns (node_of node.now)) }
     ensures in_part { OnErr result (Extends out.old.items out.new.items) }
 {
     write_number(node.depth, out)?;
     out.push(b' ')?;
     append_position(node.position, out)?;
     out.push(b' ')?;
-    append_edge(&node.edge, out)
+    append_edge(node.edge, out)
 }
 
 fn append_position(position: Option<Position>, out: &mut Vec<u8>) -> Result<(), NoMemory>
@@ -44,8 +46,8 @@ fn append_position(position: Option<Position>, out: &mut Vec<u8>) -> Result<(), 
     Ok(())
 }
 
-fn append_edge(edge: &Option<Edge>, out: &mut Vec<u8>) -> Result<(), NoMemory>
-    ensures appended { OnOk result (out.new.items ≡ out.old.items ++ edge_column edge.now) }
+fn append_edge(edge: Option<&Edge>, out: &mut Vec<u8>) -> Result<(), NoMemory>
+    ensures appended { OnOk result (out.new.items ≡ out.old.items ++ edge_column (option_map (λ e. e.now) edge.entry)) }
     ensures in_part { OnErr result (Extends out.old.items out.new.items) }
 {
     match edge {
@@ -55,35 +57,35 @@ fn append_edge(edge: &Option<Edge>, out: &mut Vec<u8>) -> Result<(), NoMemory>
     Ok(())
 }
 
-fn append_vertex(what: &What, out: &mut Vec<u8>) -> Result<(), NoMemory>
-    ensures appended { OnOk result (out.new.items ≡ out.old.items ++ vertex_column what.now) }
+fn append_vertex(what: &LentWhat, out: &mut Vec<u8>) -> Result<(), NoMemory>
+    ensures appended { OnOk result (out.new.items ≡ out.old.items ++ vertex_column (what_of what.now)) }
     ensures in_part { OnErr result (Extends out.old.items out.new.items) }
 {
     match what {
-        What::Vertex(vertex) | What::MultiRef(vertex) | What::CycleRef(vertex) => {
+        LentWhat::Vertex(vertex) | LentWhat::MultiRef(vertex) | LentWhat::CycleRef(vertex) => {
             write_name(vertex.name, out)?
         }
-        What::Hole(_) | What::Conflict(_, _) => out.push(b'-')?,
+        LentWhat::Hole(_) | LentWhat::Conflict(_, _) => out.push(b'-')?,
     }
     Ok(())
 }
 
-fn append_what(what: &What, out: &mut Vec<u8>) -> Result<(), NoMemory>
-    ensures appended { OnOk result (out.new.items ≡ out.old.items ++ what_column what.now) }
+fn append_what(what: &LentWhat, out: &mut Vec<u8>) -> Result<(), NoMemory>
+    ensures appended { OnOk result (out.new.items ≡ out.old.items ++ what_column (what_of what.now)) }
     ensures in_part { OnErr result (Extends out.old.items out.new.items) }
 {
     match what {
-        What::Vertex(vertex) => write_ctor(&vertex.ctor, out)?,
-        What::Hole(_) => out.extend_from_slice(b"hole")?,
-        What::Conflict(_, count) => {
+        LentWhat::Vertex(vertex) => write_ctor(&vertex.ctor, out)?,
+        LentWhat::Hole(_) => out.extend_from_slice(b"hole")?,
+        LentWhat::Conflict(_, count) => {
             out.extend_from_slice(b"conflict:")?;
             write_number(*count, out)?
         }
-        What::MultiRef(vertex) => {
+        LentWhat::MultiRef(vertex) => {
             out.extend_from_slice(b"multi:")?;
             write_ctor(&vertex.ctor, out)?
         }
-        What::CycleRef(vertex) => {
+        LentWhat::CycleRef(vertex) => {
             out.extend_from_slice(b"cycle:")?;
             write_ctor(&vertex.ctor, out)?
         }

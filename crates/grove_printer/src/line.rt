@@ -19,7 +19,7 @@ pub(crate) fn append_line(
     ensures appended { OnOk result (out.new.items ≡ out.old.items ++ node_line (meant types.now node.now)) }
     ensures in_part { OnErr result (Extends out.old.items out.new.items) }
 {
-    append_columns(node.node, out)?;
+    append_columns(&node.node, out)?;
     out.push(b' ')?;
     append_marks(node, types, out)?;
     out.push(b'\n')?;

@@ -2,13 +2,14 @@ ghost use Rattle.std.specs.Prelude.{◌≡◌, ◌++◌, OnOk, OnErr, IfSome};
 ghost use Rattle.std.specs.Option.{option_map};
 ghost use Rattle.type_core.specs.TypeTable.{IsTypeOf, type_at};
 ghost use Rattle.mark_step.specs.Node.{IsModeOf, wanted_at};
+ghost use Rattle.grove_terms.specs.Lent.{what_of};
 ghost use Rattle.marking.specs.Reading.{meant};
 ghost use Rattle.marking.specs.Numbers.{IsMarkedNodeOf};
 ghost use Rattle.grove_printer.specs.Print.{Extends, sort_of_node, mode_column, type_column, mark_text, mark_columns};
 
 use crate::no_memory::NoMemory;
 use grove_sorts::{Sort, sort_of, write_sort};
-use grove_terms::What;
+use grove_terms::LentWhat;
 use mark_step::{Mark, Mode};
 use marking::MarkedNode;
 use type_core::{TypeId, TypeTable};
@@ -69,14 +70,14 @@ fn append_type(typ: Option<TypeId>, types: &TypeTable, out: &mut Vec<u8>) -> Res
     Ok(())
 }
 
-fn sort_of_node(what: &What) -> Sort
-    ensures { result ≡ sort_of_node what.now }
+fn sort_of_node(what: &LentWhat) -> Sort
+    ensures { result ≡ sort_of_node (what_of what.now) }
 {
     match what {
-        What::Vertex(vertex) | What::MultiRef(vertex) | What::CycleRef(vertex) => {
+        LentWhat::Vertex(vertex) | LentWhat::MultiRef(vertex) | LentWhat::CycleRef(vertex) => {
             sort_of(&vertex.ctor)
         }
-        What::Hole(sort) | What::Conflict(sort, _) => *sort,
+        LentWhat::Hole(sort) | LentWhat::Conflict(sort, _) => *sort,
     }
 }
 

@@ -6,7 +6,7 @@ use super::*;
 use grove_edits::{Edge, Vertex};
 use grove_names::Name;
 use grove_sorts::{Ctor, Position, Sort};
-use grove_terms::{Node, What};
+use grove_terms::{LentNode, LentWhat};
 use mark_step::{Mark, Mode};
 use marking::{MarkedGrove, MarkedNode, MarkedTree, MarkedTreeList};
 use std::alloc::Global;
@@ -20,17 +20,17 @@ fn vertex(author: u32, counter: u64, ctor: Ctor) -> Vertex {
     }
 }
 
-fn root() -> Node {
-    Node {
+fn head_of(vertex: &Vertex) -> LentNode<'_> {
+    LentNode {
         depth: 0,
         position: None,
         edge: None,
-        what: What::Vertex(vertex(0, 0, Ctor::Root)),
+        what: LentWhat::Vertex(vertex),
     }
 }
 
 // The tree of the root and another node.
-fn tree_of<'t>(alloc: Global, root: &'t Node, node: MarkedNode<'t>) -> Result<MarkedTree<'t>, Fail>
+fn tree_of<'t>(alloc: Global, root: LentNode<'t>, node: MarkedNode<'t>) -> Result<MarkedTree<'t>, Fail>
     ensures { (types : List Typ) → IsMarkedNodeOf types node.entry → IfOk result (AreMarkedNodesOf types) }
 {
     let head = MarkedNode {
@@ -48,7 +48,7 @@ fn tree_of<'t>(alloc: Global, root: &'t Node, node: MarkedNode<'t>) -> Result<Ma
 // The marked grove of that tree alone.
 fn grove_of<'t>(
     alloc: Global,
-    root: &'t Node,
+    root: LentNode<'t>,
     node: MarkedNode<'t>,
 ) -> Result<MarkedGrove<'t>, Fail>
     ensures { (types : List Typ) → IsMarkedNodeOf types node.entry → IfOk result (IsMarkedGroveOf types) }
@@ -65,20 +65,21 @@ fn grove_of<'t>(
 #[test]
 fn a_marked_grove_is_printed(rt: HostRuntime) -> Result<(), Fail> {
     let types = TypeTable::new(rt.alloc())?;
-    let root = root();
-    let node = Node {
+    let head = Vertex::ROOT;
+    let root = head_of(&head);
+    let node = LentNode {
         depth: 1,
         position: Some(Position::Main),
         edge: None,
-        what: What::Hole(Sort::Exp),
+        what: LentWhat::Hole(Sort::Exp),
     };
     let hole = MarkedNode {
-        node: &node,
+        node,
         mode: Some(Mode::Ana(types.boolean())),
         typ: Some(types.num()),
         mark: Mark::Inconsistent,
     };
-    let marked = grove_of(rt.alloc(), &root, hole)?;
+    let marked = grove_of(rt.alloc(), root, hole)?;
     let mut text = Vec::new(rt.alloc());
     print_grove(&marked, &types, &mut text)?;
     assert_eq!(rt;
@@ -97,20 +98,21 @@ cycle 0
 #[test]
 fn a_tree_is_printed_by_itself(rt: HostRuntime) -> Result<(), Fail> {
     let types = TypeTable::new(rt.alloc())?;
-    let root = root();
-    let node = Node {
+    let head = Vertex::ROOT;
+    let root = head_of(&head);
+    let node = LentNode {
         depth: 1,
         position: Some(Position::Main),
         edge: None,
-        what: What::Hole(Sort::Exp),
+        what: LentWhat::Hole(Sort::Exp),
     };
     let free = MarkedNode {
-        node: &node,
+        node,
         mode: Some(Mode::Syn),
         typ: Some(types.unknown()),
         mark: Mark::Free,
     };
-    let tree = tree_of(rt.alloc(), &root, free)?;
+    let tree = tree_of(rt.alloc(), root, free)?;
     let mut text = Vec::new(rt.alloc());
     print_heading(Section::NoParent, 1, &mut text)?;
     print_tree(&tree, &types, &mut text)?;
@@ -140,20 +142,21 @@ fn a_marked_line_stands_alone(rt: HostRuntime) -> Result<(), Fail> {
         position: Position::Main,
         target: choose,
     };
-    let root = root();
-    let node = Node {
+    let head = Vertex::ROOT;
+    let root = head_of(&head);
+    let node = LentNode {
         depth: 1,
         position: Some(Position::Main),
-        edge: Some(edge),
-        what: What::Vertex(choose),
+        edge: Some(&edge),
+        what: LentWhat::Vertex(&choose),
     };
     let marked_node = MarkedNode {
-        node: &node,
+        node,
         mode: Some(Mode::Syn),
         typ: Some(types.unknown()),
         mark: Mark::Branches,
     };
-    let marked = grove_of(rt.alloc(), &root, marked_node)?;
+    let marked = grove_of(rt.alloc(), root, marked_node)?;
     let mut text = Vec::new(rt.alloc());
     print_marked_lines(&marked, &types, &mut text)?;
     assert_eq!(rt;
@@ -176,20 +179,21 @@ fn an_injection_against_a_number_is_printed(rt: HostRuntime) -> Result<(), Fail>
         position: Position::Left,
         target: injection,
     };
-    let root = root();
-    let node = Node {
+    let head = Vertex::ROOT;
+    let root = head_of(&head);
+    let node = LentNode {
         depth: 2,
         position: Some(Position::Left),
-        edge: Some(edge),
-        what: What::Vertex(injection),
+        edge: Some(&edge),
+        what: LentWhat::Vertex(&injection),
     };
     let marked_node = MarkedNode {
-        node: &node,
+        node,
         mode: Some(Mode::Ana(types.num())),
         typ: Some(types.num()),
         mark: Mark::InjAgainst,
     };
-    let marked = grove_of(rt.alloc(), &root, marked_node)?;
+    let marked = grove_of(rt.alloc(), root, marked_node)?;
     let mut text = Vec::new(rt.alloc());
     print_marked_lines(&marked, &types, &mut text)?;
     assert_eq!(rt;

@@ -2,6 +2,7 @@
 use Rattle.std.proofs.Common.{◌≡◌, ℕ, zero, suc, List, [], ◌∷◌, ◌++◌, length, set, Option, Some, None, IfSome, refl, ap, ◌∙◌}
 use Rattle.std.specs.Prelude.{slice_get}
 use Rattle.std.specs.Option.{option_map}
+use Rattle.grove_terms.specs.Lent.{node_of}
 use Rattle.mark_step.specs.declared.node.Mark.{Mark}
 use Rattle.type_core.specs.declared.type_id.TypeId.{TypeId}
 use Rattle.type_core.specs.Typ.{Typ}
@@ -39,8 +40,8 @@ module _ (old new : List Typ) (keeps : KeepsTypes old new) where
 
   pub meant_kept : (m : MarkedNode) → IsMarkedNodeOf old m → meant new m ≡ meant old m
   meant_kept m h =
-      ap (λ (w : Option Wanted). record { node = m.node.now; wanted = w; typ = option_map (type_at new) m.typ; mark = m.mark }) (some_wanted_kept m.mode h.mode)
-      ∙ ap (λ (t : Option Typ). record { node = m.node.now; wanted = option_map (wanted_at old) m.mode; typ = t; mark = m.mark }) (some_type_kept m.typ h.typ)
+      ap (λ (w : Option Wanted). record { node = node_of m.node; wanted = w; typ = option_map (type_at new) m.typ; mark = m.mark }) (some_wanted_kept m.mode h.mode)
+      ∙ ap (λ (t : Option Typ). record { node = node_of m.node; wanted = option_map (wanted_at old) m.mode; typ = t; mark = m.mark }) (some_type_kept m.typ h.typ)
 
   pub marked_nodes_kept : (ms : List MarkedNode) → AreMarkedNodesOf old ms → AreMarkedNodesOf new ms
   marked_nodes_kept [] all = tt

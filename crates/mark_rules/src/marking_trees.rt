@@ -18,7 +18,7 @@ use type_core::TypeTable;
 /// runs out.
 pub fn mark_tree<'t>(
     alloc: Global,
-    tree: &'t Tree,
+    tree: &Tree<'t>,
     types: &mut TypeTable,
     ctxs: &mut CtxTable,
 ) -> Result<MarkedTree<'t>, NoMemory>
@@ -40,7 +40,7 @@ pub fn mark_tree<'t>(
 
 fn mark_trees<'t>(
     alloc: Global,
-    trees: &'t TreeList,
+    trees: &TreeList<'t>,
     types: &mut TypeTable,
     ctxs: &mut CtxTable,
 ) -> Result<MarkedTreeList<'t>, NoMemory>
@@ -61,7 +61,7 @@ fn mark_trees<'t>(
 /// runs out.
 pub fn mark_grove<'t>(
     alloc: Global,
-    grove: &'t Grove,
+    grove: &Grove<'t>,
     types: &mut TypeTable,
     ctxs: &mut CtxTable,
 ) -> Result<MarkedGrove<'t>, NoMemory>

@@ -1,6 +1,7 @@
 ghost use Rattle.std.specs.Prelude.{◌≡◌, ◌-◌, List, ◌∷◌, ◌++◌, [], length, slice_get, IfOk, OnOk, IfSome};
 ghost use Rattle.std.specs.Option.{option_map};
 ghost use Rattle.grove_sorts.specs.Ctor.{sort_of_ctor};
+ghost use Rattle.grove_terms.specs.Lent.{node_of, what_of};
 ghost use Rattle.type_core.specs.Typ.{Typ};
 ghost use Rattle.type_core.specs.TypeTable.{KeepsTypes};
 ghost use Rattle.ctx_table.specs.CtxTable.{KeepsContexts};
@@ -16,7 +17,7 @@ ghost use Rattle.mark_rules.specs.Walking.{state_at, given_on, IsWalkOf};
 use crate::no_memory::NoMemory;
 use ctx_table::CtxTable;
 use grove_sorts::{Sort, position_count, sort_of};
-use grove_terms::{Node, What};
+use grove_terms::{LentNode, LentWhat};
 use judging::{Frame, Given, OpenVertex, close, demand_next, fill, fresh, nothing};
 use mark_step::{Demand, Mark, Mode};
 use marking::{MarkedNode, MarkedTree};
@@ -32,12 +33,12 @@ pub(crate) struct Walk<'t> {
 }
 
 // The node of an open vertex, which is not marked yet.
-fn unsettled(node: &Node) -> MarkedNode
-    ensures node { (types : List Typ) → meant types result ≡ machine.unsettled node.now }
+fn unsettled<'t>(node: &LentNode<'t>) -> MarkedNode<'t>
+    ensures node { (types : List Typ) → meant types result ≡ machine.unsettled (node_of node.now) }
     ensures numbers { (types : List Typ) → IsMarkedNodeOf types result }
 {
     MarkedNode {
-        node,
+        node: *node,
         mode: None,
         typ: None,
         mark: Mark::None,
@@ -45,9 +46,9 @@ fn unsettled(node: &Node) -> MarkedNode
 }
 
 // The node of a position without a sole child, or of a reference.
-fn plain<'t>(types: &TypeTable, sort: Sort, mode: Mode, node: &'t Node) -> MarkedNode<'t>
+fn plain<'t>(types: &TypeTable, sort: Sort, mode: Mode, node: &LentNode<'t>) -> MarkedNode<'t>
     requires { IsModeOf types.now mode }
-    ensures node { meant types.now result ≡ marked_plain sort (wanted_at types.now mode) node.now }
+    ensures node { meant types.now result ≡ marked_plain sort (wanted_at types.now mode) (node_of node.now) }
     ensures numbers { IsMarkedNodeOf types.now result }
 {
     let unknown = types.unknown();
@@ -57,7 +58,7 @@ fn plain<'t>(types: &TypeTable, sort: Sort, mode: Mode, node: &'t Node) -> Marke
         Sort::Pat | Sort::Top => (None, None),
     };
     MarkedNode {
-        node,
+        node: *node,
         mode,
         typ,
         mark: Mark::None,
@@ -70,11 +71,11 @@ fn list_plain<'t>(
     out: &mut MarkedTree<'t>,
     sort: Sort,
     mode: Mode,
-    node: &'t Node,
+    node: &LentNode<'t>,
 ) -> Result<Given<'t>, NoMemory>
     requires mode { IsModeOf types.now mode }
     requires out { AreMarkedNodesOf types.now out.old }
-    ensures out { OnOk result (meant_nodes types.now out.new ≡ meant_nodes types.now out.old ++ marked_plain sort (wanted_at types.now mode) node.now ∷ []) }
+    ensures out { OnOk result (meant_nodes types.now out.new ≡ meant_nodes types.now out.old ++ marked_plain sort (wanted_at types.now mode) (node_of node.now) ∷ []) }
     ensures numbers { OnOk result (AreMarkedNodesOf types.now out.new) }
     ensures given { IfOk result (λ given. given_at types.now given ≡ machine.nothing) }
     ensures given_number { IfOk result (IsGivenOf types.now) }
@@ -176,12 +177,12 @@ fn begin<'t>(
     types: &mut TypeTable,
     ctxs: &CtxTable,
     walk: &mut Walk<'t>,
-    node: &'t Node,
+    node: &LentNode<'t>,
     demand: Demand,
 ) -> Result<Option<Given<'t>>, NoMemory>
     requires walk { IsWalkOf types.old ctxs.now walk.old }
     requires demand { IsDemandOf types.old ctxs.now demand }
-    ensures state { IfOk result (λ g. given_on types.new ctxs.now g walk.new ≡ taken node.now.what node.now (demanded_at types.old ctxs.now demand)
+    ensures state { IfOk result (λ g. given_on types.new ctxs.now g walk.new ≡ taken (what_of node.now.what) (node_of node.now) (demanded_at types.old ctxs.now demand)
         (frames_at types.old ctxs.now walk.old.frames.items) (meant_nodes types.old walk.old.out)) }
     ensures given { IfOk result (λ given. IfSome given (IsGivenOf types.new)) }
     ensures walk { OnOk result (IsWalkOf types.new ctxs.now walk.new) }
@@ -189,23 +190,23 @@ fn begin<'t>(
 {
     let mode = demand.mode;
     let place = walk.out.len();
-    match &node.what {
-        What::Vertex(vertex) => {
+    match node.what {
+        LentWhat::Vertex(vertex) => {
             walk.out.push(unsettled(node))?;
             let begun = fresh(types, &vertex.ctor, demand);
             go_on(alloc, types, ctxs, walk, place, &begun)
         }
-        What::Hole(sort) => Ok(Some(list_plain(types, &mut walk.out, *sort, mode, node)?)),
-        What::Conflict(sort, count) => {
-            list_plain(types, &mut walk.out, *sort, mode, node)?;
+        LentWhat::Hole(sort) => Ok(Some(list_plain(types, &mut walk.out, sort, mode, node)?)),
+        LentWhat::Conflict(sort, count) => {
+            list_plain(types, &mut walk.out, sort, mode, node)?;
             let each = Demand {
                 ctx: demand.ctx,
                 mode: Mode::Syn,
             };
-            walk.frames.push((place, Frame::Several(each, *count)))?;
+            walk.frames.push((place, Frame::Several(each, count)))?;
             Ok(None)
         }
-        What::MultiRef(vertex) | What::CycleRef(vertex) => {
+        LentWhat::MultiRef(vertex) | LentWhat::CycleRef(vertex) => {
             let sort = sort_of(&vertex.ctor);
             Ok(Some(list_plain(types, &mut walk.out, sort, mode, node)?))
         }
@@ -225,10 +226,10 @@ pub(crate) fn take<'t>(
     types: &mut TypeTable,
     ctxs: &mut CtxTable,
     walk: &mut Walk<'t>,
-    node: &'t Node,
+    node: &LentNode<'t>,
 ) -> Result<(), NoMemory>
     requires walk { IsWalkOf types.old ctxs.old walk.old }
-    ensures state { OnOk result (state_at types.new ctxs.new walk.new ≡ step (state_at types.old ctxs.old walk.old) node.now) }
+    ensures state { OnOk result (state_at types.new ctxs.new walk.new ≡ step (state_at types.old ctxs.old walk.old) (node_of node.now)) }
     ensures walk { OnOk result (IsWalkOf types.new ctxs.new walk.new) }
     ensures types { KeepsTypes types.old types.new }
     ensures contexts { KeepsContexts ctxs.old ctxs.new }

@@ -4,7 +4,7 @@ use ctx_table::CtxTable;
 use grove_edits::Vertex;
 use grove_names::Name;
 use grove_sorts::{Ctor, Position, Sort};
-use grove_terms::{Grove, Node, Tree, TreeList, What};
+use grove_terms::{Grove, LentNode, LentWhat, Tree, TreeList};
 use mark_step::{Mark, Mode};
 use marking::{MarkedGrove, MarkedNode, MarkedTree, MarkedTreeList};
 use std::test::Fail;
@@ -13,15 +13,15 @@ use type_core::TypeTable;
 #[test]
 fn a_hole_is_a_hole_again(rt: HostRuntime) -> Result<(), Fail> {
     let types = TypeTable::new(rt.alloc())?;
-    let node = Node {
+    let node = LentNode {
         depth: 1,
         position: Some(Position::Main),
         edge: None,
-        what: What::Hole(Sort::Exp),
+        what: LentWhat::Hole(Sort::Exp),
     };
     let mut tree = MarkedTree::new(rt.alloc());
     tree.push(MarkedNode {
-        node: &node,
+        node,
         mode: Some(Mode::Syn),
         typ: Some(types.unknown()),
         mark: Mark::None,
@@ -37,22 +37,20 @@ fn a_hole_is_a_hole_again(rt: HostRuntime) -> Result<(), Fail> {
     };
     let grove = erase(rt.alloc(), &marked)?;
     assert_eq!(rt; grove.none.len(), 1);
-    assert_eq!(rt; grove.none.get(0).and_then(|tree| tree.get(0)), Some(node));
+    assert_eq!(rt;
+        grove.none.get(0).and_then(|tree| tree.get(0)),
+        Some(node.node())
+    );
     assert_eq!(rt; grove.multi.len() + grove.cycle.len(), 0);
     Ok(())
 }
 
-const SEVEN: Node = Node {
-    depth: 0,
-    position: None,
-    edge: None,
-    what: What::Vertex(Vertex {
-        name: Name {
-            author: 1,
-            counter: 1,
-        },
-        ctor: Ctor::Num(7),
-    }),
+const SEVEN: Vertex = Vertex {
+    name: Name {
+        author: 1,
+        counter: 1,
+    },
+    ctor: Ctor::Num(7),
 };
 
 #[test]
@@ -60,7 +58,13 @@ fn a_number_is_marked(rt: HostRuntime) -> Result<(), Fail> {
     let mut types = TypeTable::new(rt.alloc())?;
     let mut ctxs = CtxTable::new(rt.alloc())?;
     let mut tree = Tree::new(rt.alloc());
-    let seven = SEVEN;
+    let vertex = SEVEN;
+    let seven = LentNode {
+        depth: 0,
+        position: None,
+        edge: None,
+        what: LentWhat::Vertex(&vertex),
+    };
     tree.push(seven)?;
     let mut none = TreeList::new(rt.alloc());
     none.push(tree)?;
@@ -73,7 +77,7 @@ fn a_number_is_marked(rt: HostRuntime) -> Result<(), Fail> {
     assert_eq!(rt;
         marked.none.get(0).and_then(|tree| tree.get(0)),
         Some(MarkedNode {
-            node: &seven,
+            node: seven,
             mode: Some(Mode::Syn),
             typ: Some(types.num()),
             mark: Mark::None,
