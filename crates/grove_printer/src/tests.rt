@@ -30,7 +30,11 @@ fn head_of(vertex: &Vertex) -> LentNode<'_> {
 }
 
 // The tree of the root and another node.
-fn tree_of<'t>(alloc: Global, root: LentNode<'t>, node: MarkedNode<'t>) -> Result<MarkedTree<'t>, Fail>
+fn tree_of<'t>(
+    alloc: Global,
+    root: LentNode<'t>,
+    node: MarkedNode<'t>,
+) -> Result<MarkedTree<'t>, Fail>
     ensures { (types : List Typ) → IsMarkedNodeOf types node.entry → IfOk result (AreMarkedNodesOf types) }
 {
     let head = MarkedNode {
