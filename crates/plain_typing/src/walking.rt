@@ -145,7 +145,9 @@ fn begin<'t>(
             walk.frames.push(Frame::Several(each, count))?;
             Ok(None)
         }
-        LentWhat::Hole(_) | LentWhat::MultiRef(_) | LentWhat::CycleRef(_) => Ok(Some(nothing(types))),
+        LentWhat::Hole(_) | LentWhat::MultiRef(_) | LentWhat::CycleRef(_) => {
+            Ok(Some(nothing(types)))
+        }
     }
 }
 
