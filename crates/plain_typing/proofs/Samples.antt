@@ -46,9 +46,10 @@ conflict_sorted = (
 
 -- ---- the nodes of a test are those of a tree
 
-pub two_under : (t : List Node) (h a b x y : Node) → t ≡ h ∷ a ∷ b ∷ [] → a ≡ x → b ≡ y → t ≡ h ∷ x ∷ y ∷ []
-two_under t h a b x y is first second = is ∙ ap (λ n. h ∷ n ∷ b ∷ []) first ∙ ap (λ n. h ∷ x ∷ n ∷ []) second
+pub two_under : (t : List Node) (g a b h x y : Node) → t ≡ g ∷ a ∷ b ∷ [] → g ≡ h → a ≡ x → b ≡ y → t ≡ h ∷ x ∷ y ∷ []
+two_under t g a b h x y is head first second = is ∙ ap (λ n. n ∷ a ∷ b ∷ []) head ∙ ap (λ n. h ∷ n ∷ b ∷ []) first ∙ ap (λ n. h ∷ x ∷ n ∷ []) second
 
-pub three_under : (t : List Node) (h k a b d x y z : Node) → t ≡ h ∷ k ∷ a ∷ b ∷ d ∷ [] → a ≡ x → b ≡ y → d ≡ z → t ≡ h ∷ k ∷ x ∷ y ∷ z ∷ []
-three_under t h k a b d x y z is first second third =
-    is ∙ ap (λ n. h ∷ k ∷ n ∷ b ∷ d ∷ []) first ∙ ap (λ n. h ∷ k ∷ x ∷ n ∷ d ∷ []) second ∙ ap (λ n. h ∷ k ∷ x ∷ y ∷ n ∷ []) third
+pub three_under : (t : List Node) (g k a b d h x y z : Node) → t ≡ g ∷ k ∷ a ∷ b ∷ d ∷ [] → g ≡ h → a ≡ x → b ≡ y → d ≡ z → t ≡ h ∷ k ∷ x ∷ y ∷ z ∷ []
+three_under t g k a b d h x y z is head first second third =
+    is ∙ ap (λ n. n ∷ k ∷ a ∷ b ∷ d ∷ []) head ∙ ap (λ n. h ∷ k ∷ n ∷ b ∷ d ∷ []) first ∙ ap (λ n. h ∷ k ∷ x ∷ n ∷ d ∷ []) second
+    ∙ ap (λ n. h ∷ k ∷ x ∷ y ∷ n ∷ []) third

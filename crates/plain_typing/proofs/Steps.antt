@@ -1,6 +1,7 @@
 -- What the walk stands for, step by step.
 use Rattle.std.proofs.Common.{◌≡◌, ◌↔◌, ℕ, zero, suc, ◌<◌, ◌≤◌, ◌⊎◌, inl, inr, Bool, true, false, List, [], ◌∷◌, ◌++◌, length, drop, Option, Some, None, refl, sym, ap, subst, ◌∙◌, arith, length-append}
 use Rattle.std.specs.Prelude.{◌||◌, ◌-◌, slice_get, Result, Ok, Err, IfOk, OnOk}
+use Rattle.std.specs.Borrow.{Bor}
 use Rattle.grove_sorts.specs.declared.position.Position.{Position}
 use Rattle.grove_sorts.specs.declared.sort.Sort.{Sort}
 use Rattle.grove_sorts.specs.Ctor.{positions, sort_of_ctor}
@@ -12,6 +13,9 @@ use Rattle.grove_edits.specs.declared.vertex.Vertex.{Vertex}
 use Rattle.grove_terms.specs.declared.node.Node.{Node}
 use Rattle.grove_terms.specs.declared.node.What.{What}
 use Rattle.grove_terms.specs.declared.node.What.TheVariants as whats
+use Rattle.grove_terms.specs.declared.node.LentWhat.{LentWhat}
+use Rattle.grove_terms.specs.declared.node.LentWhat.TheVariants as lent
+use Rattle.grove_terms.specs.Lent.{what_of}
 use Rattle.mark_step.specs.declared.node.Demand.{Demand}
 use Rattle.mark_step.specs.Expression.{Demanded, has_mark}
 use Rattle.mark_step.specs.Node.{demanded_at}
@@ -227,6 +231,13 @@ stands_plain types ctxs g walk sort n d gives s stands =
       unsettled = grown (frames_at types ctxs stands.frames) nodes m stands.unsettled;
       noted = (λ h. push.0 (stands.noted.0 h), λ h. stands.noted.1 (push.1 h));
     }
+
+-- what a lent hole or reference stands for is one
+pub leaf_of : (w : LentWhat) → ((sort : Sort) × (w ≡ lent.Hole sort)) ⊎ (((v : Bor Vertex) × (w ≡ lent.MultiRef v)) ⊎ ((v : Bor Vertex) × (w ≡ lent.CycleRef v)))
+    → ((sort : Sort) × (what_of w ≡ whats.Hole sort)) ⊎ (((v : Vertex) × (what_of w ≡ whats.MultiRef v)) ⊎ ((v : Vertex) × (what_of w ≡ whats.CycleRef v)))
+leaf_of w (inl (sort, is)) = inl (sort, ap what_of is)
+leaf_of w (inr (inl (v, is))) = inr (inl (v.now, ap what_of is))
+leaf_of w (inr (inr (v, is))) = inr (inr (v.now, ap what_of is))
 
 -- a hole or a reference is a node without children
 pub stands_leaf : (types : List Typ) (ctxs : List Context) (g : Given) (walk : Walk) (n : Node) (w : What) (d : Demanded) → given_at types g ≡ machine.nothing

@@ -1,12 +1,14 @@
 ghost use Rattle.std.specs.Prelude.{◌≡◌, IfOk};
-ghost use Rattle.grove_terms.specs.Nodes.{child_node};
+ghost use Rattle.grove_terms.specs.declared.node.What.TheVariants as whats;
+ghost use Rattle.grove_terms.specs.Nodes.{child_node, head_node};
+ghost use Rattle.grove_terms.specs.Lent.{node_of, nodes_of};
 
 use crate::checking::is_typed;
 use ctx_table::CtxTable;
 use grove_edits::{Edge, Vertex};
 use grove_names::Name;
 use grove_sorts::{Ctor, Position, Sort, Version, read_ident};
-use grove_terms::{NoMemory, Node, Tree, What};
+use grove_terms::{LentNode, LentWhat, NoMemory, Tree};
 use std::alloc::Global;
 use std::test::Fail;
 use type_core::TypeTable;
@@ -17,13 +19,6 @@ const SUM: Vertex = Vertex {
         counter: 1,
     },
     ctor: Ctor::Plus,
-};
-
-const HEAD: Node = Node {
-    depth: 0,
-    position: None,
-    edge: None,
-    what: What::Vertex(SUM),
 };
 
 const LEFT: Edge = Edge {
@@ -74,19 +69,30 @@ const RIGHT: Edge = Edge {
     },
 };
 
-fn child(depth: u64, edge: Edge) -> Node
-    ensures { result ≡ child_node depth edge.position edge (What.Vertex edge.target) }
+fn head<'g>(vertex: &'g Vertex) -> LentNode<'g>
+    ensures { node_of result ≡ head_node vertex.now }
 {
-    Node {
-        depth,
-        position: Some(edge.position),
-        edge: Some(edge),
-        what: What::Vertex(edge.target),
+    LentNode {
+        depth: 0,
+        position: None,
+        edge: None,
+        what: LentWhat::Vertex(vertex),
     }
 }
 
-fn tree_of(alloc: Global, nodes: &[Node]) -> Result<Tree, NoMemory>
-    ensures { IfOk result (λ tree. tree ≡ nodes.now) }
+fn child<'g>(depth: u64, edge: &'g Edge) -> LentNode<'g>
+    ensures { node_of result ≡ child_node depth edge.now.position edge.now (whats.Vertex edge.now.target) }
+{
+    LentNode {
+        depth,
+        position: Some(edge.position),
+        edge: Some(edge),
+        what: LentWhat::Vertex(&edge.target),
+    }
+}
+
+fn tree_of<'g>(alloc: Global, nodes: &[LentNode<'g>]) -> Result<Tree<'g>, NoMemory>
+    ensures { IfOk result (λ tree. tree ≡ nodes_of nodes.now) }
 {
     let mut tree = Tree::new(alloc);
     for node in nodes {
@@ -99,7 +105,8 @@ fn tree_of(alloc: Global, nodes: &[Node]) -> Result<Tree, NoMemory>
 fn a_sum_of_numbers_is_typed(rt: HostRuntime) -> Result<(), Fail> {
     let mut types = TypeTable::new(rt.alloc())?;
     let mut ctxs = CtxTable::new(rt.alloc())?;
-    let tree = tree_of(rt.alloc(), &[HEAD, child(1, LEFT), child(1, RIGHT)])?;
+    let (sum, left, right) = (SUM, LEFT, RIGHT);
+    let tree = tree_of(rt.alloc(), &[head(&sum), child(1, &left), child(1, &right)])?;
     assert_eq!(rt; is_typed(rt.alloc(), &tree, &mut types, &mut ctxs)?, true);
     Ok(())
 }
@@ -108,9 +115,9 @@ fn a_sum_of_numbers_is_typed(rt: HostRuntime) -> Result<(), Fail> {
 fn a_sum_with_a_free_variable_is_not_typed(rt: HostRuntime) -> Result<(), Fail> {
     let mut types = TypeTable::new(rt.alloc())?;
     let mut ctxs = CtxTable::new(rt.alloc())?;
-    let mut free = RIGHT;
+    let (sum, left, mut free) = (SUM, LEFT, RIGHT);
     free.target.ctor = Ctor::Var(read_ident(Version::Two, b"x")?);
-    let tree = tree_of(rt.alloc(), &[HEAD, child(1, LEFT), child(1, free)])?;
+    let tree = tree_of(rt.alloc(), &[head(&sum), child(1, &left), child(1, &free)])?;
     assert_eq!(rt; is_typed(rt.alloc(), &tree, &mut types, &mut ctxs)?, false);
     Ok(())
 }
@@ -119,18 +126,19 @@ fn a_sum_with_a_free_variable_is_not_typed(rt: HostRuntime) -> Result<(), Fail> 
 fn a_conflict_of_numbers_is_typed(rt: HostRuntime) -> Result<(), Fail> {
     let mut types = TypeTable::new(rt.alloc())?;
     let mut ctxs = CtxTable::new(rt.alloc())?;
-    let conflict = Node {
+    let (sum, left, also_left, right) = (SUM, LEFT, ALSO_LEFT, RIGHT);
+    let conflict = LentNode {
         depth: 1,
         position: Some(Position::Left),
         edge: None,
-        what: What::Conflict(Sort::Exp, 2),
+        what: LentWhat::Conflict(Sort::Exp, 2),
     };
     let nodes = [
-        HEAD,
+        head(&sum),
         conflict,
-        child(2, LEFT),
-        child(2, ALSO_LEFT),
-        child(1, RIGHT),
+        child(2, &left),
+        child(2, &also_left),
+        child(1, &right),
     ];
     let tree = tree_of(rt.alloc(), &nodes)?;
     assert_eq!(rt; is_typed(rt.alloc(), &tree, &mut types, &mut ctxs)?, true);

@@ -2,6 +2,7 @@ ghost use Rattle.std.specs.Prelude.{◌≡◌, ◌∷◌, ◌-◌, ℕ, List, le
 ghost use Rattle.std.specs.Option.{option_map};
 ghost use Rattle.type_core.specs.TypeTable.{KeepsTypes};
 ghost use Rattle.ctx_table.specs.CtxTable.{KeepsContexts};
+ghost use Rattle.grove_terms.specs.Lent.{node_of};
 ghost use Rattle.mark_step.specs.Node.{demanded_at, IsDemandOf};
 ghost use Rattle.marking.specs.Marking.{MarkedNode};
 ghost use Rattle.judging.specs.Machine.{State, deliver, opened, taken, step};
@@ -11,7 +12,7 @@ ghost use Rattle.plain_typing.specs.Walking.{IsUnmarkedAt, AreUnsettled, IsNoted
 use crate::no_memory::NoMemory;
 use ctx_table::CtxTable;
 use grove_sorts::position_count;
-use grove_terms::{Node, What};
+use grove_terms::{LentNode, LentWhat};
 use judging::{Frame, Given, OpenVertex, close, demand_next, fill, fresh, nothing};
 use mark_step::{Demand, Mode};
 use std::alloc::Global;
@@ -120,31 +121,33 @@ fn begin<'t>(
     types: &mut TypeTable,
     ctxs: &CtxTable,
     walk: &mut Walk<'t>,
-    node: &'t Node,
+    node: &LentNode<'t>,
     demand: Demand,
 ) -> Result<Option<Given<'t>>, NoMemory>
     requires frames { AreFramesOf types.old ctxs.now walk.old.frames.items }
     requires demand { IsDemandOf types.old ctxs.now demand }
     ensures state { IfOk result (λ given. (s : State) → StandsFor types.old ctxs.now None walk.old s
-        → StandsFor types.new ctxs.now given walk.new (taken node.now.what node.now (demanded_at types.old ctxs.now demand) s.frames s.out)) }
+        → StandsFor types.new ctxs.now given walk.new (taken (node_of node.now).what (node_of node.now) (demanded_at types.old ctxs.now demand) s.frames s.out)) }
     ensures given { IfOk result (λ given. IfSome given (IsGivenOf types.new)) }
     ensures frames { OnOk result (AreFramesOf types.new ctxs.now walk.new.frames.items) }
     ensures kept { KeepsTypes types.old types.new }
 {
-    match &node.what {
-        What::Vertex(vertex) => {
+    match node.what {
+        LentWhat::Vertex(vertex) => {
             let begun = fresh(types, &vertex.ctor, demand);
             go_on(alloc, types, ctxs, walk, &begun)
         }
-        What::Conflict(_, count) => {
+        LentWhat::Conflict(_, count) => {
             let each = Demand {
                 ctx: demand.ctx,
                 mode: Mode::Syn,
             };
-            walk.frames.push(Frame::Several(each, *count))?;
+            walk.frames.push(Frame::Several(each, count))?;
             Ok(None)
         }
-        What::Hole(_) | What::MultiRef(_) | What::CycleRef(_) => Ok(Some(nothing(types))),
+        LentWhat::Hole(_) | LentWhat::MultiRef(_) | LentWhat::CycleRef(_) => {
+            Ok(Some(nothing(types)))
+        }
     }
 }
 
@@ -160,11 +163,11 @@ pub(crate) fn take<'t>(
     types: &mut TypeTable,
     ctxs: &mut CtxTable,
     walk: &mut Walk<'t>,
-    node: &'t Node,
+    node: &LentNode<'t>,
 ) -> Result<(), NoMemory>
     requires frames { AreFramesOf types.old ctxs.old walk.old.frames.items }
     ensures state { OnOk result ((s : State) → StandsFor types.old ctxs.old None walk.old s
-        → StandsFor types.new ctxs.new None walk.new (step s node.now)) }
+        → StandsFor types.new ctxs.new None walk.new (step s (node_of node.now))) }
     ensures frames { OnOk result (AreFramesOf types.new ctxs.new walk.new.frames.items) }
     ensures types { KeepsTypes types.old types.new }
     ensures contexts { KeepsContexts ctxs.old ctxs.new }

@@ -3,7 +3,7 @@ ghost use Rattle.mark_incremental.specs.Reading.{AreRecordsOf};
 use crate::fault::Fault;
 use grove_edits::{Edit, Vertex};
 use grove_printer::print_tree;
-use grove_terms::{Node, What};
+use grove_terms::{LentNode, LentWhat};
 use mark_incremental::Marks;
 use marking::{MarkedNode, MarkedTree};
 use replica_core::MarkedReplica;
@@ -54,15 +54,15 @@ fn append_kept(
     let Some(record) = marks.kept(vertex) else {
         return Ok(());
     };
-    let node = Node {
+    let node = LentNode {
         depth: 0,
         position: None,
         edge: None,
-        what: What::Vertex(*vertex),
+        what: LentWhat::Vertex(vertex),
     };
     let mut tree = MarkedTree::new(alloc);
     tree.push(MarkedNode {
-        node: &node,
+        node,
         mode: record.mode,
         typ: record.typ,
         mark: record.mark,
