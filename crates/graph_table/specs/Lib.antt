@@ -1,4 +1,5 @@
 pub mod Table
+pub mod Named
 pub mod Numbering
 pub mod Around
 pub mod ParentIndices

@@ -6,6 +6,7 @@ mod around;
 mod child;
 mod gathering;
 mod graph_table;
+mod named_number;
 mod no_memory;
 mod numbered;
 mod numbering;
