@@ -2,4 +2,6 @@ pub mod Table
 pub mod Named
 pub mod Numbering
 pub mod Around
+pub mod Chain
+pub mod Parts
 pub mod ParentIndices

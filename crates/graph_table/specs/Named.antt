@@ -1,5 +1,5 @@
 -- Inner model, which no public contract cites: numbers of vertices, listed with the names of their vertices.
-use Rattle.std.specs.Prelude.{◌≡◌, ℕ, ◌<◌, List, map, length, slice_get}
+use Rattle.std.specs.Prelude.{◌<◌, List, length, slice_get}
 use Rattle.std.specs.List.{AllByRecursion}
 use Rattle.grove_edits.specs.declared.vertex.Vertex.{Vertex}
 use Rattle.graph_table.specs.declared.named_number.NamedNumber.{NamedNumber}
