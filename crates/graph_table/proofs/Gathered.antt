@@ -1,40 +1,39 @@
 -- What is around the vertices after one more edit.
-use Rattle.std.proofs.Common.{◌≡◌, ℕ, zero, suc, ◌+◌, ◌<◌, Bool, true, false, cond, List, [], ◌∷◌, ◌++◌, length, get_or, set, take, slice_get, map, Some, replicate, refl, sym, ap, subst, ◌∙◌, arith, append_assoc}
+use Rattle.std.proofs.Common.{◌≡◌, ℕ, zero, suc, ◌+◌, ◌<◌, Bool, true, false, cond, List, [], ◌∷◌, ◌++◌, length, get_or, set, take, slice_get, map, Some, replicate, refl, sym, ap, subst, ◌∙◌, arith}
 use Rattle.std.specs.Prelude.{◌&&◌}
 use Rattle.std.specs.List.{IsDistinct, AllByRecursion}
 use Rattle.std.proofs.lemmas.List.{append-nil, take_more, length-map, length-take-le}
 use Rattle.std.proofs.lemmas.Option.{slice_get_within}
 use Rattle.std.proofs.Math.Seq.{take-append_seam}
+use Rattle.std.proofs.Math.ListN.{length-set}
 use Rattle.std.proofs.lemmas.Map.Keys.{IsDistinct-head, IsDistinct-tail}
-use Rattle.grove_sorts.specs.declared.position.Position.{Position}
 use Rattle.grove_edits.specs.declared.vertex.Vertex.{Vertex}
 use Rattle.grove_edits.specs.declared.edit.Edit.{Edit}
 use Rattle.grove_edits.specs.Edit.{edit_edge, edit_kind}
 use Rattle.grove_edits.specs.Vertex.{is_same_vertex}
-use Rattle.grove_sorts.specs.Position.{is_same_position}
 use Rattle.grove_edits.proofs.Vertices.{same_vertex_laws, same_vertex_itself}
-use Rattle.graph_table.specs.declared.child.Child.{Child}
+use Rattle.graph_table.specs.declared.link.Link.{Link}
 use Rattle.graph_table.specs.Table.{is_insertion}
-use Rattle.graph_table.specs.Around.{Neighbours, no_neighbours, with_parent, first_indices, child, indices_at, leads_from, leads_to, children_from, parents_from, neighbours, at, with_child_at, with_parent_at, noted}
+use Rattle.graph_table.specs.Around.{Child, Ends, Neighbours, no_ends, no_neighbours, with_parent, first_indices, child, leads_from, leads_to, children_from, parents_from, neighbours, ends_at, with_last_at, with_parent_at, ends_noted, link_of}
+use Rattle.graph_table.specs.Chain.{AreAround}
+use Rattle.graph_table.proofs.Chains.{around_set, around_at, around_count, around_pushed, child_linked}
 
--- ---- the children at a position
+-- ---- what is around the vertices, changed at one
 
-indices_append : (p : Position) (cs : List Child) (c : Child) → indices_at p (cs ++ c ∷ []) ≡ indices_at p cs ++ cond (is_same_position c.position p) (c.index ∷ []) []
-indices_append p [] c = refl
-indices_append p (x ∷ cs) c = by_test (is_same_position x.position p) (indices_append p cs c) where
-  by_test : (b : Bool) → indices_at p (cs ++ c ∷ []) ≡ indices_at p cs ++ cond (is_same_position c.position p) (c.index ∷ []) []
-      → cond b (x.index ∷ indices_at p (cs ++ c ∷ [])) (indices_at p (cs ++ c ∷ [])) ≡ cond b (x.index ∷ indices_at p cs) (indices_at p cs) ++ cond (is_same_position c.position p) (c.index ∷ []) []
-  by_test true rest = ap (λ is. x.index ∷ is) rest
-  by_test false rest = rest
+abbrev pub at : List Neighbours → ℕ → Neighbours
+at around number = get_or around number no_neighbours
 
--- what the code's loop over the children keeps
-pub indices_more : (p : Position) (cs : List Child) (i : ℕ) (d : Child) (b : Bool) (out now new : List ℕ) → i < length cs → b ≡ is_same_position (get_or cs i d).position p
-    → now ≡ out ++ indices_at p (take i cs) → new ≡ now ++ cond b ((get_or cs i d).index ∷ []) [] → new ≡ out ++ indices_at p (take (i + 1) cs)
-indices_more p cs i d b out now new within same before is =
-    let c = get_or cs i d in
-    let more : indices_at p (take (i + 1) cs) ≡ indices_at p (take i cs) ++ cond b (c.index ∷ []) [] =
-    ap (indices_at p) (take_more cs i d within) ∙ indices_append p (take i cs) c ∙ ap (λ t. indices_at p (take i cs) ++ cond t (c.index ∷ []) []) (sym same) in
-    is ∙ ap (λ l. l ++ cond b (c.index ∷ []) []) before ∙ append_assoc out (indices_at p (take i cs)) (cond b (c.index ∷ []) []) ∙ ap (λ l. out ++ l) (sym more)
+-- the vertex with a number has one more child
+abbrev pub with_child_at : ℕ → Child → List Neighbours → List Neighbours
+with_child_at number c around = set around number (record { children = (at around number).children ++ c ∷ []; parents = (at around number).parents })
+
+-- the vertex with a number has one more parent
+abbrev pub with_parent_to : ℕ → ℕ → List Neighbours → List Neighbours
+with_parent_to number index around = set around number (record { children = (at around number).children; parents = with_parent (at around number).parents index })
+
+-- what is around the vertices after an edit with an index, whose ends have these numbers
+abbrev pub noted : ℕ → Edit → ℕ → ℕ → List Neighbours → List Neighbours
+noted index edit source target around = cond (is_insertion (edit_kind edit)) (with_parent_to target index (with_child_at source (child index (edit_edge edit)) around)) around
 
 -- ---- one more edit
 
@@ -167,7 +166,7 @@ module _ (edits : List Edit) (edit : Edit) (vs : List Vertex) (s t : ℕ) (once 
       (ap (λ (n : Neighbours). record { children = n.children ++ child (length edits) (edit_edge edit) ∷ []; parents = n.parents }) found ∙ halfway_source edits edit inserts)
       (halfway_other edits edit inserts)
 
-  noted_target : is_insertion (edit_kind edit) ≡ true → with_parent_at t (length edits) (map (halfway edits edit) vs) ≡ map (neighbours (edits ++ edit ∷ [])) vs
+  noted_target : is_insertion (edit_kind edit) ≡ true → with_parent_to t (length edits) (map (halfway edits edit) vs) ≡ map (neighbours (edits ++ edit ∷ [])) vs
   noted_target inserts =
       let found = at_number (halfway edits edit) vs t (edit_edge edit).target at_target in
       changed_at (halfway edits edit) (neighbours (edits ++ edit ∷ [])) vs t (edit_edge edit).target _ once at_target
@@ -177,8 +176,8 @@ module _ (edits : List Edit) (edit : Edit) (vs : List Vertex) (s t : ℕ) (once 
   noted_is : noted (length edits) edit s t (map (neighbours edits) vs) ≡ map (neighbours (edits ++ edit ∷ [])) vs
   noted_is = by_kind (is_insertion (edit_kind edit)) refl where
     by_kind : (b : Bool) → is_insertion (edit_kind edit) ≡ b
-        → cond b (with_parent_at t (length edits) (with_child_at s (child (length edits) (edit_edge edit)) (map (neighbours edits) vs))) (map (neighbours edits) vs) ≡ map (neighbours (edits ++ edit ∷ [])) vs
-    by_kind true inserts = ap (with_parent_at t (length edits)) (noted_source inserts) ∙ noted_target inserts
+        → cond b (with_parent_to t (length edits) (with_child_at s (child (length edits) (edit_edge edit)) (map (neighbours edits) vs))) (map (neighbours edits) vs) ≡ map (neighbours (edits ++ edit ∷ [])) vs
+    by_kind true inserts = ap (with_parent_to t (length edits)) (noted_source inserts) ∙ noted_target inserts
     by_kind false deletes = λ j. map (λ v. same_after_deletion edits edit deletes v j) vs
 
 -- the same of what the code's loop keeps
@@ -195,17 +194,58 @@ module _ (edits : List Edit) (edit : Edit) (vs : List Vertex) (i s t : ℕ) (aro
       ∙ noted_is (take i edits) edit vs s t once at_source at_target
       ∙ ap (λ es. map (neighbours es) vs) more
 
-  -- a slice that is written back whole
-  pub whole : (len : ℕ) (rest : List Neighbours) → len ≡ length around → around ≡ map (neighbours (take i edits)) vs → new ≡ map (neighbours (take (i + 1) edits)) vs
-      → take len (new ++ rest) ≡ map (neighbours (take (i + 1) edits)) vs
-  whole len rest is before after_is =
-      let old : length around ≡ length vs = ap length before ∙ length-map vs (neighbours (take i edits)) in
-      let same : length new ≡ length vs = ap length after_is ∙ length-map vs (neighbours (take (i + 1) edits)) in
-      let all : len ≡ length new = is ∙ old ∙ sym same in
-      ap (λ n. take n (new ++ rest)) all ∙ take-append_seam new rest ∙ after_is
+-- the same of what the code keeps
+module _ (edits : List Edit) (edit : Edit) (vs : List Vertex) (i s t : ℕ) (links new_links : List Link) (es new : List Ends) (once : IsDistinct is_same_vertex vs)
+    (within : i < length edits) (read : edit ≡ get_or edits i edit)
+    (at_source : slice_get vs s ≡ Some (edit_edge edit).source) (at_target : slice_get vs t ≡ Some (edit_edge edit).target)
+    (count : length links ≡ i) (kept : AreAround links es (map (neighbours (take i edits)) vs)) where
+  abbrev before : List Neighbours
+  before = map (neighbours (take i edits)) vs
 
-pub number_within : (f : Vertex → Neighbours) (vs : List Vertex) (around : List Neighbours) (n : ℕ) (v : Vertex) → slice_get vs n ≡ Some v → around ≡ map f vs → n < length around
-number_within f vs around n v is are = omega (arith, slice_get_within vs n v is, ap length are ∙ length-map vs f)
+  abbrev linked : List Link
+  linked = links ++ link_of edit s es ∷ []
+
+  as_many : length es ≡ length vs
+  as_many = around_count links es before kept ∙ length-map vs (neighbours (take i edits))
+
+  source_set : AreAround linked (with_last_at s i es) (with_child_at s (child i (edit_edge edit)) before)
+  source_set =
+      around_set linked es before s (record { last = i + 1; parents = (ends_at es s).parents }) (record { children = (at before s).children ++ child i (edit_edge edit) ∷ []; parents = (at before s).parents })
+      (around_pushed links (link_of edit s es) es before kept)
+      (child_linked links (ends_at es s) (at before s) (edit_edge edit).position i count
+      (around_at links es before s no_ends no_neighbours kept (omega (arith, as_many, slice_get_within vs s _ at_source))))
+
+  both_set : AreAround linked (with_parent_at t i (with_last_at s i es)) (with_parent_to t i (with_child_at s (child i (edit_edge edit)) before))
+  both_set =
+      let first = with_last_at s i es in
+      let second = with_child_at s (child i (edit_edge edit)) before in
+      let inside : t < length first = omega (arith, as_many, slice_get_within vs t _ at_target, length-set es s (record { last = i + 1; parents = (ends_at es s).parents })) in
+      let here = around_at linked first second t no_ends no_neighbours source_set inside in
+      around_set linked first second t (record { last = (ends_at first t).last; parents = with_parent (ends_at first t).parents i })
+      (record { children = (at second t).children; parents = with_parent (at second t).parents i }) source_set (here.0, ap (λ p. with_parent p i) here.1)
+
+  kept_noted : AreAround linked (ends_noted i edit s t es) (noted i edit s t before)
+  kept_noted = by_kind (is_insertion (edit_kind edit)) where
+    by_kind : (b : Bool) → AreAround linked (cond b (with_parent_at t i (with_last_at s i es)) es) (cond b (with_parent_to t i (with_child_at s (child i (edit_edge edit)) before)) before)
+    by_kind true = both_set
+    by_kind false = around_pushed links (link_of edit s es) es before kept
+
+  pub kept_more : new_links ≡ linked → new ≡ ends_noted i edit s t es → AreAround new_links new (map (neighbours (take (i + 1) edits)) vs)
+  kept_more links_are are =
+      subst (λ ls. AreAround ls new (map (neighbours (take (i + 1) edits)) vs)) (sym links_are)
+      (subst (λ xs. AreAround linked xs (map (neighbours (take (i + 1) edits)) vs)) (sym are)
+      (subst (AreAround linked (ends_noted i edit s t es)) (noted_more edits edit vs i s t before (noted i edit s t before) once within read at_source at_target refl refl) kept_noted))
+
+  -- a slice that is written back whole
+  pub whole : (len : ℕ) (rest : List Ends) → len ≡ length es → AreAround new_links new (map (neighbours (take (i + 1) edits)) vs)
+      → AreAround new_links (take len (new ++ rest)) (map (neighbours (take (i + 1) edits)) vs)
+  whole len rest is after_is =
+      let same : length new ≡ length vs = around_count new_links new (map (neighbours (take (i + 1) edits)) vs) after_is ∙ length-map vs (neighbours (take (i + 1) edits)) in
+      let all : len ≡ length new = is ∙ as_many ∙ sym same in
+      subst (λ xs. AreAround new_links xs (map (neighbours (take (i + 1) edits)) vs)) (sym (ap (λ n. take n (new ++ rest)) all ∙ take-append_seam new rest)) after_is
+
+pub number_within : (f : Vertex → Neighbours) (links : List Link) (vs : List Vertex) (es : List Ends) (n : ℕ) (v : Vertex) → slice_get vs n ≡ Some v → AreAround links es (map f vs) → n < length es
+number_within f links vs es n v is are = omega (arith, slice_get_within vs n v is, around_count links es (map f vs) are, length-map vs f)
 
 pub nothing_noted : (vs : List Vertex) → replicate (length vs) no_neighbours ≡ map (neighbours []) vs
 nothing_noted [] = refl

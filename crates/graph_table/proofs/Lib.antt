@@ -2,6 +2,7 @@ pub mod Lives
 pub mod Ends
 pub mod Numbers
 pub mod Gathered
+pub mod Chains
 pub mod Positions
 pub mod Readings
 pub mod VertexOrder

@@ -1,7 +1,8 @@
 -- What a table that is read tells of the live edges.
-use Rattle.std.proofs.Common.{◌≡◌, ℕ, zero, suc, ◌+◌, ◌<◌, Bool, true, false, cond, List, [], ◌∷◌, length, get_or, slice_get, map, Option, Some, None, refl, sym, ap, subst, ◌∙◌, arith}
+use Rattle.std.proofs.Common.{◌≡◌, ℕ, zero, suc, ◌+◌, ◌<◌, Bool, true, false, cond, List, [], ◌∷◌, length, get_or, slice_get, map, reverse, Option, Some, None, refl, sym, ap, subst, ◌∙◌, arith}
 use Rattle.std.specs.Prelude.{◌&&◌, IfSome}
 use Rattle.std.specs.List.{AllByRecursion, position}
+use Rattle.std.proofs.lemmas.List.{length-map}
 use Rattle.std.proofs.lemmas.Option.{slice_get_within}
 use Rattle.grove_sorts.specs.declared.position.Position.{Position}
 use Rattle.grove_edits.specs.declared.vertex.Vertex.{Vertex}
@@ -12,12 +13,14 @@ use Rattle.walks.specs.Few.{first_two}
 use Rattle.walks.specs.Live.{parents_of, children_of}
 use Rattle.grove_edits.specs.Vertex.{is_same_vertex}
 use Rattle.grove_sorts.specs.Position.{is_same_position}
-use Rattle.graph_table.specs.declared.child.Child.{Child}
+use Rattle.graph_table.specs.declared.link.Link.{Link}
 use Rattle.graph_table.specs.Table.{Table, inserted, live, is_insertion, edge_at, edge_or_none, vertex_at, vertex_or_root, few_at, IsNumber, IsNumbered, IsIndex}
 use Rattle.graph_table.specs.Numbering.{AreNumbersOf, targets_of}
-use Rattle.graph_table.specs.Around.{Neighbours, first_indices, child, indices_at, leads_from, children_from, parents_from, neighbours}
+use Rattle.graph_table.specs.Chain.{IsChain, IsChained, IsAround, AreAround}
+use Rattle.graph_table.specs.Around.{Child, Ends, no_neighbours, first_indices, child, indices_at, leads_from, children_from, parents_from, neighbours}
 use Rattle.graph_table.proofs.Numbers.{eq, number_found, end_numbered}
 use Rattle.graph_table.proofs.Gathered.{read_number}
+use Rattle.graph_table.proofs.Chains.{around_at, around_count, indices_back}
 
 some_at : {X : Type 0} (xs : List X) (i : ℕ) → i < length xs → (x : X) × (slice_get xs i ≡ Some x)
 some_at [] i within = absurd (omega (arith, within))
@@ -39,12 +42,15 @@ target_read table targets are i n within read =
     let at = end_numbered (λ edit. (edit_edge edit).target) table.vertices targets table.edits are i n found.0 found.1 read in
     (slice_get_within table.vertices n (edit_edge found.0).target at, ap vertex_or_root at ∙ sym (ap (λ o. (edge_or_none o).target) found.1))
 
-around_read : (table : Table) (around : List Neighbours) → around ≡ map (neighbours table.edits) table.vertices → (n : ℕ) → IsNumber table n → (here : Neighbours) → here ≡ get_or around n here
-    → here ≡ neighbours table.edits (vertex_at table n)
-around_read table around are n within here read =
+around_read : (table : Table) (links : List Link) (around : List Ends) → AreAround links around (map (neighbours table.edits) table.vertices) → (n : ℕ) → IsNumber table n
+    → (here : Ends) → here ≡ get_or around n here → IsAround links here (neighbours table.edits (vertex_at table n))
+around_read table links around are n within here read =
     let found = some_at table.vertices n within in
-    read ∙ ap (λ ns. get_or ns n here) are ∙ read_number (neighbours table.edits) table.vertices n found.0 here found.1
-    ∙ sym (ap (λ o. neighbours table.edits (vertex_or_root o)) found.1)
+    let count = around_count links around (map (neighbours table.edits) table.vertices) are ∙ length-map table.vertices (neighbours table.edits) in
+    let told = around_at links around (map (neighbours table.edits) table.vertices) n here no_neighbours are (omega (arith, count, within)) in
+    let is : get_or (map (neighbours table.edits) table.vertices) n no_neighbours ≡ neighbours table.edits (vertex_at table n) =
+    read_number (neighbours table.edits) table.vertices n found.0 no_neighbours found.1 ∙ sym (ap (λ o. neighbours table.edits (vertex_or_root o)) found.1) in
+    subst (λ e. IsAround links e (neighbours table.edits (vertex_at table n))) (sym read) (subst (IsAround links (get_or around n here)) is told)
 
 -- ---- edges by index
 
@@ -133,24 +139,35 @@ children_within table v p = all_within (length table.edits) v p 0 table.edits (o
 
 -- ---- what is kept of the vertex with a number
 
-module _ (table : Table) (around : List Neighbours) (kept : around ≡ map (neighbours table.edits) table.vertices) (n : ℕ) (within : IsNumber table n)
-    (here : Neighbours) (read : here ≡ get_or around n here) where
-  pub is_around : here ≡ neighbours table.edits (vertex_at table n)
-  is_around = around_read table around kept n within here read
+module _ (table : Table) (links : List Link) (around : List Ends) (kept : AreAround links around (map (neighbours table.edits) table.vertices)) (n : ℕ) (within : IsNumber table n)
+    (here : Ends) (read : here ≡ get_or around n here) where
+  pub is_around : IsAround links here (neighbours table.edits (vertex_at table n))
+  is_around = around_read table links around kept n within here read
 
   pub parents_told : few_at table here.parents ≡ first_two (parents_of (vertex_at table n) (live table))
-  parents_told = ap (λ (k : Neighbours). few_at table k.parents) is_around ∙ few_read table (vertex_at table n)
+  parents_told = ap (few_at table) is_around.1 ∙ few_read table (vertex_at table n)
 
-  pub children_told : (p : Position) → map (edge_at table) (indices_at p here.children) ≡ children_of (vertex_at table n) p (live table)
-  children_told p = ap (λ (k : Neighbours). map (edge_at table) (indices_at p k.children)) is_around ∙ children_read table (vertex_at table n) p
+  pub chained : IsChained links here.last
+  chained = (reverse (neighbours table.edits (vertex_at table n)).children, is_around.0)
 
-  pub children_indexed : (p : Position) → AllByRecursion (IsIndex table) (indices_at p here.children)
-  children_indexed p = subst (λ (k : Neighbours). AllByRecursion (IsIndex table) (indices_at p k.children)) (sym is_around) (children_within table (vertex_at table n) p)
+  pub indices_told : (p : Position) (out : List ℕ) → ((children : List Child) → IsChain links here.last children → out ≡ reverse (indices_at p children)) → out ≡ indices_at p (neighbours table.edits (vertex_at table n)).children
+  indices_told p out told = told (reverse (neighbours table.edits (vertex_at table n)).children) is_around.0 ∙ indices_back p (neighbours table.edits (vertex_at table n)).children
+
+  pub children_told : (p : Position) (out : List ℕ) → ((children : List Child) → IsChain links here.last children → out ≡ reverse (indices_at p children))
+      → map (edge_at table) out ≡ children_of (vertex_at table n) p (live table)
+  children_told p out told = ap (map (edge_at table)) (indices_told p out told) ∙ children_read table (vertex_at table n) p
+
+  pub children_indexed : (p : Position) (out : List ℕ) → ((children : List Child) → IsChain links here.last children → out ≡ reverse (indices_at p children)) → AllByRecursion (IsIndex table) out
+  children_indexed p out told = subst (AllByRecursion (IsIndex table)) (sym (indices_told p out told)) (children_within table (vertex_at table n) p)
+
+pub number_inside : (table : Table) (links : List Link) (around : List Ends) → AreAround links around (map (neighbours table.edits) table.vertices) → (n : ℕ) → IsNumber table n → n < length around
+number_inside table links around kept n within =
+    omega (arith, around_count links around (map (neighbours table.edits) table.vertices) kept, length-map table.vertices (neighbours table.edits), within)
 
 -- the parts of a table that its view shows
-pub kept_in_view : (edits : List Edit) (vertices : List Vertex) (table : Table) (around : List Neighbours) → record { edits = edits; vertices = vertices } ≡ table
-    → around ≡ map (neighbours edits) vertices → around ≡ map (neighbours table.edits) table.vertices
-kept_in_view edits vertices table around view kept = kept ∙ ap (λ (t : Table). map (neighbours t.edits) t.vertices) view
+pub kept_in_view : (edits : List Edit) (vertices : List Vertex) (table : Table) (links : List Link) (around : List Ends) → record { edits = edits; vertices = vertices } ≡ table
+    → AreAround links around (map (neighbours edits) vertices) → AreAround links around (map (neighbours table.edits) table.vertices)
+kept_in_view edits vertices table links around view kept = subst (λ (t : Table). AreAround links around (map (neighbours t.edits) t.vertices)) view kept
 
 pub targets_in_view : (edits : List Edit) (vertices : List Vertex) (table : Table) (targets : List ℕ) → record { edits = edits; vertices = vertices } ≡ table
     → AreNumbersOf vertices targets (targets_of edits) → AreNumbersOf table.vertices targets (targets_of table.edits)

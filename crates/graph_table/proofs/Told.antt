@@ -15,7 +15,10 @@ use Rattle.graph_table.specs.declared.numbered.Numbered.{Numbered}
 use Rattle.graph_table.specs.declared.parents.Parents.{Parents}
 use Rattle.graph_table.specs.declared.parents.Parents.TheVariants.{Zero, One, More}
 use Rattle.graph_table.specs.Table.{Table, live, vertex_at, vertex_or_root, few_at, IsNumber, IsNumbered}
-use Rattle.graph_table.specs.Around.{Neighbours, neighbours, first_indices, parents_from, IsTable}
+use Rattle.graph_table.specs.declared.link.Link.{Link}
+use Rattle.graph_table.specs.Around.{Ends, Neighbours, neighbours, first_indices, parents_from}
+use Rattle.graph_table.specs.Parts.{IsTable}
+use Rattle.graph_table.proofs.Chains.{same_parents}
 use Rattle.graph_table.specs.ParentIndices.{has_any, AreIndices}
 use Rattle.graph_table.proofs.Lives.{in_order}
 use Rattle.graph_table.proofs.Ends.{end_is_vertex, vertex_is_end}
@@ -39,24 +42,27 @@ any_where_some_edge table Zero = refl
 any_where_some_edge table (One i) = refl
 any_where_some_edge table (More i j) = refl
 
-module _ (table : Table) (targets : List ℕ) (around : List Neighbours) (is : IsTable table.edits table.vertices targets around) where
+module _ (table : Table) (targets : List ℕ) (links : List Link) (around : List Ends) (is : IsTable table.edits table.vertices targets links around) where
   pub live_in_order : IsInEdgeOrder (live table)
   live_in_order = in_order table.edits is.in_order
 
-  pub few_kept : (n : ℕ) (v : Vertex) (x : Neighbours) (p : Parents) → IsNumbered table (record { vertex = v; number = n }) → x ≡ get_or around n x → p ≡ x.parents → few_at table p ≡ first_two (parents_of v (live table))
+  pub few_kept : (n : ℕ) (v : Vertex) (x : Ends) (p : Parents) → IsNumbered table (record { vertex = v; number = n }) → x ≡ get_or around n x → p ≡ x.parents → few_at table p ≡ first_two (parents_of v (live table))
   few_kept n v x p numbered at told =
-      ap (few_at table) told ∙ parents_told table around is.kept n numbered.0 x at ∙ ap (λ w. first_two (parents_of w (live table))) numbered.1
+      ap (few_at table) told ∙ parents_told table links around is.kept n numbered.0 x at ∙ ap (λ w. first_two (parents_of w (live table))) numbered.1
 
-  pub indices_kept : (n : ℕ) (x : Neighbours) (p : Parents) → IsNumber table n → x ≡ get_or around n x → p ≡ x.parents → AreIndices table p
+  pub indices_kept : (n : ℕ) (x : Ends) (p : Parents) → IsNumber table n → x ≡ get_or around n x → p ≡ x.parents → AreIndices table p
   indices_kept n x p within at told =
-      subst (AreIndices table) (sym (told ∙ ap (λ (k : Neighbours). k.parents) (is_around table around is.kept n within x at))) (are_indices table (vertex_at table n))
+      subst (AreIndices table) (sym (told ∙ (is_around table links around is.kept n within x at).1)) (are_indices table (vertex_at table n))
 
   pub few_none : (v : Vertex) → (stands_in v table.vertices ≡ true → ⊥) → few.Zero ≡ first_two (parents_of v (live table))
   few_none v not = sym (ap first_two (no_parents v table.vertices (live table) not (inserted_targets table.edits table.vertices is.numbers.each)))
 
-  pub counted : count_by (λ (n : Neighbours). has_any n.parents) around ≡ length (targets_of (live table))
+  pub counted : count_by (λ (e : Ends). has_any e.parents) around ≡ length (targets_of (live table))
   counted =
-      ap (count_by (λ (n : Neighbours). has_any n.parents)) is.kept
+      let ns = map (neighbours table.edits) table.vertices in
+      sym (count_each has_any (λ (e : Ends). e.parents) (λ (e : Ends). has_any e.parents) (λ e. refl) around)
+      ∙ ap (count_by has_any) (same_parents links around ns is.kept)
+      ∙ count_each has_any (λ (n : Neighbours). n.parents) (λ (n : Neighbours). has_any n.parents) (λ n. refl) ns
       ∙ count_each (λ (n : Neighbours). has_any n.parents) (neighbours table.edits) (has_parent (live table))
       (λ v. any_where_some_edge table (first_indices (parents_from 0 v table.edits)) ∙ ap is_some_edge (few_read table v)) table.vertices
       ∙ counted_targets table.vertices (live table) is.numbers.once (inserted_targets table.edits table.vertices is.numbers.each)

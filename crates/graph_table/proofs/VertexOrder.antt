@@ -16,29 +16,78 @@ use Rattle.grove_edits.specs.contracts.vertex.VertexOrd.TheImpl as vertex_impl
 use Rattle.grove_edits.proofs.Orders.{vertex_cmp_total, cmp_is_vertex_cmp}
 use Rattle.walks.specs.Whole.{IsInVertexOrder}
 use Rattle.grove_edits.proofs.Vertices.{same_vertex_laws}
+use Rattle.grove_names.specs.declared.name.Name.{Name}
+use Rattle.graph_table.specs.declared.named_number.NamedNumber.{NamedNumber}
 use Rattle.graph_table.specs.declared.numbered.Numbered.{Numbered}
+use Rattle.graph_table.specs.Named.{vertex_of, numbered, AreWithin}
 use Rattle.graph_table.specs.contracts.numbered.NumberedOrd.TheImpl as impl
 
 abbrev pub vertices_of : List Numbered → List Vertex
 vertices_of list = map (λ n. n.vertex) list
 
--- ---- one more vertex with its index
+-- ---- the keys
 
 abbrev pub IsAt : List Vertex → Numbered → Type 0
 IsAt vertices n = slice_get vertices n.number ≡ Some n.vertex
 
-pub vertices-pushed : (xs ys : List Numbered) (vertices : List Vertex) (i : ℕ) (v : Vertex) → i < length vertices → v ≡ get_or vertices i v → ys ≡ xs ++ record { vertex = v; number = i } ∷ []
-    → vertices_of xs ≡ take i vertices → vertices_of ys ≡ take (i + 1) vertices
-vertices-pushed xs ys vertices i v lt at is so_far =
-    ap vertices_of is ∙ map-append (λ (n : Numbered). n.vertex) xs (record { vertex = v; number = i } ∷ [])
-    ∙ ap (λ (l : List Vertex). l ++ v ∷ []) so_far ∙ ap (λ (x : Vertex). take i vertices ++ x ∷ []) at ∙ sym (take_more vertices i v lt)
+vertex_at_index : (vertices : List Vertex) (name : Name) (i : ℕ) (d : Vertex) → i < length vertices → vertex_of vertices (record { name = name; number = i }) ≡ get_or vertices i d
+vertex_at_index [] name i d lt = absurd (omega (arith, lt))
+vertex_at_index (v ∷ vertices) name zero d lt = refl
+vertex_at_index (v ∷ vertices) name (suc i) d lt = vertex_at_index vertices name i d (omega (arith, lt))
 
-pub numbers-pushed : (xs ys : List Numbered) (vertices : List Vertex) (i : ℕ) (v : Vertex) → i < length vertices → v ≡ get_or vertices i v → ys ≡ xs ++ record { vertex = v; number = i } ∷ []
-    → AllByRecursion (IsAt vertices) xs → AllByRecursion (IsAt vertices) ys
-numbers-pushed xs ys vertices i v lt at is all =
-    let last : Numbered = record { vertex = v; number = i } in
-    subst (AllByRecursion (IsAt vertices)) (sym is)
-    (recursion_from_All (IsAt vertices) (xs ++ last ∷ []) (All-push (IsAt vertices) xs last (All-from_recursion (IsAt vertices) xs all) (slice_get_read vertices (length vertices) i v refl lt at)))
+pub names-pushed : (xs ys : List NamedNumber) (vertices : List Vertex) (i : ℕ) (name : Name) (d : Vertex) → i < length vertices → ys ≡ xs ++ record { name = name; number = i } ∷ []
+    → map (vertex_of vertices) xs ≡ take i vertices → map (vertex_of vertices) ys ≡ take (i + 1) vertices
+names-pushed xs ys vertices i name d lt is so_far =
+    let last : NamedNumber = record { name = name; number = i } in
+    ap (map (vertex_of vertices)) is ∙ map-append (vertex_of vertices) xs (last ∷ [])
+    ∙ ap (λ (l : List Vertex). l ++ vertex_of vertices last ∷ []) so_far
+    ∙ ap (λ (x : Vertex). take i vertices ++ x ∷ []) (vertex_at_index vertices name i d lt) ∙ sym (take_more vertices i d lt)
+
+pub within-pushed : (xs ys : List NamedNumber) (vertices : List Vertex) (i : ℕ) (name : Name) → i < length vertices → ys ≡ xs ++ record { name = name; number = i } ∷ []
+    → AreWithin vertices xs → AreWithin vertices ys
+within-pushed xs ys vertices i name lt is all =
+    let last : NamedNumber = record { name = name; number = i } in
+    let Within : NamedNumber → Type 0 = λ (key : NamedNumber). key.number < length vertices in
+    subst (AreWithin vertices) (sym is)
+    (recursion_from_All Within (xs ++ last ∷ []) (All-push Within xs last (All-from_recursion Within xs all) lt))
+
+pub key_within : (keys : List NamedNumber) (vertices : List Vertex) (i : ℕ) (d : NamedNumber) → AreWithin vertices keys → i < length keys → (get_or keys i d).number < length vertices
+key_within keys vertices i d all lt = All-from_recursion (λ (key : NamedNumber). key.number < length vertices) keys all i d lt
+
+-- one more key with its vertex
+pub keys-pushed : (keys : List NamedNumber) (xs ys : List Numbered) (vertices : List Vertex) (i : ℕ) (d : NamedNumber) (v : Vertex) → AreWithin vertices keys → i < length keys
+    → v ≡ get_or vertices (get_or keys i d).number v → ys ≡ xs ++ record { vertex = v; number = (get_or keys i d).number } ∷ []
+    → xs ≡ map (numbered vertices) (take i keys) → ys ≡ map (numbered vertices) (take (i + 1) keys)
+keys-pushed keys xs ys vertices i d v all lt at is so_far =
+    let key = get_or keys i d in
+    let here : v ≡ vertex_of vertices key = at ∙ sym (vertex_at_index vertices key.name key.number v (key_within keys vertices i d all lt)) in
+    is ∙ ap (λ (l : List Numbered). l ++ record { vertex = v; number = key.number } ∷ []) so_far
+    ∙ ap (λ (w : Vertex). map (numbered vertices) (take i keys) ++ record { vertex = w; number = key.number } ∷ []) here
+    ∙ sym (ap (map (numbered vertices)) (take_more keys i d lt) ∙ map-append (numbered vertices) (take i keys) (key ∷ []))
+
+all_at : (keys : List NamedNumber) (vertices : List Vertex) → AreWithin vertices keys → AllByRecursion (IsAt vertices) (map (numbered vertices) keys)
+all_at [] vertices all = tt
+all_at (key ∷ keys) vertices all =
+    (slice_get_read vertices (length vertices) key.number (vertex_of vertices key) refl all.0 (vertex_at_index vertices key.name key.number (vertex_of vertices key) all.0), all_at keys vertices all.1)
+
+vertices_numbered : (keys : List NamedNumber) (vertices : List Vertex) → vertices_of (map (numbered vertices) keys) ≡ map (vertex_of vertices) keys
+vertices_numbered [] vertices = refl
+vertices_numbered (key ∷ keys) vertices = ap (λ vs. vertex_of vertices key ∷ vs) (vertices_numbered keys vertices)
+
+pub sorted_within : (keys sorted : List NamedNumber) (vertices : List Vertex) → IsPermutation keys sorted → AreWithin vertices keys → AreWithin vertices sorted
+sorted_within keys sorted vertices moved all =
+    let Within : NamedNumber → Type 0 = λ (key : NamedNumber). key.number < length vertices in
+    recursion_from_All Within sorted (All-permutation Within keys sorted moved (All-from_recursion Within keys all))
+
+-- the keys in another order, with their vertices
+module _ (keys sorted : List NamedNumber) (vertices : List Vertex) (list : List Numbered) (moved : IsPermutation keys sorted) (is : list ≡ map (numbered vertices) sorted) where
+  pub vertices_by_name : map (vertex_of vertices) keys ≡ vertices → IsPermutation vertices (vertices_of list)
+  vertices_by_name all =
+      subst (λ vs. IsPermutation vs (vertices_of list)) all
+      (subst (IsPermutation (map (vertex_of vertices) keys)) (sym (ap vertices_of is ∙ vertices_numbered sorted vertices)) (IsPermutation-map (vertex_of vertices) keys sorted moved))
+
+  pub all_by_name : AreWithin vertices keys → AllByRecursion (IsAt vertices) list
+  all_by_name within = subst (AllByRecursion (IsAt vertices)) (sym is) (all_at sorted vertices (sorted_within keys sorted vertices moved within))
 
 -- ---- a list that has changed places
 
@@ -49,8 +98,8 @@ stands-any v (x ∷ xs) = ap (λ b. is_same_vertex x v || b) (stands-any v xs)
 stands-permutation : (xs ys : List Vertex) → IsPermutation xs ys → (v : Vertex) → stands_in v ys ≡ stands_in v xs
 stands-permutation xs ys moved v = stands-any v ys ∙ sym (list_any-IsPermutation (λ x. is_same_vertex x v) xs ys moved) ∙ sym (stands-any v xs)
 
-pub stands-sorted : (xs ys : List Numbered) (vertices : List Vertex) → vertices_of xs ≡ vertices → IsPermutation xs ys → (v : Vertex) → stands_in v (vertices_of ys) ≡ stands_in v vertices
-stands-sorted xs ys vertices is moved v = stands-permutation (vertices_of xs) (vertices_of ys) (IsPermutation-map (λ n. n.vertex) xs ys moved) v ∙ ap (stands_in v) is
+pub stands-sorted : (xs ys : List Numbered) (vertices : List Vertex) → IsPermutation vertices (vertices_of xs) → IsPermutation xs ys → (v : Vertex) → stands_in v (vertices_of ys) ≡ stands_in v vertices
+stands-sorted xs ys vertices is moved v = stands-permutation (vertices_of xs) (vertices_of ys) (IsPermutation-map (λ n. n.vertex) xs ys moved) v ∙ stands-permutation vertices (vertices_of xs) is v
 
 pub all-sorted : (P : Numbered → Type 0) (xs ys : List Numbered) → IsPermutation xs ys → AllByRecursion P xs → AllByRecursion P ys
 all-sorted P xs ys moved all = recursion_from_All P ys (All-permutation P xs ys moved (All-from_recursion P xs all))
@@ -95,8 +144,8 @@ in_order_when_distinct (x ∷ xs) up distinct =
         let other = All-from_recursion (λ y. is_same_vertex x y ≡ false) xs (IsDistinct-head is_same_vertex x xs distinct) k d lt in
         less_of_tests (vertex_cmp x (get_or xs k d)) (ap is_lt (sym (vertex_cmp_total.antisymm (get_or xs k d) x)) ∙ up_to) other
 
-pub in_order-sorted : (xs ys : List Numbered) (vertices : List Vertex) → IsDistinct is_same_vertex vertices → vertices_of xs ≡ vertices → IsPermutation xs ys → IsSorted impl.ghosts.cmp ys → IsInVertexOrder (vertices_of ys)
+pub in_order-sorted : (xs ys : List Numbered) (vertices : List Vertex) → IsDistinct is_same_vertex vertices → IsPermutation vertices (vertices_of xs) → IsPermutation xs ys → IsSorted impl.ghosts.cmp ys → IsInVertexOrder (vertices_of ys)
 in_order-sorted xs ys vertices distinct is moved up =
     in_order_when_distinct (vertices_of ys) (vertices_sorted ys up)
     (IsDistinct-IsPermutation is_same_vertex same_vertex_laws.symm (vertices_of xs) (vertices_of ys) (IsPermutation-map (λ n. n.vertex) xs ys moved)
-    (subst (IsDistinct is_same_vertex) (sym is) distinct))
+    (IsDistinct-IsPermutation is_same_vertex same_vertex_laws.symm vertices (vertices_of xs) is distinct))

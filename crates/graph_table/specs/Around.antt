@@ -1,19 +1,24 @@
 -- Inner model, which no public contract cites: the live edges around each vertex, by their indices, and how the code gathers them.
-use Rattle.std.specs.Prelude.{◌≡◌, ℕ, suc, Bool, ◌&&◌, List, [], ◌∷◌, ◌++◌, map, set, if◌then◌else◌}
+use Rattle.std.specs.Prelude.{ℕ, suc, ◌+◌, Bool, ◌&&◌, List, [], ◌∷◌, set, if◌then◌else◌}
 use Rattle.std.specs.List.{slice_index_or}
 use Rattle.grove_sorts.specs.declared.position.Position.{Position}
 use Rattle.grove_edits.specs.declared.vertex.Vertex.{Vertex}
 use Rattle.grove_edits.specs.declared.edge.Edge.{Edge}
 use Rattle.grove_edits.specs.declared.edit.Edit.{Edit}
 use Rattle.grove_edits.specs.Edit.{edit_edge, edit_kind}
-use Rattle.grove_edits.specs.Graph.{Ascends}
 use Rattle.grove_edits.specs.Vertex.{is_same_vertex}
 use Rattle.grove_sorts.specs.Position.{is_same_position}
-use Rattle.graph_table.specs.declared.child.Child.{Child}
+use Rattle.graph_table.specs.declared.link.Link.{Link}
+use Rattle.graph_table.specs.declared.narrow_parents.NarrowParents.{NarrowParents}
+use Rattle.graph_table.specs.declared.narrow_parents.NarrowParents.TheVariants as narrow
 use Rattle.graph_table.specs.declared.parents.Parents.{Parents}
 use Rattle.graph_table.specs.declared.parents.Parents.TheVariants.{Zero, One, More}
 use Rattle.graph_table.specs.Table.{is_insertion}
-use Rattle.graph_table.specs.Numbering.{HaveNumbers, AreNumbersOf, targets_of}
+
+-- a live edge from a vertex: its position, and its index
+pub record Child : Type 0 where
+  pub position : Position
+  pub index : ℕ
 
 -- the live edges from a vertex, in edge order, and the least two to it
 pub record Neighbours : Type 0 where
@@ -27,6 +32,19 @@ abbrev pub with_parent : Parents → ℕ → Parents
 with_parent Zero index = One index
 with_parent (One first) index = More first index
 with_parent (More first second) index = More first second
+
+-- one more than the index of the last live edge from a vertex, or zero where there is none, and the least two to it
+pub record Ends : Type 0 where
+  pub last : ℕ
+  pub parents : Parents
+
+abbrev pub no_ends : Ends
+no_ends = record { last = 0; parents = Zero }
+
+abbrev pub told : NarrowParents → Parents
+told narrow.Zero = Zero
+told (narrow.One first) = One first
+told (narrow.More first second) = More first second
 
 abbrev pub first_indices : List ℕ → Parents
 first_indices [] = Zero
@@ -62,25 +80,20 @@ parents_from index v (edit ∷ edits) = if leads_to v edit then (index ∷ paren
 abbrev pub neighbours : List Edit → Vertex → Neighbours
 neighbours edits v = record { children = children_from 0 v edits; parents = first_indices (parents_from 0 v edits) }
 
-abbrev pub at : List Neighbours → ℕ → Neighbours
-at around number = slice_index_or around number no_neighbours
+abbrev pub ends_at : List Ends → ℕ → Ends
+ends_at ends number = slice_index_or ends number no_ends
 
--- the vertex with a number has one more child
-abbrev pub with_child_at : ℕ → Child → List Neighbours → List Neighbours
-with_child_at number c around = set around number (record { children = (at around number).children ++ c ∷ []; parents = (at around number).parents })
+-- the last live edge from the vertex with a number is that with an index
+abbrev pub with_last_at : ℕ → ℕ → List Ends → List Ends
+with_last_at number index ends = set ends number (record { last = index + 1; parents = (ends_at ends number).parents })
 
 -- the vertex with a number has one more parent
-abbrev pub with_parent_at : ℕ → ℕ → List Neighbours → List Neighbours
-with_parent_at number index around = set around number (record { children = (at around number).children; parents = with_parent (at around number).parents index })
+abbrev pub with_parent_at : ℕ → ℕ → List Ends → List Ends
+with_parent_at number index ends = set ends number (record { last = (ends_at ends number).last; parents = with_parent (ends_at ends number).parents index })
 
--- what is around the vertices after an edit with an index, whose ends have these numbers
-abbrev pub noted : ℕ → Edit → ℕ → ℕ → List Neighbours → List Neighbours
-noted index edit source target around =
-    if is_insertion (edit_kind edit) then with_parent_at target index (with_child_at source (child index (edit_edge edit)) around) else around
+-- what is kept of the vertices after an edit with an index, whose ends have these numbers
+abbrev pub ends_noted : ℕ → Edit → ℕ → ℕ → List Ends → List Ends
+ends_noted index edit source target ends = if is_insertion (edit_kind edit) then with_parent_at target index (with_last_at source index ends) else ends
 
--- the parts of a table are those of some edits
-pub record IsTable (edits : List Edit) (vertices : List Vertex) (targets : List ℕ) (around : List Neighbours) : Type 0 where
-  pub in_order : Ascends edits
-  pub numbers : HaveNumbers edits vertices
-  pub target_numbers : AreNumbersOf vertices targets (targets_of edits)
-  pub kept : around ≡ map (neighbours edits) vertices
+abbrev pub link_of : Edit → ℕ → List Ends → Link
+link_of edit source ends = record { position = (edit_edge edit).position; before = (ends_at ends source).last }

@@ -1,4 +1,7 @@
 pub mod Table
+pub mod Named
 pub mod Numbering
 pub mod Around
+pub mod Chain
+pub mod Parts
 pub mod ParentIndices

@@ -1,94 +1,62 @@
-ghost use Rattle.std.specs.Prelude.{◌≡◌, ◌++◌, ◌∷◌, [], OnOk, OnErr};
-ghost use Rattle.graph_table.specs.Around.{no_neighbours, with_parent, indices_at};
+ghost use Rattle.std.specs.Prelude.{◌≡◌, ◌<◌, ◌+◌, ◌^◌};
+ghost use Rattle.graph_table.specs.Around.{no_ends, with_parent};
 
-use crate::child::Child;
-use crate::no_memory::NoMemory;
+use crate::narrow_parents::NarrowParents;
 use crate::parents::Parents;
-use grove_sorts::Position;
-use std::alloc::Global;
 use std::marker::Model;
 
-/// The live edges from a vertex and to it.
+/// The live edges from a vertex, of which just the last stands here, and those to it.
 #[derive(Drop)]
 pub(crate) struct Around {
-    children: Vec<Child>,
-    parents: Parents,
+    // One more than the index of the last live edge from the vertex, or zero where there is none.
+    last: u32,
+    parents: NarrowParents,
 }
 
 impl Model for Around {
-    ghost use Rattle.graph_table.specs.Around.{Neighbours};
+    ghost use Rattle.graph_table.specs.Around.{Ends, told};
 
-    ghost Value = { Neighbours };
+    ghost Value = { Ends };
 
-    ghost view = { λ around. record { children = around.children.items; parents = around.parents } };
-}
-
-/// Appends the indices of those children that have a position.
-fn push_indices(
-    children: &[Child],
-    position: Position,
-    out: &mut Vec<usize>,
-) -> Result<(), NoMemory>
-    ensures { OnOk result (out.new.items ≡ out.old.items ++ indices_at position children.now) }
-{
-    for child in children {
-        if child.position == position {
-            out.push(child.index)?;
-        }
-    }
-    Ok(())
+    ghost view = { λ around. record { last = around.last; parents = told around.parents } };
 }
 
 impl Around {
-    pub(crate) fn nothing(alloc: Global) -> Around
-        ensures { result ≡ no_neighbours }
+    pub(crate) fn nothing() -> Around
+        ensures { result ≡ no_ends }
     {
         Around {
-            children: Vec::new(alloc),
-            parents: Parents::Zero,
+            last: 0,
+            parents: NarrowParents::Zero,
         }
     }
 
-    pub(crate) fn add_child(&mut self, child: Child) -> Result<(), NoMemory>
-        ensures children { OnOk result (self.new.children ≡ self.old.children ++ child ∷ []) }
+    /// One more than the index of the last live edge from the vertex, or zero where there is none.
+    pub(crate) fn last(&self) -> u32
+        ensures { result ≡ self.now.last }
+    {
+        self.last
+    }
+
+    pub(crate) fn set_last(&mut self, index: usize)
+        requires { index + 1 < 2 ^ 32 }
+        ensures last { self.new.last ≡ index + 1 }
         ensures parents { self.new.parents ≡ self.old.parents }
     {
-        self.children.push(child)?;
-        Ok(())
+        self.last = index as u32 + 1;
     }
 
     pub(crate) fn add_parent(&mut self, index: usize)
-        ensures children { self.new.children ≡ self.old.children }
+        requires { index + 1 < 2 ^ 32 }
+        ensures last { self.new.last ≡ self.old.last }
         ensures parents { self.new.parents ≡ with_parent self.old.parents index }
     {
-        self.parents = match self.parents {
-            Parents::Zero => Parents::One(index),
-            Parents::One(first) => Parents::More(first, index),
-            Parents::More(first, second) => Parents::More(first, second),
-        };
+        self.parents = self.parents.with(index);
     }
 
     pub(crate) fn parents(&self) -> Parents
         ensures { result ≡ self.now.parents }
     {
-        self.parents
-    }
-
-    /// Puts the indices of the children that have a position into a list, in place of what it had. Where memory runs out, the list is
-    /// empty.
-    pub(crate) fn children_at(
-        &self,
-        position: Position,
-        out: &mut Vec<usize>,
-    ) -> Result<(), NoMemory>
-        ensures indices { OnOk result (out.new.items ≡ indices_at position self.now.children) }
-        ensures nothing { OnErr result (out.new.items ≡ []) }
-    {
-        out.clear();
-        let pushed = push_indices(&self.children, position, out);
-        if pushed.is_err() {
-            out.clear();
-        }
-        pushed
+        self.parents.tell()
     }
 }

@@ -10,7 +10,9 @@ ghost use Rattle.graph_table.specs.ParentIndices.{AreIndices};
 ghost use Rattle.graph_table.specs.Table.{live, vertex_at, edge_at, few_at, IsNumber, IsIndex, IsNumbered};
 
 use crate::around::Around;
-use crate::gathering::around_each;
+use crate::following::children_at;
+use crate::gathering::{Gathered, gather};
+use crate::link::Link;
 use crate::no_memory::NoMemory;
 use crate::numbered::Numbered;
 use crate::numbering::Numbering;
@@ -31,7 +33,8 @@ use walks::{Few, ParentOf, Steps};
 pub struct GraphTable {
     edits: EditList,
     numbers: IndexSet<Vertex, HashSeed>,
-    targets: Vec<usize>,
+    targets: Vec<u32>,
+    links: Vec<Link>,
     around: Vec<Around>,
 }
 
@@ -40,11 +43,11 @@ impl Model for GraphTable {
 
     ghost Value = { Table };
 
-    ghost use Rattle.graph_table.specs.Around.{IsTable};
+    ghost use Rattle.graph_table.specs.Parts.{IsTable};
 
     ghost view = { λ table. record { edits = table.edits; vertices = table.numbers.keys } };
 
-    ghost invariant = { λ table. IsTable table.edits table.numbers.keys table.targets.items table.around.items };
+    ghost invariant = { λ table. IsTable table.edits table.numbers.keys table.targets.items table.links.items table.around.items };
 }
 
 impl GraphTable {
@@ -64,7 +67,7 @@ impl GraphTable {
         ensures live { IfOk result (λ table. AreLive (graph edits) (live table)) }
     {
         let numbering = Numbering::of(alloc, edits.as_slice(), seed)?;
-        let around = around_each(alloc, edits.as_slice(), &numbering)?;
+        let Gathered { around, links } = gather(alloc, edits.as_slice(), &numbering)?;
         let Numbering {
             numbers,
             sources: _,
@@ -74,6 +77,7 @@ impl GraphTable {
             edits,
             numbers,
             targets,
+            links,
             around,
         })
     }
@@ -117,13 +121,29 @@ impl GraphTable {
         self.edits.as_slice()[index].edge()
     }
 
+    /// The same edge where it stands, for a caller that reads a part of it.
+    pub fn edge_ref(&self, index: usize) -> &Edge
+        requires { IsIndex self.now index }
+        ensures { result.now ≡ edge_at self.now index }
+    {
+        self.edits.as_slice()[index].as_edge()
+    }
+
+    /// The vertex with a number.
+    pub fn vertex(&self, number: usize) -> &Vertex
+        requires { IsNumber self.now number }
+        ensures { result.now ≡ vertex_at self.now number }
+    {
+        &self.numbers.as_slice()[number]
+    }
+
     /// The number of the vertex to which the edge at an index leads.
     pub fn target(&self, index: usize) -> usize
         requires { IsIndex self.now index }
         ensures number { IsNumber self.now result }
         ensures target { vertex_at self.now result ≡ (edge_at self.now index).target }
     {
-        self.targets[index]
+        self.targets[index] as usize
     }
 
     /// The live edges to the vertex with a number: the least two in edge order, or fewer where there are fewer.
@@ -150,7 +170,7 @@ impl GraphTable {
         ensures nothing { OnErr result (out.new.items ≡ []) }
         ensures live { AreLive (graph self.now.edits) (live self.now) }
     {
-        self.around[number].children_at(position, out)
+        children_at(&self.links, self.around[number].last(), position, out)
     }
 
     fn parents_to(&self, vertex: &Vertex) -> Parents

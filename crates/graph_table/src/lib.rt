@@ -3,9 +3,12 @@
 #![tactic(auto)]
 
 mod around;
-mod child;
+mod following;
 mod gathering;
 mod graph_table;
+mod link;
+mod named_number;
+mod narrow_parents;
 mod no_memory;
 mod numbered;
 mod numbering;

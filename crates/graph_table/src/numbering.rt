@@ -14,17 +14,20 @@ use std::alloc::Global;
 #[derive(Drop)]
 pub(crate) struct Numbering {
     pub(crate) numbers: IndexSet<Vertex, HashSeed>,
-    pub(crate) sources: Vec<usize>,
-    pub(crate) targets: Vec<usize>,
+    pub(crate) sources: Vec<u32>,
+    pub(crate) targets: Vec<u32>,
 }
 
 /// The number of a vertex, which gets the next one where it has none.
-fn number_of(numbers: &mut IndexSet<Vertex, HashSeed>, vertex: Vertex) -> Result<usize, NoMemory>
+fn number_of(numbers: &mut IndexSet<Vertex, HashSeed>, vertex: Vertex) -> Result<u32, NoMemory>
     ensures number { IfOk result (λ number. slice_get numbers.new.keys number ≡ Some vertex) }
     ensures vertices { OnOk result (numbers.new.keys ≡ with_vertex vertex numbers.old.keys) }
     ensures once { IsDistinct is_same_vertex numbers.new.keys }
 {
-    let (number, _is_new) = numbers.insert_full(vertex)?;
+    let (index, _is_new) = numbers.insert_full(vertex)?;
+    let Ok(number) = u32::try_from(index) else {
+        return Err(NoMemory);
+    };
     Ok(number)
 }
 

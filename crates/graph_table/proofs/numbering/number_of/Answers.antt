@@ -1,17 +1,22 @@
-use Rattle.std.proofs.Common.{◌∙◌}
+use Rattle.std.proofs.Common.{◌≡◌, ◌∙◌, ℕ, Some, slice_get, sym, subst, rules}
 use Rattle.graph_table.proofs.Numbers.{inserted_is, once_from_set, number_from_set}
 use Rattle.graph_table.proofs.numbering.number_of.Goals as goal
 
-pub returns-in_err-number-clause-once : goal.returns-in_err-number-clause-once
-returns-in_err-number-clause-once c = once_from_set _ c.in_err-number.ensures.unique
+pub returns-in_err-index-clause-once : goal.returns-in_err-index-clause-once
+returns-in_err-index-clause-once c = once_from_set _ c.in_err-index.ensures.unique
+
+pub returns-in_default-clause-once : goal.returns-in_default-clause-once
+returns-in_default-clause-once c = once_from_set _ c.in_ok-index.ensures.unique
 
 pub returns-clause-number : goal.returns-clause-number
 returns-clause-number c =
-    let found = c.in_ok-number.ensures.stored in
-    number_from_set c.insert_full.new.self.keys c.in_ok-number.number c.args.vertex found.0 found.1 found.2
+    let found = c.in_ok-index.ensures.stored in
+    let same : c.in-Ok.number ≡ c.in_ok-index.index = search rules in
+    subst (λ (n : ℕ). slice_get c.insert_full.new.self.keys n ≡ Some c.args.vertex) (sym same)
+    (number_from_set c.insert_full.new.self.keys c.in_ok-index.index c.args.vertex found.0 found.1 found.2)
 
 pub returns-clause-vertices : goal.returns-clause-vertices
-returns-clause-vertices c = c.in_ok-number.ensures.keys ∙ inserted_is c.args.numbers.now.keys c.args.vertex
+returns-clause-vertices c = c.in_ok-index.ensures.keys ∙ inserted_is c.args.numbers.now.keys c.args.vertex
 
 pub returns-clause-once : goal.returns-clause-once
-returns-clause-once c = once_from_set _ c.in_ok-number.ensures.unique
+returns-clause-once c = once_from_set _ c.in_ok-index.ensures.unique
