@@ -4,3 +4,4 @@ pub mod CanonicalLists
 pub mod Unique
 pub mod Vertices
 pub mod WellFormed
+pub mod NamedEdits
