@@ -1,5 +1,6 @@
 ghost use Rattle.std.specs.Prelude.{◌≡◌, IfOk, OnOk, count_by};
 ghost use Rattle.grove_edits.specs.Graph.{graph, Ascends};
+ghost use Rattle.grove_terms.specs.Lent.{what_of};
 ghost use Rattle.grove_answers.specs.Counts.{AreCounts, is_conflict, with_trees, with_nodes};
 ghost use Rattle.grove_answers.specs.Laws.{nodes_none, nodes_more};
 
@@ -11,7 +12,7 @@ use crate::report::Report;
 use crate::reporting::report_program;
 use grove_edits::EditList;
 use grove_printer::Section;
-use grove_terms::What;
+use grove_terms::LentWhat;
 use marking::{MarkedNode, MarkedTree};
 use seeded_hash::HashSeed;
 use std::alloc::Global;
@@ -64,7 +65,7 @@ impl Report for Counts {
 }
 
 fn conflicts_in(nodes: &[MarkedNode]) -> usize
-    ensures { result ≡ count_by (λ m. is_conflict m.node.now.what) nodes.now }
+    ensures { result ≡ count_by (λ m. is_conflict (what_of m.node.what)) nodes.now }
 {
     nodes
         .iter()
@@ -72,11 +73,11 @@ fn conflicts_in(nodes: &[MarkedNode]) -> usize
         .count()
 }
 
-fn is_conflict(what: &What) -> bool
-    ensures { result ≡ is_conflict what.now }
+fn is_conflict(what: &LentWhat) -> bool
+    ensures { result ≡ is_conflict (what_of what.now) }
 {
     match what {
-        What::Conflict(_, _) => true,
-        What::Vertex(_) | What::Hole(_) | What::MultiRef(_) | What::CycleRef(_) => false,
+        LentWhat::Conflict(_, _) => true,
+        LentWhat::Vertex(_) | LentWhat::Hole(_) | LentWhat::MultiRef(_) | LentWhat::CycleRef(_) => false,
     }
 }

@@ -39,12 +39,12 @@ impl Walk {
     }
 
     /// The tree of a vertex that heads one.
-    pub(crate) fn tree(
+    pub(crate) fn tree<'g>(
         &mut self,
         alloc: Global,
-        table: &GraphTable,
+        table: &'g GraphTable,
         head: &Numbered,
-    ) -> Result<Tree, NoMemory>
+    ) -> Result<Tree<'g>, NoMemory>
         requires head { IsHead table.now head.now }
         requires seen { OnlyInner table.now self.old.seen }
         ensures tree { IfOk result (λ tree. IsTreeOf (live table.now) head.now.vertex tree) }
@@ -58,7 +58,7 @@ impl Walk {
     pub(crate) fn marking<'t>(
         &mut self,
         alloc: Global,
-        tree: &'t Tree,
+        tree: &Tree<'t>,
     ) -> Result<MarkedTree<'t>, NoMemory>
         requires { IsSortedTree tree.now }
         ensures marked { IfOk result (λ marked. IsMarkedTree tree.now (meant_nodes self.new.types marked)) }
