@@ -9,7 +9,7 @@ use Rattle.marking.specs.Marking.{MarkedNode, has_mark}
 use Rattle.marking.specs.Grove.{MarkedTrees, IsMarkedGrove}
 use Rattle.grove_printer.specs.declared.section.Section.TheVariants.{NoParent, Multi, Cycle}
 use Rattle.grove_answers.specs.declared.counts.Counts.{Counts}
-use Rattle.grove_answers.specs.Counts.{AreCounts, is_conflict, conflict_count, mark_count, with_trees, with_nodes}
+use Rattle.grove_answers.specs.Counts.{AreCounts, is_conflict, with_trees, with_nodes}
 
 pub count_by-map : {A B : Type 0} (p : B → Bool) (f : A → B) (xs : List A) → count_by p (map f xs) ≡ count_by (λ x. p (f x)) xs
 count_by-map p f [] = refl
@@ -17,10 +17,6 @@ count_by-map {A = A} {B = B} p f (x ∷ xs) =
     sum_by-cons (λ (y : B). cond (p y) 1 0) (f x) (map f xs)
     ∙ ap (λ n. cond (p (f x)) 1 0 + n) (count_by-map p f xs)
     ∙ sym (sum_by-cons (λ (y : A). cond (p (f y)) 1 0) x xs)
-
--- a number counted in the nodes of one tree more
-pub one_tree_more : (p : MarkedNode → Bool) (tree : List MarkedNode) (before more after : ℕ) → more ≡ count_by p tree → after ≡ before + more → after ≡ before + sum_by (count_by p) (tree ∷ [])
-one_tree_more p tree before more after is_more is_after = omega (arith, sum_by-cons (count_by p) tree [], is_more, is_after)
 
 abbrev after_sections : Grove → MarkedTrees → Counts → Counts
 after_sections grove marked start =

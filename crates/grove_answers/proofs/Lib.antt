@@ -2,4 +2,5 @@ pub mod Counted
 pub mod Heads
 pub mod Reported
 pub mod SameGraph
+mod TypedTrees
 pub mod Written

@@ -6,16 +6,14 @@ ghost use Rattle.grove_printer.specs.Print.{trees_marked_lines};
 ghost use Rattle.grove_answers.specs.Texts.{IsCheckText, roots_line};
 ghost use Rattle.grove_answers.specs.Laws.{lines_none, lines_more, typed_none, typed_more};
 
+use crate::marks::marks_in;
 use crate::no_memory::NoMemory;
 use crate::program::Program;
 use crate::report::Report;
 use crate::reporting::report_program;
-use ctx_table::CtxTable;
 use grove_edits::EditList;
 use grove_printer::{Section, print_marked_lines_of};
-use grove_terms::Tree;
 use marking::MarkedTree;
-use plain_typing::is_typed;
 use seeded_hash::HashSeed;
 use std::alloc::Global;
 use text_parts::write_number;
@@ -73,16 +71,10 @@ impl Report for Checked {
         Ok(())
     }
 
-    fn take(
-        &mut self,
-        alloc: Global,
-        tree: &Tree,
-        marked: &MarkedTree,
-        types: &mut TypeTable,
-        contexts: &mut CtxTable,
-    ) -> Result<(), NoMemory> {
+    // By the law of `plain_typing` a tree is typed exactly where its marking has no mark.
+    fn take(&mut self, marked: &MarkedTree, types: &TypeTable) -> Result<(), NoMemory> {
         print_marked_lines_of(marked, types, &mut self.text)?;
-        if is_typed(alloc, tree, types, contexts)? {
+        if marks_in(marked.as_slice()) == 0 {
             self.typed = self.typed.checked_add(1).ok_or(NoMemory)?;
         }
         Ok(())

@@ -1,18 +1,17 @@
 ghost use Rattle.std.specs.Prelude.{◌≡◌, IfOk, OnOk, count_by};
 ghost use Rattle.grove_edits.specs.Graph.{graph, Ascends};
-ghost use Rattle.marking.specs.Marking.{has_mark};
 ghost use Rattle.grove_answers.specs.Counts.{AreCounts, is_conflict, with_trees, with_nodes};
 ghost use Rattle.grove_answers.specs.Laws.{nodes_none, nodes_more};
 
 use crate::counts::Counts;
+use crate::marks::marks_in;
 use crate::no_memory::NoMemory;
 use crate::program::Program;
 use crate::report::Report;
 use crate::reporting::report_program;
-use ctx_table::CtxTable;
 use grove_edits::EditList;
 use grove_printer::Section;
-use grove_terms::{Tree, What};
+use grove_terms::What;
 use marking::{MarkedNode, MarkedTree};
 use seeded_hash::HashSeed;
 use std::alloc::Global;
@@ -55,14 +54,7 @@ impl Report for Counts {
     }
 
     // No memory holds so many nodes that their number would not fit.
-    fn take(
-        &mut self,
-        _alloc: Global,
-        _tree: &Tree,
-        marked: &MarkedTree,
-        _types: &mut TypeTable,
-        _contexts: &mut CtxTable,
-    ) -> Result<(), NoMemory> {
+    fn take(&mut self, marked: &MarkedTree, _types: &TypeTable) -> Result<(), NoMemory> {
         let conflicts = conflicts_in(marked.as_slice()) as u64;
         let marks = marks_in(marked.as_slice()) as u64;
         self.conflicts = self.conflicts.checked_add(conflicts).ok_or(NoMemory)?;
@@ -87,10 +79,4 @@ fn is_conflict(what: &What) -> bool
         What::Conflict(_, _) => true,
         What::Vertex(_) | What::Hole(_) | What::MultiRef(_) | What::CycleRef(_) => false,
     }
-}
-
-fn marks_in(nodes: &[MarkedNode]) -> usize
-    ensures { result ≡ count_by (λ m. has_mark m.mark) nodes.now }
-{
-    nodes.iter().filter(|node| node.mark.is_some()).count()
 }

@@ -7,6 +7,7 @@ mod check;
 mod counting;
 mod counts;
 mod laws;
+mod marks;
 mod no_memory;
 mod program;
 mod report;

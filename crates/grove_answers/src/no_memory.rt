@@ -86,12 +86,6 @@ impl From<mark_rules::NoMemory> for NoMemory {
     }
 }
 
-impl From<plain_typing::NoMemory> for NoMemory {
-    fn from(_error: plain_typing::NoMemory) -> NoMemory {
-        NoMemory
-    }
-}
-
 impl From<grove_printer::NoMemory> for NoMemory {
     fn from(_error: grove_printer::NoMemory) -> NoMemory {
         NoMemory

@@ -1,17 +1,14 @@
 ghost use Rattle.std.specs.Prelude.{◌≡◌, ℕ, List, [], ◌∷◌, ◌++◌, OnOk};
 ghost use Rattle.grove_terms.specs.declared.node.Node.{Node};
 ghost use Rattle.marking.specs.Marking.{MarkedNode};
-ghost use Rattle.grove_terms.specs.Sorted.{IsSortedTree};
+ghost use Rattle.marking.specs.Grove.{IsMarkedTree};
 ghost use Rattle.marking.specs.Reading.{meant_nodes};
 ghost use Rattle.marking.specs.Numbers.{AreMarkedNodesOf};
 ghost use Rattle.grove_printer.specs.declared.section.Section.{Section};
 
 use crate::no_memory::NoMemory;
-use ctx_table::CtxTable;
 use grove_printer::Section;
-use grove_terms::Tree;
 use marking::MarkedTree;
-use std::alloc::Global;
 use type_core::TypeTable;
 
 /// What is written of the trees of a graph. It takes them in one after the other, so that one at a time is kept.
@@ -26,18 +23,11 @@ pub(crate) trait Report {
     fn begin(&mut self, section: Section, trees: usize) -> Result<(), NoMemory>
         ensures { OnOk result (begins self.old section trees self.new) };
 
-    /// The next tree of the list, with its marking.
-    fn take(
-        &mut self,
-        alloc: Global,
-        tree: &Tree,
-        marked: &MarkedTree,
-        types: &mut TypeTable,
-        contexts: &mut CtxTable,
-    ) -> Result<(), NoMemory>
-        requires sorted { IsSortedTree tree.now }
-        requires numbers { AreMarkedNodesOf types.old marked.now }
-        ensures { OnOk result (takes self.old (tree.now ∷ []) (meant_nodes types.old marked.now ∷ []) self.new) };
+    /// The next tree of the list, by its marking.
+    fn take(&mut self, marked: &MarkedTree, types: &TypeTable) -> Result<(), NoMemory>
+        requires { AreMarkedNodesOf types.now marked.now }
+        ensures { OnOk result ((tree : List Node) → IsMarkedTree tree (meant_nodes types.now marked.now)
+            → takes self.old (tree ∷ []) (meant_nodes types.now marked.now ∷ []) self.new) };
 
     ghost takes_none: { (r : Self) → takes r [] [] r };
 

@@ -83,7 +83,7 @@ fn report_trees<R: Report>(
     for head in heads {
         let tree = walk.tree(alloc, table, head)?;
         let marked = walk.marking(alloc, &tree)?;
-        report.take(alloc, &tree, &marked, &mut walk.types, &mut walk.contexts)?;
+        report.take(&marked, &walk.types)?;
     }
     Ok(())
 }

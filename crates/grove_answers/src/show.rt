@@ -8,10 +8,8 @@ use crate::no_memory::NoMemory;
 use crate::program::Program;
 use crate::report::Report;
 use crate::reporting::report_program;
-use ctx_table::CtxTable;
 use grove_edits::EditList;
 use grove_printer::{Section, print_heading, print_tree};
-use grove_terms::Tree;
 use marking::MarkedTree;
 use seeded_hash::HashSeed;
 use std::alloc::Global;
@@ -50,14 +48,7 @@ impl Report for Shown {
         Ok(print_heading(section, trees, &mut self.text)?)
     }
 
-    fn take(
-        &mut self,
-        _alloc: Global,
-        _tree: &Tree,
-        marked: &MarkedTree,
-        types: &mut TypeTable,
-        _contexts: &mut CtxTable,
-    ) -> Result<(), NoMemory> {
+    fn take(&mut self, marked: &MarkedTree, types: &TypeTable) -> Result<(), NoMemory> {
         Ok(print_tree(marked, types, &mut self.text)?)
     }
 }

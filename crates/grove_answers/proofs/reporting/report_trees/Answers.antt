@@ -31,7 +31,7 @@ loop-head-preserved g c =
     record {
       reported = reported_one_more g.R.Report.takes (live c.args.table.now) g.met.R.Report.takes_more (vertices_of (take (c.loop-head.head-index + 1) heads)) (vertices_of before) head.vertex
           tree (meant_nodes c.marking.new.self.types marked) c.args.report.now c.loop-head.report c.take.new.self all c.loop-head.invariant.reported
-          c.in_ok-tree.ensures.tree c.in_ok-marked.ensures.marked c.in_ok-take.ensures;
+          c.in_ok-tree.ensures.tree c.in_ok-marked.ensures.marked (c.in_ok-take.ensures tree c.in_ok-marked.ensures.marked);
       heads = of_left.1;
       seen = subst (OnlyInner c.args.table.now) (sym c.in_ok-marked.ensures.seen) c.in_ok-tree.ensures.seen;
     }
