@@ -48,7 +48,7 @@ sorted_tail x xs up k d low high =
 chain_after : (x : NamedLine) (xs : List NamedLine) → IsSorted line_impl.ghosts.cmp (x ∷ xs) → IsChainAfter x.name xs
 chain_after x [] up = tt
 chain_after x (y ∷ ys) up =
-    let first : is_lt (ordering_then (name_cmp y.name x.name) (nat_cmp y.start x.start)) ≡ false = up zero x (omega arith) (omega arith) in
+    let first : is_lt (ordering_then (name_cmp y.name x.name) (ordering_then (nat_cmp y.start x.start) (nat_cmp y.end x.end))) ≡ false = up zero x (omega arith) (omega arith) in
     let in_order : is_gt (name_cmp x.name y.name) ≡ false = ap is_gt (name_cmp_total.antisymm x.name y.name) ∙ not_after (name_cmp y.name x.name) _ first in
     (in_order, chain_after y ys (sorted_tail x (y ∷ ys) up))
 

@@ -34,12 +34,13 @@ module _ (version : Version) (text : List ℕ) where
 
   -- the next line is named
   pub named_more : (rest line after : List ℕ) (lines more : List NamedLine) (next : NamedLine) (edit : Edit) → AreNamedTo rest lines → rest ≡ line ++ 10 ∷ after → Spells version line edit
-      → next.name ≡ (edit_edge edit).name → next.start ≡ length text - length rest → more ≡ lines ++ next ∷ [] → AreNamedTo after more
-  named_more rest line after lines more next edit named parts spells name start is =
+      → next.name ≡ (edit_edge edit).name → next.start ≡ length text - length rest → next.end ≡ next.start + length line → more ≡ lines ++ next ∷ [] → AreNamedTo after more
+  named_more rest line after lines more next edit named parts spells name start end is =
       let ended : rest ≡ line_of edit ++ after = parts ∙ ap (λ (l : List ℕ). l ++ 10 ∷ after) spells.0 ∙ sym (append_assoc (form (edit_kind edit) (edit_edge edit)) (10 ∷ []) after) in
       let stands : Stands version text next edit = record {
         after = after;
         there = ap (λ n. drop n text) start ∙ rest_there rest lines named ∙ ended;
+        ended = end ∙ ap (λ (l : List ℕ). next.start + length l) spells.0;
         of_version = spells.1;
         named = name;
       } in

@@ -1,48 +1,42 @@
 -- Lines that stand for edits: each for one, and lines one after the other for the edits of both.
-use Rattle.std.proofs.Common.{◌≡◌, ℕ, zero, suc, ◌+◌, ◌<◌, ◌≤◌, List, [], ◌∷◌, ◌++◌, length, drop, take, get_or, append_assoc, refl, sym, ap, subst, ◌∙◌, arith}
-use Rattle.std.proofs.lemmas.List.{take_more}
-use Rattle.text_parts.specs.Separated.{Lacks}
-use Rattle.text_parts.proofs.Parts.{Lacks-separated, first_part}
+use Rattle.std.proofs.Common.{◌≡◌, ℕ, zero, suc, ◌+◌, ◌-◌, ◌<◌, ◌≤◌, List, [], ◌∷◌, ◌++◌, length, drop, take, get_or, length-append, refl, sym, ap, subst, ◌∙◌, arith}
+use Rattle.std.proofs.lemmas.List.{take_more, length-drop}
+use Rattle.std.proofs.Math.Seq.{take-append_seam}
 use Rattle.grove_sorts.specs.declared.version.Version.{Version}
 use Rattle.grove_edits.specs.declared.edit.Edit.{Edit}
 use Rattle.grove_edits.specs.Edit.{edit_edge, edit_kind}
 use Rattle.edit_text.specs.declared.line_fault.LineFault.{LineFault}
 use Rattle.edit_text.specs.Line.{form, Spells, HasFault}
 use Rattle.edit_text.specs.Text.{line_of}
-use Rattle.edit_text.proofs.Lines.{Lacks-form, line_then, same_lines, one_edit, edit_or_fault}
+use Rattle.edit_text.proofs.Lines.{line_then, same_lines, one_edit, edit_or_fault}
 use Rattle.edit_merge.specs.declared.named_line.NamedLine.{NamedLine}
 use Rattle.edit_merge.specs.Named.{Stands, StandAll, DoesStand, DoStand}
-
-line_is_not_empty : (edit : Edit) (after : List ℕ) → [] ≡ line_of edit ++ after → ⊥
-line_is_not_empty edit after is = Lacks-separated 10 (form (edit_kind edit) (edit_edge edit)) after (subst (Lacks 10) (is ∙ line_then edit after) tt)
-
-within : (start : ℕ) (text : List ℕ) (edit : Edit) (after : List ℕ) → drop start text ≡ line_of edit ++ after → start ≤ length text
-within zero text edit after there = omega arith
-within (suc start) [] edit after there = absurd (line_is_not_empty edit after there)
-within (suc start) (byte ∷ text) edit after there =
-    let rest = within start text edit after there in
-    omega arith
 
 module _ (version : Version) (text : List ℕ) where
   -- a line stands for one edit
   pub one_stands : (line : NamedLine) (a b : Edit) → Stands version text line a → Stands version text line b → a ≡ b
   one_stands line a b of_a of_b = (same_lines a b of_a.after of_b.after (sym of_a.there ∙ of_b.there)).0
 
-  -- it begins in the text
-  pub begins_within : (line : NamedLine) → DoesStand version text line → line.start ≤ length text
-  begins_within line does = within line.start text does.0 does.1.after does.1.there
+  -- it ends in the text, with an LF behind it
+  pub ends_within : (line : NamedLine) → DoesStand version text line → (line.start ≤ line.end) × (line.end < length text)
+  ends_within line (edit, stands) =
+      let bytes = form (edit_kind edit) (edit_edge edit) in
+      let left : length (drop line.start text) ≡ length bytes + length (10 ∷ stands.after) = ap length (stands.there ∙ line_then edit stands.after) ∙ length-append bytes (10 ∷ stands.after) in
+      (omega (arith, stands.ended), omega (arith, stands.ended, left, length-drop line.start text))
 
-  -- an LF stands behind where it begins
-  pub line_ends : (line : NamedLine) (rest : List ℕ) → DoesStand version text line → rest ≡ drop line.start text → Lacks 10 rest → ⊥
-  line_ends line rest does is unended =
-      Lacks-separated 10 (form (edit_kind does.0) (edit_edge does.0)) does.1.after (subst (Lacks 10) (is ∙ does.1.there ∙ line_then does.0 does.1.after) unended)
+  -- the bytes up to its end are the edit's
+  pub line_there : (line : NamedLine) (edit : Edit) → Stands version text line edit → take (line.end - line.start) (drop line.start text) ≡ form (edit_kind edit) (edit_edge edit)
+  line_there line edit stands =
+      let bytes = form (edit_kind edit) (edit_edge edit) in
+      let count : line.end - line.start ≡ length bytes = omega (arith, stands.ended) in
+      ap (λ n. take n (drop line.start text)) count ∙ ap (take (length bytes)) (stands.there ∙ line_then edit stands.after) ∙ take-append_seam bytes (10 ∷ stands.after)
 
-  -- and the bytes before the first LF there are the edit's
-  pub line_there : (line : NamedLine) (rest bytes after : List ℕ) (edit : Edit) → Stands version text line edit → rest ≡ drop line.start text → rest ≡ bytes ++ 10 ∷ after → Lacks 10 bytes
-      → bytes ≡ form (edit_kind edit) (edit_edge edit)
-  line_there line rest bytes after edit stands is parts one_line =
-      (first_part 10 bytes (form (edit_kind edit) (edit_edge edit)) after stands.after one_line (Lacks-form edit.kind edit.edge edit.in_range)
-      (sym parts ∙ is ∙ stands.there ∙ line_then edit stands.after)).0
+  -- and with the LF they are its line
+  pub whole_line_there : (line : NamedLine) (edit : Edit) → Stands version text line edit → take (line.end + 1 - line.start) (drop line.start text) ≡ line_of edit
+  whole_line_there line edit stands =
+      let bytes = form (edit_kind edit) (edit_edge edit) in
+      let count : line.end + 1 - line.start ≡ length (line_of edit) = omega (arith, stands.ended, length-append bytes (10 ∷ [])) in
+      ap (λ n. take n (drop line.start text)) count ∙ ap (take (length (line_of edit))) stands.there ∙ take-append_seam (line_of edit) stands.after
 
   -- what is read there again has no fault, and is that edit
   pub read_has_no_fault : (line : NamedLine) (bytes : List ℕ) (fault : LineFault) → DoesStand version text line
@@ -95,8 +89,3 @@ module _ (version : Version) (text : List ℕ) where
   stand_more lines i default edits more edit lt so_far stands is =
       let both = StandAll-append (take i lines) (get_or lines i default ∷ []) edits (edit ∷ []) so_far (stands, tt) in
       subst (λ ls. StandAll version text ls more) (sym (take_more lines i default lt)) (subst (StandAll version text (take i lines ++ get_or lines i default ∷ [])) (sym is) both)
-
--- bytes and an LF were appended
-pub line_copied : (old middle new bytes : List ℕ) (edit : Edit) → bytes ≡ form (edit_kind edit) (edit_edge edit) → middle ≡ old ++ bytes → new ≡ middle ++ 10 ∷ [] → new ≡ old ++ line_of edit
-line_copied old middle new bytes edit there first second =
-    second ∙ ap (λ (t : List ℕ). t ++ 10 ∷ []) (first ∙ ap (λ (t : List ℕ). old ++ t) there) ∙ append_assoc old (form (edit_kind edit) (edit_edge edit)) (10 ∷ [])

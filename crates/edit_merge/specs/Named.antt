@@ -1,20 +1,23 @@
 -- Lines that are known by the name of their edge and by where they stand in a text.
-use Rattle.std.specs.Prelude.{◌≡◌, ℕ, suc, Bool, List, [], ◌∷◌, ◌++◌, drop, if◌then◌else◌}
+use Rattle.std.specs.Prelude.{◌≡◌, ℕ, suc, ◌+◌, Bool, List, [], ◌∷◌, ◌++◌, length, drop, if◌then◌else◌}
 use Rattle.std.specs.Ordering.{is_eq}
 use Rattle.grove_names.specs.declared.name.Name.{Name}
 use Rattle.grove_names.specs.Name.{name_cmp}
 use Rattle.grove_sorts.specs.declared.version.Version.{Version}
 use Rattle.grove_edits.specs.declared.edit.Edit.{Edit}
 use Rattle.grove_edits.specs.Edge.{IsEdgeOf}
-use Rattle.grove_edits.specs.Edit.{edit_edge}
+use Rattle.grove_edits.specs.Edit.{edit_edge, edit_kind}
 use Rattle.grove_edits.specs.Graph.{graph, IsCanonical}
+use Rattle.edit_text.specs.Line.{form}
 use Rattle.edit_text.specs.Text.{SpellsAll, line_of, text_of}
 use Rattle.edit_merge.specs.declared.named_line.NamedLine.{NamedLine}
 
--- the line that begins there is that of the edit, of whose edge the version knows all, and the name is that edge's
+-- the line that begins there is that of the edit, of whose edge the version knows all, it ends where it is told to, and the name is that
+-- edge's
 pub record Stands (version : Version) (text : List ℕ) (line : NamedLine) (edit : Edit) : Type 0 where
   pub after : List ℕ
   pub there : drop line.start text ≡ line_of edit ++ after
+  pub ended : line.end ≡ line.start + length (form (edit_kind edit) (edit_edge edit))
   pub of_version : IsEdgeOf version (edit_edge edit)
   pub named : line.name ≡ (edit_edge edit).name
 

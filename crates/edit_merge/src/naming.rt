@@ -25,7 +25,8 @@ pub(crate) fn name_lines(
             Ok(edit) => {
                 let name = edit.as_edge().name;
                 let start = text.len() - rest.len();
-                push(&mut lines, NamedLine { name, start })?;
+                let end = start + line.len();
+                push(&mut lines, NamedLine { name, start, end })?;
             }
             Err(fault) => {
                 let line = lines.len() as u64 + 1;

@@ -1,5 +1,6 @@
 ghost use Rattle.std.specs.Prelude.{◌≡◌, ◌∷◌, [], ◌++◌, length, OnOk, IfOk};
 ghost use Rattle.std.specs.List.Sorted.{IsSorted};
+ghost use Rattle.grove_sorts.specs.declared.version.Version.{Version};
 ghost use Rattle.grove_edits.specs.declared.edit.Edit.{Edit};
 ghost use Rattle.grove_edits.specs.Edit.{edit_edge, edit_kind};
 ghost use Rattle.edit_text.specs.Line.{form};
@@ -13,7 +14,6 @@ use grove_edits::{Edit, EditList};
 use grove_names::Name;
 use grove_sorts::Version;
 use std::alloc::Global;
-use text_parts::split_at_first;
 
 /// The canonical text of the edits that sorted lines stand for.
 pub(crate) fn write_lines(
@@ -60,7 +60,7 @@ fn write_group(
     ensures { OnOk result (IsWritten version text.now group.now out.old.items out.new.items) }
 {
     match group {
-        [line] => copy_line(version, text, *line, out),
+        [line] => copy_line(text, *line, out),
         _ => {
             let edits = read_group(alloc, version, text, group)?.into_canonical();
             Ok(write_edits(edits.as_slice(), out)?)
@@ -68,17 +68,12 @@ fn write_group(
     }
 }
 
-fn copy_line(
-    version: Version,
-    text: &[u8],
-    line: NamedLine,
-    out: &mut Vec<u8>,
-) -> Result<(), NoMemory>
-    requires { DoesStand version text.now line }
-    ensures { OnOk result ((edit : Edit) → Stands version text.now line edit → out.new.items ≡ out.old.items ++ line_of edit) }
+// Appends a line with its LF.
+fn copy_line(text: &[u8], line: NamedLine, out: &mut Vec<u8>) -> Result<(), NoMemory>
+    requires { (version : Version) × DoesStand version text.now line }
+    ensures { OnOk result ((version : Version) (edit : Edit) → Stands version text.now line edit → out.new.items ≡ out.old.items ++ line_of edit) }
 {
-    out.extend_from_slice(line_at(version, text, line))?;
-    out.push(b'\n')?;
+    out.extend_from_slice(&text[line.start..line.end + 1])?;
     Ok(())
 }
 
@@ -102,19 +97,16 @@ fn read_again(version: Version, text: &[u8], line: NamedLine) -> Edit
     requires { DoesStand version text.now line }
     ensures { Stands version text.now line result }
 {
-    match read_line(version, line_at(version, text, line)) {
+    match read_line(version, line_at(text, line)) {
         Ok(edit) => edit,
         Err(_) => unreachable!(),
     }
 }
 
 // The bytes of a line, without its LF.
-fn line_at(_version: Version, text: &[u8], line: NamedLine) -> &[u8]
-    requires { DoesStand _version text.now line }
-    ensures { (edit : Edit) → Stands _version text.now line edit → result.now ≡ form (edit_kind edit) (edit_edge edit) }
+fn line_at(text: &[u8], line: NamedLine) -> &[u8]
+    requires { (version : Version) × DoesStand version text.now line }
+    ensures { (version : Version) (edit : Edit) → Stands version text.now line edit → result.now ≡ form (edit_kind edit) (edit_edge edit) }
 {
-    match split_at_first(&text[line.start..], b'\n') {
-        Some((bytes, _)) => bytes,
-        None => unreachable!(),
-    }
+    &text[line.start..line.end]
 }

@@ -1,10 +1,11 @@
-use Rattle.std.proofs.lemmas.List.{take_rest}
-use Rattle.edit_merge.proofs.Standing.{line_ends, line_there}
+use Rattle.std.proofs.Common.{◌≤◌, ◌<◌, length, rules}
+use Rattle.edit_merge.proofs.Standing.{ends_within, line_there}
 use Rattle.edit_merge.proofs.writing.line_at.Goals as goal
 
-pub unreachable-requires : goal.unreachable-requires
-unreachable-requires c = line_ends c.args._version c.args.text.now c.args.line _ c.requires (take_rest c.args.text.now c.args.line.start) c.in-None.ensures.none
+pub slice_bounds-result-end : goal.slice_bounds-result-end
+slice_bounds-result-end c =
+    let within : (c.args.line.start ≤ c.args.line.end) × (c.args.line.end < length c.args.text.now) = ends_within c.requires.0 c.args.text.now c.args.line c.requires.1 in
+    search rules
 
 pub returns : goal.returns
-returns c = λ edit stands.
-    line_there c.args._version c.args.text.now c.args.line _ c.in-Some.bytes.now c.in-Some.field-0-1.now edit stands (take_rest c.args.text.now c.args.line.start) c.in-Some.ensures.parts c.in-Some.ensures.first
+returns c = λ version edit stands. line_there version c.args.text.now c.args.line edit stands
