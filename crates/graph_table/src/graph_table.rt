@@ -117,6 +117,22 @@ impl GraphTable {
         self.edits.as_slice()[index].edge()
     }
 
+    /// The same edge where it stands, for a caller that reads a part of it.
+    pub fn edge_ref(&self, index: usize) -> &Edge
+        requires { IsIndex self.now index }
+        ensures { result.now ≡ edge_at self.now index }
+    {
+        self.edits.as_slice()[index].as_edge()
+    }
+
+    /// The vertex with a number.
+    pub fn vertex(&self, number: usize) -> &Vertex
+        requires { IsNumber self.now number }
+        ensures { result.now ≡ vertex_at self.now number }
+    {
+        &self.numbers.as_slice()[number]
+    }
+
     /// The number of the vertex to which the edge at an index leads.
     pub fn target(&self, index: usize) -> usize
         requires { IsIndex self.now index }
