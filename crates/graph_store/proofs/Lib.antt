@@ -9,3 +9,4 @@ pub mod VertexOrder
 pub mod Parts
 pub mod Maxima
 pub mod AuthorNames
+pub mod KeptVertices

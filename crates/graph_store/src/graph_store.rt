@@ -1,13 +1,14 @@
-ghost use Rattle.std.specs.Prelude.{◌≡◌, [], ◌∷◌, OnOk, OnErr, IfOk};
+ghost use Rattle.std.specs.Prelude.{◌≡◌, [], ◌∷◌, OnOk, OnErr, IfOk, IfSome, IsSome};
 ghost use Rattle.std.specs.List.{All};
 ghost use Rattle.std.specs.Map.{set_value};
 ghost use Rattle.std.specs.Option.{option_copied};
 ghost use Rattle.edge_lattice.specs.State.{state_join};
 ghost use Rattle.grove_edits.specs.declared.edit.Edit.{Edit};
 ghost use Rattle.grove_edits.specs.Edge.{edge_cmp};
+ghost use Rattle.grove_edits.specs.Vertex.{root};
 ghost use Rattle.grove_edits.specs.Edit.{edit_edge, edit_kind};
 ghost use Rattle.grove_edits.specs.Graph.{IsSame, IsCanonical, graph, graph_join, is_same_edge, state_of};
-ghost use Rattle.walks.specs.Whole.{AreVertices};
+ghost use Rattle.walks.specs.Whole.{AreVertices, IsVertexOf};
 ghost use Rattle.graph_store.specs.Change.{IsChange};
 ghost use Rattle.graph_store.specs.Greatest.{IsGreatest, IsNameOf};
 ghost use Rattle.graph_store.specs.Least.{IsLeast};
@@ -24,7 +25,7 @@ use crate::no_memory::NoMemory;
 use crate::room_map::RoomMap;
 use crate::vertices::{Named, first_counted, first_vertex};
 use edge_lattice::{State, join, leq};
-use grove_edits::{Edge, Edit, EditKind, EditList, Vertex};
+use grove_edits::{Edge, Edit, EditKind, EditList, Vertex, is_same_vertex};
 use grove_names::Name;
 use std::alloc::Global;
 use std::marker::Model;
@@ -37,6 +38,15 @@ pub struct GraphStore {
     states: RoomMap<Edge, State>,
     // How many ends of present edges each vertex is.
     ends: RoomMap<Vertex, u64>,
+    // To be lent: it may have no end.
+    root: Root,
+}
+
+// The vertex that is one of each graph.
+#[derive(Debug, Drop)]
+struct Root {
+    vertex: Vertex,
+    ghost is: { vertex ≡ root },
 }
 
 impl Model for GraphStore {
@@ -59,6 +69,9 @@ impl GraphStore {
             alloc,
             states: RoomMap::new(alloc),
             ends: RoomMap::new(alloc),
+            root: Root {
+                vertex: Vertex::ROOT,
+            },
         }
     }
 
@@ -166,6 +179,18 @@ impl GraphStore {
             }
         }
         Ok(vertices)
+    }
+
+    /// A vertex of the graph where the graph keeps it, so that it is lent for as long as the graph is. Others are kept too.
+    pub fn vertex(&self, vertex: &Vertex) -> Option<&Vertex>
+        ensures same { IfSome result (λ v. v.now ≡ vertex.now) }
+        ensures found { IsVertexOf (state_in self.now) vertex.now → IsSome result }
+    {
+        // The root is a vertex of each graph, and may have no entry.
+        if is_same_vertex(vertex, &Vertex::ROOT) {
+            return Some(&self.root.vertex);
+        }
+        self.ends.key(vertex)
     }
 
     /// The greatest counter of this author in any name of the graph, be it of a vertex or of an edge, deleted or not.

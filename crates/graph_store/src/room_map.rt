@@ -1,5 +1,6 @@
-ghost use Rattle.std.specs.Prelude.{◌≡◌, ◌<◌, ◌^◌, [], IsSome, OnOk, length};
+ghost use Rattle.std.specs.Prelude.{◌≡◌, ◌<◌, ◌^◌, [], IsSome, IfSome, OnOk, length};
 ghost use Rattle.std.specs.BTreeMap.{get, is_at, IsOrdered};
+ghost use Rattle.std.specs.declared.cmp.Ordering.TheVariants.{Equal};
 ghost use Rattle.std.specs.Map.{set_value};
 ghost use Rattle.graph_store.specs.Room.{GetsRoom, GetsEntry};
 
@@ -41,6 +42,15 @@ impl<K: Ord + Copy, V: Copy> RoomMap<K, V> {
         ensures { result ≡ get K.cmp self.now.entries key.now }
     {
         self.entries.get(key).copied()
+    }
+
+    // The key where it is kept.
+    pub(crate) fn key(&self, key: &K) -> Option<&K>
+        ensures same { IfSome result (λ held. K.cmp key.now held.now ≡ Equal) }
+        ensures found { IsSome (get K.cmp self.now.entries key.now) → IsSome result }
+    {
+        let (held, _value) = self.entries.get_key_value(key)?;
+        Some(held)
     }
 
     // An entry with this value, where the key has none.
