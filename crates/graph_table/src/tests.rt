@@ -76,3 +76,47 @@ fn live_edges_are_told_by_number(rt: HostRuntime) -> Result<(), Fail> {
     assert_eq!(rt; table.parents(seven), Parents::More(1, 4));
     Ok(())
 }
+
+// The root with three children that share a name.
+fn namesakes(alloc: Global) -> Result<GraphTable, Fail> {
+    let mut list = EditList::new(alloc);
+    for (counter, ctor) in [(2, Ctor::Num(7)), (3, Ctor::Plus), (4, Ctor::Num(3))] {
+        list.push(edit(
+            EditKind::Insert,
+            counter,
+            Vertex::ROOT,
+            Position::Main,
+            vertex(1, ctor),
+        )?)?;
+    }
+    Ok(GraphTable::of(alloc, list.into_canonical())?)
+}
+
+#[test]
+fn vertices_of_one_name_are_in_vertex_order(rt: HostRuntime) -> Result<(), Fail> {
+    let table = namesakes(rt.alloc())?;
+    let list = table.in_order(rt.alloc())?;
+    assert_eq!(rt; list.len(), 4);
+    for i in 1..list.len() {
+        assert!(rt; list[i - 1].vertex < list[i].vertex);
+    }
+    for one in &list {
+        assert!(rt; *table.vertex(one.number) == one.vertex);
+    }
+    Ok(())
+}
+
+#[test]
+fn children_are_in_edge_order(rt: HostRuntime) -> Result<(), Fail> {
+    let table = namesakes(rt.alloc())?;
+    let root = table.number(&Vertex::ROOT).ok_or("no root")?;
+    let mut out = Vec::new(rt.alloc());
+    table.children(root, Position::Main, &mut out)?;
+    assert_eq!(rt; out.as_slice(), [0, 1, 2].as_slice());
+    for index in &out {
+        assert!(rt; *table.edge_ref(*index) == table.edge(*index));
+    }
+    table.children(root, Position::Left, &mut out)?;
+    assert!(rt; out.is_empty());
+    Ok(())
+}
