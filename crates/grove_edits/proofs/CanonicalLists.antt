@@ -185,19 +185,17 @@ not_after Less h = absurd cc
 not_after Equal h = refl
 not_after Greater h = refl
 
-pub sorted_tail : {X : Type 0} (cmp : X → X → Ordering) (x : X) (xs : List X) → IsSorted cmp (x ∷ xs) → IsSorted cmp xs
-sorted_tail cmp x xs up k d low high =
+sorted_tail : (x : Edit) (xs : List Edit) → IsSorted edit_impl.ghosts.cmp (x ∷ xs) → IsSorted edit_impl.ghosts.cmp xs
+sorted_tail x xs up k d low high =
     let next : suc k + 1 ≡ suc (k + 1) = omega arith in
-    subst (λ (n : ℕ). is_lt (cmp (get_or (x ∷ xs) n d) (get_or xs k d)) ≡ false) next (up (suc k) d (omega arith) (omega arith))
-
-pub chain_after_first : (x y : Edit) (ys : List Edit) → is_lt (edit_cmp y x) ≡ false → IsChainAfter y ys → IsChainAfter x (y ∷ ys)
-chain_after_first x y ys first rest = (ap is_gt (edit_cmp_total.antisymm x y) ∙ not_after (edit_cmp y x) first, rest)
+    subst (λ (n : ℕ). is_lt (edit_impl.ghosts.cmp (get_or (x ∷ xs) n d) (get_or xs k d)) ≡ false) next (up (suc k) d (omega arith) (omega arith))
 
 chain_after : (x : Edit) (xs : List Edit) → IsSorted edit_impl.ghosts.cmp (x ∷ xs) → IsChainAfter x xs
 chain_after x [] up = tt
 chain_after x (y ∷ ys) up =
     let first : is_lt (edit_cmp y x) ≡ false = ap is_lt (sym (cmp_is_edit_cmp y x)) ∙ up zero x (omega arith) (omega arith) in
-    chain_after_first x y ys first (chain_after y ys (sorted_tail edit_impl.ghosts.cmp x (y ∷ ys) up))
+    let in_order : IsUpTo x y = ap is_gt (edit_cmp_total.antisymm x y) ∙ not_after (edit_cmp y x) first in
+    (in_order, chain_after y ys (sorted_tail x (y ∷ ys) up))
 
 chain_from_sorted : (xs : List Edit) → IsSorted edit_impl.ghosts.cmp xs → IsChain xs
 chain_from_sorted [] up = tt

@@ -4,4 +4,3 @@ pub mod CanonicalLists
 pub mod Unique
 pub mod Vertices
 pub mod WellFormed
-pub mod NamedEdits

@@ -3,4 +3,3 @@ pub mod Edge
 pub mod Edit
 pub mod Graph
 pub mod ActFault
-pub mod NamedEdit

@@ -1,7 +1,6 @@
-ghost use Rattle.std.specs.Prelude.{◌≡◌, ◌∷◌, [], ◌++◌, List, length, slice_get, IsTrue, ◌↔◌, IfOk, OnOk, OnErr};
+ghost use Rattle.std.specs.Prelude.{◌≡◌, ◌∷◌, [], ◌++◌, List, length, slice_get, IsTrue, ◌↔◌, OnOk, OnErr};
 ghost use Rattle.grove_edits.specs.Graph.{graph, IsCanonical};
 
-use crate::by_name::{copy_last_of_each_edge, name_edits};
 use crate::canonical::keep_last_of_each_edge;
 use crate::edit::Edit;
 use crate::no_memory::NoMemory;
@@ -84,16 +83,5 @@ impl EditList {
         edits.sort_unstable();
         keep_last_of_each_edge(&mut edits);
         EditList { edits }
-    }
-    /// The same by way of memory: narrow keys are sorted, and each edit that stays is then copied to its place, so that no edit is
-    /// moved more than once. The list is gone also where memory runs out.
-    pub fn into_canonical_by_name(self, alloc: Global) -> Result<EditList, NoMemory>
-        ensures canonical { IfOk result (IsCanonical (graph self)) }
-    {
-        let EditList { edits } = self;
-        let mut named = name_edits(alloc, &edits)?;
-        named.sort_unstable();
-        let edits = copy_last_of_each_edge(alloc, &named)?;
-        Ok(EditList { edits })
     }
 }

@@ -7,7 +7,6 @@ mod act_fault;
 mod action;
 mod actor;
 mod answer;
-mod by_name;
 mod bytes;
 mod canonical;
 mod command;
@@ -15,7 +14,6 @@ mod edge;
 mod edit;
 mod edit_list;
 mod laws;
-mod named_edit;
 mod no_memory;
 mod vertex;
 

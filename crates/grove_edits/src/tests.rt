@@ -59,40 +59,6 @@ fn a_deletion_wins(rt: HostRuntime) -> Result<(), Fail> {
 }
 
 #[test]
-fn edits_are_sorted_by_name(rt: HostRuntime) -> Result<(), Fail> {
-    let two = edge(2, Position::Main, Ctor::Num(7));
-    let other_two = edge(2, Position::Main, Ctor::Num(8));
-    let three = edge(3, Position::Main, Ctor::LitTrue);
-    let ten = edge(10, Position::Main, Ctor::LitTrue);
-    let mut edits = EditList::new(rt.alloc());
-    for (kind, edge) in [
-        (EditKind::Insert, ten),
-        (EditKind::Delete, two),
-        (EditKind::Insert, three),
-        (EditKind::Insert, other_two),
-        (EditKind::Insert, three),
-        (EditKind::Insert, two),
-        (EditKind::Delete, ten),
-    ] {
-        edits.push(Edit::new(kind, edge).ok().ok_or("a good edge")?)?;
-    }
-    let canonical = edits.into_canonical_by_name(rt.alloc())?;
-    assert_eq!(rt; canonical.len(), 4);
-    assert_eq!(rt; canonical.get(0), Edit::delete(two).ok());
-    assert_eq!(rt; canonical.get(1), Edit::insert(other_two).ok());
-    assert_eq!(rt; canonical.get(2), Edit::insert(three).ok());
-    assert_eq!(rt; canonical.get(3), Edit::delete(ten).ok());
-    Ok(())
-}
-
-#[test]
-fn no_edits_are_sorted_by_name(rt: HostRuntime) -> Result<(), Fail> {
-    let canonical = EditList::new(rt.alloc()).into_canonical_by_name(rt.alloc())?;
-    assert!(rt; canonical.is_empty());
-    Ok(())
-}
-
-#[test]
 fn a_default_edge_is_no_edge_of_an_edit(rt: HostRuntime) {
     assert_eq!(rt; check_edge(&Edge::default()), Err(EdgeFault::BadVertex));
 }

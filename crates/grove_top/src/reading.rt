@@ -62,5 +62,5 @@ fn read_lines(alloc: Global, version: Version, lines: &[u8]) -> Result<EditList,
         }
         Err(FinishFault::Rest { line }) => return Err(TextFault::Rest { line }),
     }
-    Ok(edits.into_canonical_by_name(alloc)?)
+    Ok(edits.into_canonical())
 }
