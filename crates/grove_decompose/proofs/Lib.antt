@@ -10,3 +10,4 @@ pub mod Noted
 pub mod ByNumber
 pub mod Inserted
 pub mod Vectors
+pub mod Held

@@ -11,8 +11,13 @@ use grove_sorts::Position;
 #[derive(Clone, Copy, Debug)]
 pub(crate) struct NoCounter;
 
-// Vertices by their numbers and edges by their indices, so that nothing is looked up by a vertex or an edge.
-impl LiveGraph for GraphTable {
+/// A table with its vertices by their numbers and its edges by their indices, so that nothing is looked up by a vertex or an edge.
+#[derive(Clone, Copy)]
+pub(crate) struct LiveTable<'g> {
+    pub(crate) table: &'g GraphTable,
+}
+
+impl<'g> LiveGraph<'g> for LiveTable<'g> {
     ghost use Rattle.graph_table.specs.Table.{live as live_edges, vertex_at as vertex_of, edge_at as edge_of, IsNumber, IsIndex};
     ghost use Rattle.grove_decompose.specs.Trees.{OnlyInner};
 
@@ -24,28 +29,28 @@ impl LiveGraph for GraphTable {
 
     type Counter = NoCounter;
 
-    ghost live = { λ table. live_edges table };
+    ghost live = { λ it. live_edges it.table.now };
 
-    ghost vertex_at = { λ table number. vertex_of table number };
+    ghost vertex_at = { λ it number. vertex_of it.table.now number };
 
-    ghost edge_at = { λ table index. edge_of table index };
+    ghost edge_at = { λ it index. edge_of it.table.now index };
 
-    ghost IsSpot = { λ table number. IsNumber table number };
+    ghost IsSpot = { λ it number. IsNumber it.table.now number };
 
-    ghost IsLink = { λ table index. IsIndex table index };
+    ghost IsLink = { λ it index. IsIndex it.table.now index };
 
-    ghost AreInner = { λ table seen. OnlyInner table seen };
+    ghost AreInner = { λ it seen. OnlyInner it.table.now seen };
 
-    fn edge(&self, link: &usize) -> Edge {
-        GraphTable::edge(self, *link)
+    fn edge(&self, link: &usize) -> &'g Edge {
+        self.table.edge_ref(*link)
     }
 
     fn target(&self, link: &usize) -> usize {
-        GraphTable::target(self, *link)
+        self.table.target(*link)
     }
 
     fn is_shared(&self, spot: &usize, _counter: &mut NoCounter) -> bool {
-        matches!(self.parents(*spot), Parents::More(_, _))
+        matches!(self.table.parents(*spot), Parents::More(_, _))
     }
 
     fn children(
@@ -55,11 +60,11 @@ impl LiveGraph for GraphTable {
         out: &mut Vec<usize>,
         _counter: &mut NoCounter,
     ) -> Result<(), NoMemory> {
-        GraphTable::children(self, *spot, position, out)?;
+        self.table.children(*spot, position, out)?;
         Ok(())
     }
 
     fn note(&self, spot: &usize, notes: &mut Seen) {
-        notes.note(self, *spot)
+        notes.note(self.table, *spot)
     }
 }

@@ -4,6 +4,7 @@ ghost use Rattle.walks.specs.declared.class.Class.TheVariants.{Inner};
 ghost use Rattle.grove_edits.specs.Vertex.{vertex_cmp, is_same_vertex};
 ghost use Rattle.walks.specs.Live.{holds_edge};
 ghost use Rattle.walks.specs.Class.{class};
+ghost use Rattle.grove_terms.specs.Lent.{what_of};
 ghost use Rattle.grove_terms.specs.Nodes.{child_node};
 ghost use Rattle.grove_decompose.specs.Tasks.{what_by, child_rest, task_at, IsFound, IsUnder};
 
@@ -12,40 +13,40 @@ use crate::no_memory::NoMemory;
 use crate::place::push_places;
 use crate::task::Task;
 use grove_edits::{Edge, Vertex, is_same_vertex};
-use grove_terms::{Node, Tree, What};
+use grove_terms::{LentNode, LentWhat, Tree};
 
 // What a child is: under a root only the root itself heads a tree with one parent.
-fn what_of<G: LiveGraph>(
-    edge: &Edge,
+fn what_of<'g, G: LiveGraph<'g>>(
+    edge: &'g Edge,
     target: &G::Spot,
     root: &Vertex,
     graph: &G,
     counter: &mut G::Counter,
-) -> What
+) -> LentWhat<'g>
     requires spot { G.IsSpot graph.now target.now }
     requires target { G.vertex_at graph.now target.now ≡ edge.now.target }
     requires outer { class (G.live graph.now) root.now ≢ Inner }
     requires held { holds_edge edge.now (G.live graph.now) ≡ true }
     requires under { IsUnder (G.live graph.now) root.now edge.now.source }
-    ensures { result ≡ what_by (class (G.live graph.now) edge.now.target) edge.now.target }
+    ensures { what_of result ≡ what_by (class (G.live graph.now) edge.now.target) edge.now.target }
 {
     if graph.is_shared(target, counter) {
-        return What::MultiRef(edge.target);
+        return LentWhat::MultiRef(&edge.target);
     }
     if is_same_vertex(&edge.target, root) {
-        What::CycleRef(edge.target)
+        LentWhat::CycleRef(&edge.target)
     } else {
-        What::Vertex(edge.target)
+        LentWhat::Vertex(&edge.target)
     }
 }
 
 /// Lists a child, and adds a task for each of its positions where it is no reference. It tells the vertex in that case.
-pub(crate) fn list_child<G: LiveGraph>(
+pub(crate) fn list_child<'g, G: LiveGraph<'g>>(
     link: &G::Link,
     depth: u64,
     root: &Vertex,
     graph: &G,
-    tree: &mut Tree,
+    tree: &mut Tree<'g>,
     tasks: &mut Vec<Task<G::Spot, G::Link>>,
     counter: &mut G::Counter,
 ) -> Result<Option<G::Spot>, NoMemory>
@@ -64,17 +65,17 @@ pub(crate) fn list_child<G: LiveGraph>(
 {
     let edge = graph.edge(link);
     let target = graph.target(link);
-    let what = what_of(&edge, &target, root, graph, counter);
+    let what = what_of(edge, &target, root, graph, counter);
     // No child is deeper than there are nodes, so one more fits.
     let _nodes = tree.len();
-    tree.push(Node {
+    tree.push(LentNode {
         depth,
         position: Some(edge.position),
         edge: Some(edge),
         what,
     })?;
     match what {
-        What::Vertex(vertex) => {
+        LentWhat::Vertex(vertex) => {
             push_places(&target, &vertex.ctor, depth + 1, tasks)?;
             Ok(Some(target))
         }

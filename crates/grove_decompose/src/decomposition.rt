@@ -10,26 +10,25 @@ ghost use Rattle.grove_terms.specs.Sorted.{IsSortedGrove};
 
 use crate::descent::trees_of;
 use crate::heads::find_heads;
-use crate::live_indexes::LiveIndexes;
 use crate::no_memory::NoMemory;
 use child_index::ChildIndex;
 use graph_store::GraphStore;
 use grove_terms::Grove;
 use parent_index::ParentIndex;
 use std::alloc::Global;
-use std::marker::{Brand, PhantomData};
+use std::marker::Brand;
 use std::sync::ledger::{Blank, Ledger};
 use unicycle_roots::cycle_roots;
 use walks::Steps;
 
 /// The grove of the graph that a store holds, of which the indexes hold the live edges. Its trees are well sorted where the live edges
 /// are well formed, as they are where the store was raised by edits.
-pub fn decompose(
+pub fn decompose<'g>(
     alloc: Global,
-    store: &GraphStore,
-    children: &ChildIndex,
+    store: &'g GraphStore,
+    children: &'g ChildIndex,
     parents: &ParentIndex,
-) -> Result<Grove, NoMemory>
+) -> Result<Grove<'g>, NoMemory>
     requires children { AreLive (state_in store.now) (live children.now) }
     requires parents { AreLive (state_in store.now) (live parents.now) }
     ensures grove { IfOk result (λ grove. IsGrove (state_in store.now) grove) }
@@ -38,13 +37,13 @@ pub fn decompose(
     decompose_counting::<Brand>(alloc, store, children, parents, Blank::new(1))
 }
 
-fn decompose_counting<L: Ledger>(
+fn decompose_counting<'g, L: Ledger>(
     alloc: Global,
-    store: &GraphStore,
-    children: &ChildIndex,
+    store: &'g GraphStore,
+    children: &'g ChildIndex,
     parents: &ParentIndex,
     blank: Blank,
-) -> Result<Grove, NoMemory>
+) -> Result<Grove<'g>, NoMemory>
     requires name { blank.name ≡ L.name }
     requires parts { blank.parts ≡ L.parts }
     requires some { 0 < blank.parts }
@@ -57,14 +56,9 @@ fn decompose_counting<L: Ledger>(
     let vertices = store.vertices(alloc)?;
     let heads = find_heads(alloc, &vertices, parents, &mut steps)?;
     let cycles = cycle_roots(alloc, parents.seed(), &vertices, parents, &mut steps)?;
-    let indexes = LiveIndexes::<L> {
-        children,
-        parents,
-        ledger: PhantomData,
-    };
     Ok(Grove {
-        none: trees_of(alloc, &heads.none, &indexes, &mut steps)?,
-        multi: trees_of(alloc, &heads.multi, &indexes, &mut steps)?,
-        cycle: trees_of(alloc, &cycles, &indexes, &mut steps)?,
+        none: trees_of(alloc, store, &heads.none, children, parents, &mut steps)?,
+        multi: trees_of(alloc, store, &heads.multi, children, parents, &mut steps)?,
+        cycle: trees_of(alloc, store, &cycles, children, parents, &mut steps)?,
     })
 }

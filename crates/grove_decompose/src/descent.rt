@@ -1,8 +1,11 @@
-ghost use Rattle.std.specs.Prelude.{◌≡◌, ◌≢◌, ◌++◌, ◌≤◌, length, map, OnOk, IfOk, IfSome};
+ghost use Rattle.std.specs.Prelude.{◌≡◌, ◌≢◌, ◌++◌, ◌∷◌, ◌≤◌, [], length, map, OnOk, IfOk, IfSome};
 ghost use Rattle.std.specs.List.{AllByRecursion};
 ghost use Rattle.walks.specs.declared.class.Class.TheVariants.{Inner};
 ghost use Rattle.walks.specs.Class.{class};
+ghost use Rattle.walks.specs.Whole.{IsVertexOf};
+ghost use Rattle.graph_store.specs.Store.{state_in};
 ghost use Rattle.edge_index.specs.Lists.{live};
+ghost use Rattle.grove_terms.specs.Nodes.{head_node};
 ghost use Rattle.grove_terms.specs.Grove.{IsTreeOf, AreTreesOf};
 ghost use Rattle.grove_decompose.specs.Tasks.{IsFound, IsSound, step_nodes, step_tasks, task_at};
 
@@ -12,20 +15,24 @@ use crate::live_indexes::{LiveIndexes, NoNotes};
 use crate::no_memory::NoMemory;
 use crate::place::{list_place, push_places};
 use crate::task::Task;
+use child_index::ChildIndex;
+use graph_store::GraphStore;
 use grove_edits::Vertex;
-use grove_terms::{Node, Tree, TreeList, What};
+use grove_terms::{LentNode, LentWhat, Tree, TreeList};
+use parent_index::ParentIndex;
 use std::alloc::Global;
+use std::marker::PhantomData;
 use std::sync::ledger::Ledger;
 use walks::Steps;
 
 // Lists the first nodes of a part of a tree, and adds tasks for the rest of it. It tells the vertex that it lists under another one,
 // if it does. The list is for the children of a position.
-fn take<G: LiveGraph>(
+fn take<'g, G: LiveGraph<'g>>(
     task: &Task<G::Spot, G::Link>,
     root: &Vertex,
     graph: &G,
     links: &mut Vec<G::Link>,
-    tree: &mut Tree,
+    tree: &mut Tree<'g>,
     tasks: &mut Vec<Task<G::Spot, G::Link>>,
     counter: &mut G::Counter,
 ) -> Result<Option<G::Spot>, NoMemory>
@@ -54,15 +61,27 @@ fn take<G: LiveGraph>(
     }
 }
 
+fn push_head<'g>(root: &'g Vertex, tree: &mut Tree<'g>) -> Result<(), NoMemory>
+    ensures { OnOk result (tree.new ≡ tree.old ++ head_node root.now ∷ []) }
+{
+    tree.push(LentNode {
+        depth: 0,
+        position: None,
+        edge: None,
+        what: LentWhat::Vertex(root),
+    })?;
+    Ok(())
+}
+
 /// The tree of a vertex that heads one. What stands in it under another one is noted, also where memory runs out in the midst of it.
-pub(crate) fn tree_of<G: LiveGraph>(
+pub(crate) fn tree_of<'g, G: LiveGraph<'g>>(
     alloc: Global,
     spot: &G::Spot,
-    root: &Vertex,
+    root: &'g Vertex,
     graph: &G,
     notes: &mut G::Notes,
     counter: &mut G::Counter,
-) -> Result<Tree, NoMemory>
+) -> Result<Tree<'g>, NoMemory>
     requires spot { G.IsSpot graph.now spot.now }
     requires root { G.vertex_at graph.now spot.now ≡ root.now }
     requires outer { class (G.live graph.now) root.now ≢ Inner }
@@ -70,13 +89,8 @@ pub(crate) fn tree_of<G: LiveGraph>(
     ensures tree { IfOk result (λ tree. IsTreeOf (G.live graph.now) root.now tree) }
     ensures noted { G.AreInner graph.now notes.new }
 {
-    let mut tree = Tree::new(alloc);
-    tree.push(Node {
-        depth: 0,
-        position: None,
-        edge: None,
-        what: What::Vertex(*root),
-    })?;
+    let mut tree: Tree<'g> = Tree::new(alloc);
+    push_head(root, &mut tree)?;
     let mut links = Vec::new(alloc);
     let mut tasks = Vec::new(alloc);
     push_places(spot, &root.ctor, 1, &mut tasks)?;
@@ -91,20 +105,45 @@ pub(crate) fn tree_of<G: LiveGraph>(
     Ok(tree)
 }
 
-/// The trees of some vertices that head one each.
-pub(crate) fn trees_of<L: Ledger>(
+fn tree_at<'g, L: Ledger>(
     alloc: Global,
-    roots: &[Vertex],
-    indexes: &LiveIndexes<L>,
+    root: &'g Vertex,
+    children: &'g ChildIndex,
+    parents: &ParentIndex,
     steps: &mut Steps<L>,
-) -> Result<TreeList, NoMemory>
-    requires outer { AllByRecursion (λ root. class (live indexes.now.parents.now) root ≢ Inner) roots.now }
-    ensures trees { IfOk result (λ trees. AreTreesOf (live indexes.now.parents.now) roots.now trees) }
+) -> Result<Tree<'g>, NoMemory>
+    requires same { live children.now ≡ live parents.now }
+    requires outer { class (live parents.now) root.now ≢ Inner }
+    ensures { IfOk result (λ tree. IsTreeOf (live parents.now) root.now tree) }
+{
+    let indexes = LiveIndexes::<L> {
+        children,
+        parents,
+        ledger: PhantomData,
+    };
+    tree_of(alloc, root, root, &indexes, &mut NoNotes, steps)
+}
+
+/// The trees of some vertices of a graph that head one each.
+pub(crate) fn trees_of<'g, L: Ledger>(
+    alloc: Global,
+    store: &'g GraphStore,
+    roots: &[Vertex],
+    children: &'g ChildIndex,
+    parents: &ParentIndex,
+    steps: &mut Steps<L>,
+) -> Result<TreeList<'g>, NoMemory>
+    requires same { live children.now ≡ live parents.now }
+    requires held { AllByRecursion (IsVertexOf (state_in store.now)) roots.now }
+    requires outer { AllByRecursion (λ root. class (live parents.now) root ≢ Inner) roots.now }
+    ensures trees { IfOk result (λ trees. AreTreesOf (live parents.now) roots.now trees) }
 {
     let mut trees = TreeList::new(alloc);
-    let mut notes = NoNotes;
     for root in roots {
-        trees.push(tree_of(alloc, root, root, indexes, &mut notes, steps)?)?;
+        // Each of them is a vertex of the graph.
+        if let Some(kept) = store.vertex(root) {
+            trees.push(tree_at(alloc, kept, children, parents, steps)?)?;
+        }
     }
     Ok(trees)
 }

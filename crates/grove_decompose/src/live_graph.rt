@@ -9,8 +9,8 @@ use crate::no_memory::NoMemory;
 use grove_edits::Edge;
 use grove_sorts::Position;
 
-/// A graph as the listing of its trees asks for it.
-pub(crate) trait LiveGraph {
+/// A graph as the listing of its trees asks for it. It lends its edges.
+pub(crate) trait LiveGraph<'g> {
     ghost use Rattle.std.specs.Prelude.{List};
     ghost use Rattle.grove_edits.specs.declared.vertex.Vertex.{Vertex};
     ghost use Rattle.grove_edits.specs.declared.edge.Edge.{Edge};
@@ -42,9 +42,9 @@ pub(crate) trait LiveGraph {
     /// Only inner vertices were noted.
     ghost AreInner: { Self → Self.Notes → Type 0 };
 
-    fn edge(&self, link: &Self::Link) -> Edge
+    fn edge(&self, link: &Self::Link) -> &'g Edge
         requires { IsLink self.now link.now }
-        ensures { result ≡ edge_at self.now link.now };
+        ensures { result.now ≡ edge_at self.now link.now };
 
     /// The vertex to which an edge leads.
     fn target(&self, link: &Self::Link) -> Self::Spot

@@ -13,9 +13,9 @@ use walks::{Few, ParentOf, Steps};
 
 /// The live edges of a graph by both their ends. The look-ups are counted in a ledger.
 #[derive(Drop)]
-pub(crate) struct LiveIndexes<'a, L: Ledger> {
-    pub(crate) children: &'a ChildIndex,
-    pub(crate) parents: &'a ParentIndex,
+pub(crate) struct LiveIndexes<'g, 'p, L: Ledger> {
+    pub(crate) children: &'g ChildIndex,
+    pub(crate) parents: &'p ParentIndex,
     pub(crate) ledger: PhantomData<L>,
     ghost same: { live children.now ≡ live parents.now },
 }
@@ -24,12 +24,12 @@ pub(crate) struct LiveIndexes<'a, L: Ledger> {
 #[derive(Clone, Copy, Debug)]
 pub(crate) struct NoNotes;
 
-impl<L: Ledger> LiveGraph for LiveIndexes<'_, L> {
+impl<'g, L: Ledger> LiveGraph<'g> for LiveIndexes<'g, '_, L> {
     ghost use Rattle.edge_index.specs.Lists.{live as live_edges};
 
     type Spot = Vertex;
 
-    type Link = Edge;
+    type Link = &'g Edge;
 
     type Notes = NoNotes;
 
@@ -39,7 +39,7 @@ impl<L: Ledger> LiveGraph for LiveIndexes<'_, L> {
 
     ghost vertex_at = { λ _ vertex. vertex };
 
-    ghost edge_at = { λ _ edge. edge };
+    ghost edge_at = { λ _ edge. edge.now };
 
     ghost IsSpot = { λ _ _. Unit {0} };
 
@@ -47,11 +47,11 @@ impl<L: Ledger> LiveGraph for LiveIndexes<'_, L> {
 
     ghost AreInner = { λ _ _. Unit {0} };
 
-    fn edge(&self, link: &Edge) -> Edge {
+    fn edge(&self, link: &&'g Edge) -> &'g Edge {
         *link
     }
 
-    fn target(&self, link: &Edge) -> Vertex {
+    fn target(&self, link: &&'g Edge) -> Vertex {
         link.target
     }
 
@@ -63,11 +63,14 @@ impl<L: Ledger> LiveGraph for LiveIndexes<'_, L> {
         &self,
         spot: &Vertex,
         position: Position,
-        out: &mut Vec<Edge>,
+        out: &mut Vec<&'g Edge>,
         steps: &mut Steps<L>,
     ) -> Result<(), NoMemory> {
         out.clear();
-        out.extend_from_slice(self.children.children(spot, position, steps))?;
+        let edges = self.children.children(spot, position, steps);
+        for edge in edges {
+            out.push(edge)?;
+        }
         Ok(())
     }
 

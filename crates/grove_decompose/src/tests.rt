@@ -85,12 +85,12 @@ fn a_shared_part_heads_its_own_tree(rt: HostRuntime) -> Result<(), Fail> {
 }
 
 // The tree of the first of some vertices.
-fn first_tree(
+fn first_tree<'g>(
     alloc: Global,
-    table: &GraphTable,
+    table: &'g GraphTable,
     roots: &[Numbered],
     seen: &mut Seen,
-) -> Result<Tree, NoMemory>
+) -> Result<Tree<'g>, NoMemory>
     requires numbers { AllByRecursion (IsNumbered table.now) roots.now }
     requires outer { AllByRecursion (λ v. class (live table.now) v ≢ Inner) (vertices_of roots.now) }
     requires seen { OnlyInner table.now seen.old }

@@ -7,7 +7,7 @@ ghost use Rattle.grove_terms.specs.Grove.{IsTreeOf};
 ghost use Rattle.grove_terms.specs.Sorted.{IsSortedTree};
 ghost use Rattle.grove_decompose.specs.Trees.{OnlyInner, vertices_of};
 
-use crate::by_number::NoCounter;
+use crate::by_number::{LiveTable, NoCounter};
 use crate::candidates::{candidates_of, with_numbers};
 use crate::descent::tree_of;
 use crate::no_memory::NoMemory;
@@ -55,12 +55,12 @@ pub fn heads_of(
 
 /// The tree of a vertex that heads one. The vertices that stand in it under another one are then seen, also where memory runs out in
 /// the midst of it.
-pub fn tree_by_number(
+pub fn tree_by_number<'g>(
     alloc: Global,
-    table: &GraphTable,
+    table: &'g GraphTable,
     root: &Numbered,
     seen: &mut Seen,
-) -> Result<Tree, NoMemory>
+) -> Result<Tree<'g>, NoMemory>
     requires number { IsNumbered table.now root.now }
     requires outer { class (live table.now) root.now.vertex ≢ Inner }
     requires seen { OnlyInner table.now seen.old }
@@ -71,8 +71,8 @@ pub fn tree_by_number(
     tree_of(
         alloc,
         &root.number,
-        &root.vertex,
-        table,
+        table.vertex(root.number),
+        &LiveTable { table },
         seen,
         &mut NoCounter,
     )

@@ -3,8 +3,9 @@ use Rattle.grove_sorts.specs.Ctor.{positions}
 use Rattle.grove_edits.specs.declared.edge.Edge.{Edge}
 use Rattle.walks.specs.Class.{class}
 use Rattle.grove_terms.specs.declared.node.What.TheVariants as whats
+use Rattle.grove_terms.specs.Lent.{what_of}
 use Rattle.grove_decompose.specs.Tasks.{Task, what_by, task_at}
-use Rattle.grove_decompose.proofs.Pushing.{rest_of_vertex, rest_of_reference}
+use Rattle.grove_decompose.proofs.Pushing.{rest_of_vertex, rest_of_reference, no_vertex}
 use Rattle.grove_decompose.proofs.Under.{inner_of_vertex}
 use Rattle.grove_decompose.proofs.Mapped.{places_pushed, found_with_places}
 use Rattle.grove_decompose.proofs.child.list_child.Goals as goal
@@ -12,27 +13,27 @@ use Rattle.grove_decompose.proofs.child.list_child.Goals as goal
 pub returns-in_ok-push_places-in-Vertex-clause-tasks : goal.returns-in_ok-push_places-in-Vertex-clause-tasks
 returns-in_ok-push_places-in-Vertex-clause-tasks g c =
     let child = g.G.LiveGraph.edge_at c.args.graph.now c.args.link.now in
-    let is : what_by (class (g.G.LiveGraph.live c.args.graph.now) child.target) child.target ≡ whats.Vertex c.in-Vertex.vertex =
-    ap (λ (e : Edge). what_by (class (g.G.LiveGraph.live c.args.graph.now) e.target) e.target) (sym c.edge-edge.ensures) ∙ sym c.what_of-what.ensures ∙ c.in-Vertex.is in
-    places_pushed (g.G.LiveGraph.vertex_at c.args.graph.now) (g.G.LiveGraph.edge_at c.args.graph.now) c.args.tasks.now.items c.push_places.new.tasks.items c.target-target.result (c.args.depth + 1) (positions c.in-Vertex.vertex.ctor)
-    _ c.in_ok-push_places-in-Vertex.ensures (rest_of_vertex (class (g.G.LiveGraph.live c.args.graph.now) child.target) child.target c.in-Vertex.vertex _ c.args.depth is c.target-target.ensures.target)
+    let is : what_by (class (g.G.LiveGraph.live c.args.graph.now) child.target) child.target ≡ whats.Vertex c.in-Vertex.vertex.now =
+    ap (λ (e : Edge). what_by (class (g.G.LiveGraph.live c.args.graph.now) e.target) e.target) (sym c.edge-edge.ensures) ∙ sym c.what_of-what.ensures ∙ ap what_of c.in-Vertex.is in
+    places_pushed (g.G.LiveGraph.vertex_at c.args.graph.now) (g.G.LiveGraph.edge_at c.args.graph.now) c.args.tasks.now.items c.push_places.new.tasks.items c.target-target.result (c.args.depth + 1) (positions c.in-Vertex.vertex.now.ctor)
+    _ c.in_ok-push_places-in-Vertex.ensures (rest_of_vertex (class (g.G.LiveGraph.live c.args.graph.now) child.target) child.target c.in-Vertex.vertex.now _ c.args.depth is c.target-target.ensures.target)
 
 pub returns-in_ok-push_places-in-Vertex-clause-inner : goal.returns-in_ok-push_places-in-Vertex-clause-inner
 returns-in_ok-push_places-in-Vertex-clause-inner g c =
     let child = g.G.LiveGraph.edge_at c.args.graph.now c.args.link.now in
-    let is : what_by (class (g.G.LiveGraph.live c.args.graph.now) child.target) child.target ≡ whats.Vertex c.in-Vertex.vertex =
-    ap (λ (e : Edge). what_by (class (g.G.LiveGraph.live c.args.graph.now) e.target) e.target) (sym c.edge-edge.ensures) ∙ sym c.what_of-what.ensures ∙ c.in-Vertex.is in
-    inner_of_vertex (g.G.LiveGraph.live c.args.graph.now) child c.in-Vertex.vertex _ c.requires.held is c.target-target.ensures.target
+    let is : what_by (class (g.G.LiveGraph.live c.args.graph.now) child.target) child.target ≡ whats.Vertex c.in-Vertex.vertex.now =
+    ap (λ (e : Edge). what_by (class (g.G.LiveGraph.live c.args.graph.now) e.target) e.target) (sym c.edge-edge.ensures) ∙ sym c.what_of-what.ensures ∙ ap what_of c.in-Vertex.is in
+    inner_of_vertex (g.G.LiveGraph.live c.args.graph.now) child c.in-Vertex.vertex.now _ c.requires.held is c.target-target.ensures.target
 
 pub returns-in_ok-push_places-in-Vertex-clause-found : goal.returns-in_ok-push_places-in-Vertex-clause-found
 returns-in_ok-push_places-in-Vertex-clause-found g c =
-    found_with_places (g.G.LiveGraph.IsSpot c.args.graph.now) (g.G.LiveGraph.IsLink c.args.graph.now) c.args.tasks.now.items c.push_places.new.tasks.items c.target-target.result (c.args.depth + 1) (positions c.in-Vertex.vertex.ctor)
+    found_with_places (g.G.LiveGraph.IsSpot c.args.graph.now) (g.G.LiveGraph.IsLink c.args.graph.now) c.args.tasks.now.items c.push_places.new.tasks.items c.target-target.result (c.args.depth + 1) (positions c.in-Vertex.vertex.now.ctor)
     c.in_ok-push_places-in-Vertex.ensures c.target-target.ensures.spot c.requires.found
 
 pub returns-in_default-clause-tasks : goal.returns-in_default-clause-tasks
 returns-in_default-clause-tasks g c =
     let child = g.G.LiveGraph.edge_at c.args.graph.now c.args.link.now in
     let at = map (task_at (g.G.LiveGraph.vertex_at c.args.graph.now) (g.G.LiveGraph.edge_at c.args.graph.now)) c.args.tasks.now.items in
-    let is : c.what_of-what.result ≡ what_by (class (g.G.LiveGraph.live c.args.graph.now) child.target) child.target =
+    let is : what_of c.what_of-what.result ≡ what_by (class (g.G.LiveGraph.live c.args.graph.now) child.target) child.target =
     c.what_of-what.ensures ∙ ap (λ (e : Edge). what_by (class (g.G.LiveGraph.live c.args.graph.now) e.target) e.target) c.edge-edge.ensures in
-    sym (append-nil at) ∙ ap (λ (ts : List Task). at ++ ts) (rest_of_reference (class (g.G.LiveGraph.live c.args.graph.now) child.target) child.target c.args.depth (λ v are. c.in_default.not-Vertex v (is ∙ are)))
+    sym (append-nil at) ∙ ap (λ (ts : List Task). at ++ ts) (rest_of_reference (class (g.G.LiveGraph.live c.args.graph.now) child.target) child.target c.args.depth (λ v are. no_vertex c.what_of-what.result v c.in_default.not-Vertex (is ∙ are)))

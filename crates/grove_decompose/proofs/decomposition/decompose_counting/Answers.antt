@@ -7,25 +7,35 @@ use Rattle.grove_terms.specs.Grove.{IsGrove}
 use Rattle.grove_terms.proofs.OneGrove.{one_live}
 use Rattle.grove_terms.proofs.WellSorted.{sorted_grove}
 use Rattle.grove_decompose.proofs.Going.{outer_of_class, trees_along}
+use Rattle.grove_decompose.proofs.Held.{class_held}
 use Rattle.grove_decompose.proofs.decomposition.decompose_counting.Goals as goal
 
 pub trees_of-requires : goal.trees_of-requires
-trees_of-requires g c = record {
-  outer = outer_of_class NoParent (live c.args.parents.now) c.in_ok-vertices.vertices.items c.deref-3.result.now (λ e. cc)
-      (c.deref-3.ensures.value ∙ c.in_ok-heads.ensures.none ∙ ap (of_class NoParent (live c.args.parents.now)) c.deref.ensures.value);
-}
+trees_of-requires g c =
+    let are = c.deref-3.ensures.value ∙ c.in_ok-heads.ensures.none ∙ ap (of_class NoParent (live c.args.parents.now)) c.deref.ensures.value in
+    record {
+      same = one_live (state_in c.args.store.now) (live c.args.children.now) (live c.args.parents.now) c.requires.children c.requires.parents;
+      held = class_held NoParent (state_in c.args.store.now) (live c.args.parents.now) c.in_ok-vertices.vertices.items c.deref-3.result.now c.in_ok-vertices.ensures.vertices are;
+      outer = outer_of_class NoParent (live c.args.parents.now) c.in_ok-vertices.vertices.items c.deref-3.result.now (λ e. cc) are;
+    }
 
 pub trees_of-requires-2 : goal.trees_of-requires-2
-trees_of-requires-2 g c = record {
-  outer = outer_of_class Multi (live c.args.parents.now) c.in_ok-vertices.vertices.items c.deref-4.result.now (λ e. cc)
-      (c.deref-4.ensures.value ∙ c.in_ok-heads.ensures.multi ∙ ap (of_class Multi (live c.args.parents.now)) c.deref.ensures.value);
-}
+trees_of-requires-2 g c =
+    let are = c.deref-4.ensures.value ∙ c.in_ok-heads.ensures.multi ∙ ap (of_class Multi (live c.args.parents.now)) c.deref.ensures.value in
+    record {
+      same = one_live (state_in c.args.store.now) (live c.args.children.now) (live c.args.parents.now) c.requires.children c.requires.parents;
+      held = class_held Multi (state_in c.args.store.now) (live c.args.parents.now) c.in_ok-vertices.vertices.items c.deref-4.result.now c.in_ok-vertices.ensures.vertices are;
+      outer = outer_of_class Multi (live c.args.parents.now) c.in_ok-vertices.vertices.items c.deref-4.result.now (λ e. cc) are;
+    }
 
 pub trees_of-requires-3 : goal.trees_of-requires-3
-trees_of-requires-3 g c = record {
-  outer = outer_of_class Cycle (live c.args.parents.now) c.in_ok-vertices.vertices.items c.deref-5.result.now (λ e. cc)
-      (c.deref-5.ensures.value ∙ c.in_ok-cycles.ensures.roots ∙ ap (of_class Cycle (live c.args.parents.now)) c.deref-2.ensures.value);
-}
+trees_of-requires-3 g c =
+    let are = c.deref-5.ensures.value ∙ c.in_ok-cycles.ensures.roots ∙ ap (of_class Cycle (live c.args.parents.now)) c.deref-2.ensures.value in
+    record {
+      same = one_live (state_in c.args.store.now) (live c.args.children.now) (live c.args.parents.now) c.requires.children c.requires.parents;
+      held = class_held Cycle (state_in c.args.store.now) (live c.args.parents.now) c.in_ok-vertices.vertices.items c.deref-5.result.now c.in_ok-vertices.ensures.vertices are;
+      outer = outer_of_class Cycle (live c.args.parents.now) c.in_ok-vertices.vertices.items c.deref-5.result.now (λ e. cc) are;
+    }
 
 pub returns : goal.returns
 returns g c =
@@ -41,6 +51,3 @@ returns g c =
       cycle = trees_along edges _ _ _ (c.deref-5.ensures.value ∙ c.in_ok-cycles.ensures.roots ∙ ap (of_class Cycle edges) c.deref-2.ensures.value) c.in_ok-trees_of-3.ensures.trees;
     } in
     record { grove = grove; sorted = λ each. sorted_grove (state_in c.args.store.now) _ each grove }
-
-pub invariant_of-indexes : goal.invariant_of-indexes
-invariant_of-indexes g c = record { same = one_live (state_in c.args.store.now) (live c.args.children.now) (live c.args.parents.now) c.requires.children c.requires.parents }

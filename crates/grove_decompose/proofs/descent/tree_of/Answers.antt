@@ -1,4 +1,4 @@
-use Rattle.std.proofs.Common.{rules}
+use Rattle.std.proofs.Common.{rules, refl}
 use Rattle.grove_decompose.proofs.Listing.{started, last_taken, went_on, less_to_list, none_left}
 use Rattle.grove_decompose.proofs.descent.tree_of.Goals as goal
 
@@ -9,20 +9,11 @@ loop-task-init g c = record {
   noted = c.requires.noted;
 }
 
-pub take-requires-clause-sound : goal.take-requires-clause-sound
-take-requires-clause-sound g c =
-    (last_taken (g.G.LiveGraph.vertex_at c.args.graph.now) (g.G.LiveGraph.edge_at c.args.graph.now) (g.G.LiveGraph.IsSpot c.args.graph.now) (g.G.LiveGraph.IsLink c.args.graph.now)
-    (g.G.LiveGraph.live c.args.graph.now) c.args.root.now c.loop-task.tree c.loop-task.tasks.items c.pop.new.self.items c.in-Some.task c.loop-task.invariant.listing c.in-Some.ensures.items).sound
-
-pub take-requires-clause-task_found : goal.take-requires-clause-task_found
-take-requires-clause-task_found g c =
-    (last_taken (g.G.LiveGraph.vertex_at c.args.graph.now) (g.G.LiveGraph.edge_at c.args.graph.now) (g.G.LiveGraph.IsSpot c.args.graph.now) (g.G.LiveGraph.IsLink c.args.graph.now)
-    (g.G.LiveGraph.live c.args.graph.now) c.args.root.now c.loop-task.tree c.loop-task.tasks.items c.pop.new.self.items c.in-Some.task c.loop-task.invariant.listing c.in-Some.ensures.items).found
-
-pub take-requires-clause-found : goal.take-requires-clause-found
-take-requires-clause-found g c =
-    (last_taken (g.G.LiveGraph.vertex_at c.args.graph.now) (g.G.LiveGraph.edge_at c.args.graph.now) (g.G.LiveGraph.IsSpot c.args.graph.now) (g.G.LiveGraph.IsLink c.args.graph.now)
-    (g.G.LiveGraph.live c.args.graph.now) c.args.root.now c.loop-task.tree c.loop-task.tasks.items c.pop.new.self.items c.in-Some.task c.loop-task.invariant.listing c.in-Some.ensures.items).rest_found
+pub take-requires : goal.take-requires
+take-requires g c =
+    let taken = last_taken (g.G.LiveGraph.vertex_at c.args.graph.now) (g.G.LiveGraph.edge_at c.args.graph.now) (g.G.LiveGraph.IsSpot c.args.graph.now) (g.G.LiveGraph.IsLink c.args.graph.now)
+    (g.G.LiveGraph.live c.args.graph.now) c.args.root.now c.loop-task.tree c.loop-task.tasks.items c.pop.new.self.items c.in-Some.task c.loop-task.invariant.listing c.in-Some.ensures.items in
+    λ k. ((refl, tt), (c.requires.outer, (taken.sound, (taken.found, taken.rest_found))))
 
 pub loop-task-smaller : goal.loop-task-smaller
 loop-task-smaller g c =

@@ -11,5 +11,5 @@ use Rattle.grove_decompose.proofs.trees.tree_by_number.Goals as goal
 pub returns-clause-sorted : goal.returns-clause-sorted
 returns-clause-sorted c =
     let edges = live c.args.table.now in
-    let v = c.args.root.now.vertex in
+    let v = c.vertex.result.now in
     IfOk-weaker c.tree_of.result (IsTreeOf edges v) IsSortedTree (λ (nodes : List Node). sorted_tree edges v nodes (inserted_well_formed c.args.table.now.edits)) c.tree_of.ensures.tree
