@@ -78,6 +78,7 @@ fn is_conflict(what: &LentWhat) -> bool
 {
     match what {
         LentWhat::Conflict(_, _) => true,
-        LentWhat::Vertex(_) | LentWhat::Hole(_) | LentWhat::MultiRef(_) | LentWhat::CycleRef(_) => false,
+        LentWhat::Vertex(_) | LentWhat::Hole(_) | LentWhat::MultiRef(_) | LentWhat::CycleRef(_) =>
+            false,
     }
 }
