@@ -42,21 +42,44 @@ fn tree_with<'g>(
     Ok(tree)
 }
 
-#[test]
-fn edges_are_listed_tree_by_tree(rt: HostRuntime) -> Result<(), Fail> {
-    let alloc = rt.alloc();
-    let root = Vertex::ROOT;
-    let (first, second, third) = (to_number(1), to_number(2), to_number(3));
+// A grove in which each list of trees has one with a child.
+fn grove_with<'g>(
+    alloc: Global,
+    root: &'g Vertex,
+    first: &'g Edge,
+    second: &'g Edge,
+    third: &'g Edge,
+) -> Result<Grove<'g>, NoMemory> {
     let mut grove = Grove {
         none: TreeList::new(alloc),
         multi: TreeList::new(alloc),
         cycle: TreeList::new(alloc),
     };
-    grove.cycle.push(tree_with(alloc, &root, Some(&third))?)?;
-    grove.none.push(tree_with(alloc, &root, Some(&first))?)?;
-    grove.none.push(tree_with(alloc, &root, None)?)?;
-    grove.multi.push(tree_with(alloc, &root, Some(&second))?)?;
-    let listed = edges(alloc, &grove)?;
+    grove.cycle.push(tree_with(alloc, root, Some(third))?)?;
+    grove.none.push(tree_with(alloc, root, Some(first))?)?;
+    grove.none.push(tree_with(alloc, root, None)?)?;
+    grove.multi.push(tree_with(alloc, root, Some(second))?)?;
+    Ok(grove)
+}
+
+fn edges_of(
+    alloc: Global,
+    root: &Vertex,
+    first: &Edge,
+    second: &Edge,
+    third: &Edge,
+) -> Result<EdgeList, NoMemory> {
+    let grove = grove_with(alloc, root, first, second, third)?;
+    edges(alloc, &grove)
+}
+
+#[test]
+fn edges_are_listed_tree_by_tree(rt: HostRuntime) -> Result<(), Fail> {
+    let root = Vertex::ROOT;
+    let first = to_number(1);
+    let second = to_number(2);
+    let third = to_number(3);
+    let listed = edges_of(rt.alloc(), &root, &first, &second, &third)?;
     assert_eq!(rt; listed.len(), 3);
     assert_eq!(rt; listed.get(0), Some(first));
     assert_eq!(rt; listed.get(1), Some(second));
