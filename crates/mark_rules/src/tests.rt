@@ -57,8 +57,8 @@ const SEVEN: Vertex = Vertex {
 fn a_number_is_marked(rt: HostRuntime) -> Result<(), Fail> {
     let mut types = TypeTable::new(rt.alloc())?;
     let mut ctxs = CtxTable::new(rt.alloc())?;
-    let mut tree = Tree::new(rt.alloc());
     let vertex = SEVEN;
+    let mut tree = Tree::new(rt.alloc());
     let seven = LentNode {
         depth: 0,
         position: None,
