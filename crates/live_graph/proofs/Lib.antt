@@ -7,3 +7,6 @@ pub mod Listed
 pub mod Entered
 pub mod Raises
 pub mod Children
+pub mod Listing
+pub mod Once
+pub mod Ends

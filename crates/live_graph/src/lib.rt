@@ -9,6 +9,7 @@ mod live_lists;
 mod neighbours;
 mod no_memory;
 mod places;
+mod whole;
 
 pub use change::Change;
 pub use edges::Edges;

@@ -1,20 +1,23 @@
-ghost use Rattle.std.specs.Prelude.{◌≡◌, ◌+◌, [], ◌∷◌, length, OnOk};
+ghost use Rattle.std.specs.Prelude.{◌≡◌, ◌+◌, [], ◌∷◌, length, OnOk, IfOk};
 ghost use Rattle.grove_edits.specs.Edit.{edit_edge, edit_kind};
-ghost use Rattle.grove_edits.specs.Graph.{IsSame, graph, graph_join, state_of};
+ghost use Rattle.grove_edits.specs.Graph.{IsSame, IsCanonical, graph, graph_join, state_of};
 ghost use Rattle.walks.specs.Live.{IsInEdgeOrder, children_of, parents_of};
+ghost use Rattle.walks.specs.Whole.{AreVertices};
 ghost use Rattle.edge_numbers.specs.Numbered.{state_in, with_state, HasRoom, KeepsRoom};
 ghost use Rattle.live_graph.specs.Change.{IsChange};
 ghost use Rattle.live_graph.specs.Live.{live};
+ghost use Rattle.live_graph.specs.Store.{well_formed};
 
 use crate::change::Change;
 use crate::edges::Edges;
 use crate::live_lists::{enter, set_state};
 use crate::neighbours::{children_at, parents_at};
 use crate::no_memory::NoMemory;
+use crate::whole::{edits_of, ends_of, sort_vertices};
 use edge_lattice::{State, join, leq};
 use edge_lists::{ByEdge, ByPosition, EdgeLists};
 use edge_numbers::EdgeNumbers;
-use grove_edits::{Edge, Edit, EditKind, Vertex};
+use grove_edits::{Edge, Edit, EditKind, EditList, Vertex};
 use grove_sorts::Position;
 use seeded_hash::HashSeed;
 use std::alloc::Global;
@@ -119,6 +122,25 @@ impl LiveGraph {
         }
         self.put_back(edge, asked);
         Change::Raised { old }
+    }
+
+    /// The canonical list of the graph, in edge order: an insertion of each live edge and a deletion of each deleted one.
+    pub fn in_order(&self, alloc: Global) -> Result<EditList, NoMemory>
+        ensures canonical { IfOk result (λ list. IsCanonical (well_formed (state_in self.now)) list) }
+    {
+        let edits = edits_of(alloc, &self.edges)?;
+        Ok(edits.into_canonical())
+    }
+
+    /// All vertices of the graph, in vertex order: the vertex `0.0 root`, and the ends of the edges that are not Absent.
+    pub fn vertices(&self, alloc: Global) -> Result<Vec<Vertex>, NoMemory>
+        ensures vertices { IfOk result (λ list. AreVertices (state_in self.now) list.items) }
+    {
+        // No edge has two states.
+        let _edges = self.edges.edge_count();
+        let mut vertices = ends_of(alloc, &self.edges)?;
+        sort_vertices(&mut vertices);
+        Ok(vertices)
     }
 
     /// The live edges from a position of a vertex, in edge order. It ticks once for the call, and once for each edge.

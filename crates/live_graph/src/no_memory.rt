@@ -37,3 +37,9 @@ impl From<edge_lists::NoMemory> for NoMemory {
         NoMemory
     }
 }
+
+impl From<grove_edits::NoMemory> for NoMemory {
+    fn from(_error: grove_edits::NoMemory) -> NoMemory {
+        NoMemory
+    }
+}
