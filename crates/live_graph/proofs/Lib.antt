@@ -10,3 +10,4 @@ pub mod Children
 pub mod Listing
 pub mod Once
 pub mod Ends
+pub mod Targets

@@ -5,3 +5,4 @@ pub mod Store
 pub mod Listed
 pub mod Named
 pub mod Ends
+pub mod Kept

@@ -8,6 +8,7 @@ mod live_graph;
 mod live_lists;
 mod neighbours;
 mod no_memory;
+mod parent_count;
 mod places;
 mod whole;
 

@@ -10,9 +10,10 @@ ghost use Rattle.live_graph.specs.Store.{well_formed};
 
 use crate::change::Change;
 use crate::edges::Edges;
-use crate::live_lists::{enter, set_state};
+use crate::live_lists::enter;
 use crate::neighbours::{children_at, parents_at};
 use crate::no_memory::NoMemory;
+use crate::parent_count::set_counted_state;
 use crate::whole::{edits_of, ends_of, sort_vertices};
 use edge_lattice::{State, join, leq};
 use edge_lists::{ByEdge, ByPosition, EdgeLists};
@@ -23,7 +24,7 @@ use seeded_hash::HashSeed;
 use std::alloc::Global;
 use std::marker::Model;
 use std::sync::ledger::Ledger;
-use walks::Steps;
+use walks::{Few, ParentOf, Steps};
 
 /// A live graph: the state of each edge, with the live edges around each vertex. Contracts see its entries, of which those with the state
 /// Absent are room.
@@ -33,17 +34,19 @@ pub struct LiveGraph {
     // The live edges from each vertex, and those to it.
     children: EdgeLists<ByPosition>,
     parents: EdgeLists<ByEdge>,
+    // How many vertices have a live parent edge.
+    parent_count: u64,
 }
 
 impl Model for LiveGraph {
     ghost use Rattle.edge_numbers.specs.Numbered.{Entries};
-    ghost use Rattle.live_graph.specs.Around.{IsListed};
+    ghost use Rattle.live_graph.specs.Kept.{IsKept};
 
     ghost Value = { Entries };
 
     ghost view = { λ graph. graph.edges.entries };
 
-    ghost invariant = { λ graph. IsListed graph.edges graph.children graph.parents };
+    ghost invariant = { λ graph. IsKept graph.edges graph.children graph.parents graph.parent_count };
 }
 
 impl LiveGraph {
@@ -62,6 +65,7 @@ impl LiveGraph {
             edges: EdgeNumbers::with_seed(alloc, seed),
             children: EdgeLists::new(alloc),
             parents: EdgeLists::new(alloc),
+            parent_count: 0,
         }
     }
 
@@ -97,10 +101,11 @@ impl LiveGraph {
         ensures room_stays { KeepsRoom self.old self.new }
     {
         if let Some(number) = self.edges.number(edge) {
-            set_state(
+            set_counted_state(
                 &mut self.edges,
                 &mut self.children,
                 &mut self.parents,
+                &mut self.parent_count,
                 number,
                 old,
             );
@@ -165,6 +170,17 @@ impl LiveGraph {
         }
     }
 
+    // The live parent edges of a vertex, uncounted.
+    fn parents_told(&self, vertex: &Vertex) -> Edges<'_>
+        ensures parents { result ≡ parents_of vertex.now (live self.now) }
+        ensures in_order { IsInEdgeOrder (live self.now) }
+    {
+        Edges {
+            edges: &self.edges,
+            numbers: parents_at(&self.edges, &self.parents, vertex),
+        }
+    }
+
     /// The live parent edges of a vertex, in edge order. It ticks once for the call, and once for each edge.
     pub fn parents<L: Ledger>(&self, vertex: &Vertex, steps: &mut Steps<L>) -> Edges<'_>
         ensures parents { result ≡ parents_of vertex.now (live self.now) }
@@ -180,6 +196,30 @@ impl LiveGraph {
             edges: &self.edges,
             numbers,
         }
+    }
+}
+
+impl ParentOf for LiveGraph {
+    ghost use Rattle.live_graph.specs.Live.{live as live_edges};
+
+    ghost live = { λ entries. live_edges entries };
+
+    fn few<L: Ledger>(&self, vertex: &Vertex, steps: &mut Steps<L>) -> Few {
+        let parents = self.parents_told(vertex);
+        steps.tick();
+        let Some(first) = parents.first() else {
+            return Few::Zero;
+        };
+        steps.tick();
+        let Some(second) = parents.get(1) else {
+            return Few::One(first);
+        };
+        steps.tick();
+        Few::More(first, second)
+    }
+
+    fn vertex_count(&self) -> u64 {
+        self.parent_count
     }
 }
 

@@ -9,7 +9,7 @@ use std::marker::Brand;
 use std::process::Abort;
 use std::sync::ledger::{Blank, Ledger};
 use std::test::Fail;
-use walks::Steps;
+use walks::{Few, ParentOf, Steps};
 
 fn edge(counter: u64, child: u64) -> Edge {
     Edge {
@@ -102,6 +102,8 @@ fn check_root_children<L: Ledger, R: Abort>(rt: &R, blank: Blank, graph: &LiveGr
     assert_eq!(rt; first, edge(1, 5));
     assert_eq!(rt; others.get(0), Some(edge(2, 6)));
     assert_eq!(rt; others.len(), 1);
+    let parents = graph.few(&edge(1, 5).target, &mut steps);
+    assert_eq!(rt; parents, Few::One(edge(1, 5)));
 }
 
 fn check_children<R: Abort>(rt: &R, graph: &LiveGraph) {
@@ -114,5 +116,8 @@ fn edges_are_told_one_by_one(rt: HostRuntime) -> Result<(), Fail> {
     raise(&mut graph, EditKind::Insert, edge(2, 6))?;
     raise(&mut graph, EditKind::Insert, edge(1, 5))?;
     check_children(&rt, &graph);
+    assert_eq!(rt; graph.vertex_count(), 2);
+    raise(&mut graph, EditKind::Delete, edge(2, 6))?;
+    assert_eq!(rt; graph.vertex_count(), 1);
     Ok(())
 }

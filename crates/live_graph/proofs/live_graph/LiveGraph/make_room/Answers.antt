@@ -1,4 +1,5 @@
-use Rattle.std.proofs.Common.{sym, ap, subst, ◌∙◌}
+use Rattle.std.proofs.Common.{length, sym, ap, subst, ◌∙◌}
+use Rattle.walks.specs.Live.{targets_of}
 use Rattle.edge_numbers.specs.Numbered.{Entries, state_in, HasRoom}
 use Rattle.live_graph.specs.Live.{live}
 use Rattle.live_graph.proofs.Numbers.{room-at}
@@ -26,3 +27,11 @@ returns-clause-unchanged c e =
 pub returns-clause-live_stays : goal.returns-clause-live_stays
 returns-clause-live_stays c =
     live_stays c.enter.result c.self.inside.edges.entries c.enter.new.edges.entries c.args.edge.now c.enter.ensures.entries c.enter.ensures.unchanged ∙ ap live c.self.view_is
+
+pub invariant_of-self : goal.invariant_of-self
+invariant_of-self c = record {
+  listed = c.enter.ensures.listed;
+  counted =
+      c.self.invariant.counted
+      ∙ ap (λ es. length (targets_of es)) (sym (live_stays c.enter.result c.self.inside.edges.entries c.enter.new.edges.entries c.args.edge.now c.enter.ensures.entries c.enter.ensures.unchanged));
+}
