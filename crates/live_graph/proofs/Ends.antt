@@ -23,7 +23,7 @@ or_right : (b : Bool) {c : Bool} → c ≡ true → (b || c) ≡ true
 or_right true h = refl
 or_right false h = h
 
-or_none : (b : Bool) → (b || false) ≡ b
+pub or_none : (b : Bool) → (b || false) ≡ b
 or_none true = refl
 or_none false = refl
 
@@ -109,11 +109,11 @@ end_held (x ∷ xs) e v some end = by_test (is_same_edge e x.0) refl some (λ la
 abbrev pub IsEndIn : Entries → Vertex → Type 0
 IsEndIn entries v = (e : Edge) × (state_in entries e ≢ Absent) × ((e.source ≡ v) ⊎ (e.target ≡ v))
 
-and_left : (a b : Bool) → (a && b) ≡ true → a ≡ true
+pub and_left : (a b : Bool) → (a && b) ≡ true → a ≡ true
 and_left true b h = refl
 and_left false b h = absurd cc
 
-and_right : (a b : Bool) → (a && b) ≡ true → b ≡ true
+pub and_right : (a b : Bool) → (a && b) ≡ true → b ≡ true
 and_right true b h = h
 and_right false b h = absurd cc
 

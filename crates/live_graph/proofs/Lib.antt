@@ -11,3 +11,4 @@ pub mod Listing
 pub mod Once
 pub mod Ends
 pub mod Targets
+pub mod Names

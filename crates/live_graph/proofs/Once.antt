@@ -13,9 +13,15 @@ use Rattle.grove_edits.specs.declared.vertex.Vertex.{Vertex}
 use Rattle.grove_edits.specs.Vertex.{vertex_cmp, is_same_vertex, stands_in}
 use Rattle.grove_edits.specs.contracts.vertex.VertexOrd.TheImpl as vertex_impl
 use Rattle.grove_edits.specs.contracts.vertex.VertexPartialEq.TheImpl as vertex_eq
-use Rattle.grove_edits.proofs.Orders.{vertex_cmp_total, cmp_is_vertex_cmp}
+use Rattle.grove_edits.proofs.Orders.{vertex_cmp_total, cmp_is_vertex_cmp, edge_cmp_total, cmp_is_edge_cmp, eq_is_same_edge, one_edge}
 use Rattle.grove_edits.proofs.Vertices.{same_vertex_exact, eq_is_same_vertex}
+use Rattle.grove_edits.specs.declared.edge.Edge.{Edge}
+use Rattle.grove_edits.specs.Edge.{edge_cmp}
+use Rattle.grove_edits.specs.Graph.{is_same_edge}
+use Rattle.grove_edits.specs.contracts.edge.EdgeOrd.TheImpl as edge_impl
+use Rattle.grove_edits.specs.contracts.edge.EdgePartialEq.TheImpl as edge_eq
 use Rattle.walks.specs.Whole.{IsInVertexOrder}
+use Rattle.walks.specs.Live.{IsInEdgeOrder, holds_edge}
 
 -- where what is alike is one, nothing is lost
 module _ {X : Type 0} (E : X → X → Bool) (exact : (x y : X) → E x y ≡ true → x ≡ y) (p : X → Bool) where
@@ -69,3 +75,23 @@ module _ (before sorted after : List Vertex) (filtered : IsFiltered (DiffersFrom
       stands-any v after
       ∙ same_elements vertex_cmp vertex_cmp_total vertex_eq.eq-value.it eq_is_same_vertex exact before sorted after filtered moved (λ x. is_same_vertex x v)
       ∙ sym (stands-any v before)
+
+-- ---- edges
+
+in_edge_order : (es : List Edge) → IsStrictlySortedBy edge_cmp es → IsInEdgeOrder es
+unfolding IsStrictlySortedBy
+in_edge_order [] up = tt
+in_edge_order (e ∷ es) up = (up.0, in_edge_order es up.1)
+
+module _ (before sorted after : List Edge) (filtered : IsFiltered (DiffersFromLast edge_eq.ghosts.eq) [] sorted after) where
+  exact_edge : (a b : Edge) → edge_eq.ghosts.eq a b ≡ true → a ≡ b
+  exact_edge a b same = one_edge a b (sym (eq_is_same_edge a b) ∙ same)
+
+  pub edges_in_order : IsSorted edge_impl.ghosts.cmp sorted → IsInEdgeOrder after
+  edges_in_order up =
+      in_edge_order after
+      (strict edge_cmp edge_cmp_total edge_eq.ghosts.eq eq_is_same_edge exact_edge before sorted after filtered
+      (subst (λ (R : Edge → Edge → Ordering). IsSorted R sorted) (λ j a b. cmp_is_edge_cmp a b j) up))
+
+  pub same_edges : IsPermutation before sorted → (e : Edge) → holds_edge e after ≡ holds_edge e before
+  same_edges moved e = same_elements edge_cmp edge_cmp_total edge_eq.ghosts.eq eq_is_same_edge exact_edge before sorted after filtered moved (λ x. is_same_edge x e)

@@ -3,14 +3,17 @@ use Rattle.std.specs.Prelude.{◌≡◌, ℕ, List, length}
 use Rattle.walks.specs.Live.{targets_of}
 use Rattle.edge_numbers.specs.Numbered.{Numbered}
 use Rattle.edge_lists.specs.Lists.{Listed}
+use Rattle.numbers_by_name.specs.ByName.{Lists}
 use Rattle.live_graph.specs.Live.{live}
 use Rattle.live_graph.specs.Around.{IsListed}
+use Rattle.live_graph.specs.ByName.{HasEdgeNames}
 
 -- so many vertices have a live parent edge
 abbrev pub IsParentCount : Numbered → ℕ → Type 0
 IsParentCount edges count = count ≡ length (targets_of (live edges.entries))
 
 -- all that is kept is of the entries
-pub record IsKept (edges : Numbered) (children parents : List Listed) (parent_count : ℕ) : Type 0 where
+pub record IsKept (edges : Numbered) (children parents : List Listed) (parent_count : ℕ) (edge_names : Lists) : Type 0 where
   pub listed : IsListed edges children parents
   pub counted : IsParentCount edges parent_count
+  pub named : HasEdgeNames edges edge_names

@@ -6,3 +6,5 @@ pub mod Listed
 pub mod Named
 pub mod Ends
 pub mod Kept
+pub mod NamedEdges
+pub mod ByName

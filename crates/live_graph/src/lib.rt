@@ -2,6 +2,7 @@
 //! else by its number. Its model is the list of its edges, each with its state, in the order of their numbers.
 #![tactic(auto)]
 
+mod by_name;
 mod change;
 mod edges;
 mod live_graph;

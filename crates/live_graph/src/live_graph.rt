@@ -6,8 +6,10 @@ ghost use Rattle.walks.specs.Whole.{AreVertices};
 ghost use Rattle.edge_numbers.specs.Numbered.{state_in, with_state, HasRoom, KeepsRoom};
 ghost use Rattle.live_graph.specs.Change.{IsChange};
 ghost use Rattle.live_graph.specs.Live.{live};
+ghost use Rattle.live_graph.specs.NamedEdges.{AreNamed};
 ghost use Rattle.live_graph.specs.Store.{well_formed};
 
+use crate::by_name::{name_next_edge, sort_edges, with_name};
 use crate::change::Change;
 use crate::edges::Edges;
 use crate::live_lists::enter;
@@ -19,7 +21,9 @@ use edge_lattice::{State, join, leq};
 use edge_lists::{ByEdge, ByPosition, EdgeLists};
 use edge_numbers::EdgeNumbers;
 use grove_edits::{Edge, Edit, EditKind, EditList, Vertex};
+use grove_names::Name;
 use grove_sorts::Position;
+use numbers_by_name::NumbersByName;
 use seeded_hash::HashSeed;
 use std::alloc::Global;
 use std::marker::Model;
@@ -36,6 +40,8 @@ pub struct LiveGraph {
     parents: EdgeLists<ByEdge>,
     // How many vertices have a live parent edge.
     parent_count: u64,
+    // The numbers of the edges with each name.
+    edge_names: NumbersByName,
 }
 
 impl Model for LiveGraph {
@@ -46,7 +52,7 @@ impl Model for LiveGraph {
 
     ghost view = { λ graph. graph.edges.entries };
 
-    ghost invariant = { λ graph. IsKept graph.edges graph.children graph.parents graph.parent_count };
+    ghost invariant = { λ graph. IsKept graph.edges graph.children graph.parents graph.parent_count graph.edge_names };
 }
 
 impl LiveGraph {
@@ -66,6 +72,7 @@ impl LiveGraph {
             children: EdgeLists::new(alloc),
             parents: EdgeLists::new(alloc),
             parent_count: 0,
+            edge_names: NumbersByName::new(alloc),
         }
     }
 
@@ -91,6 +98,8 @@ impl LiveGraph {
         if let Some(_number) = self.edges.number(edge) {
             return Ok(());
         }
+        // The name comes first, so that each edge with a number has one. A number under a name may still be that of no edge, or of another.
+        name_next_edge(&self.edges, &mut self.edge_names, edge)?;
         enter(&mut self.edges, &mut self.children, &mut self.parents, edge)
     }
 
@@ -135,6 +144,18 @@ impl LiveGraph {
     {
         let edits = edits_of(alloc, &self.edges)?;
         Ok(edits.into_canonical())
+    }
+
+    /// The edges with this name that are not Absent, in edge order.
+    pub fn edges_named(&self, alloc: Global, name: Name) -> Result<Vec<Edge>, NoMemory>
+        ensures named { IfOk result (λ edges. AreNamed (state_in self.now) name edges.items) }
+    {
+        // No edge has two numbers.
+        let _edges = self.edges.edge_count();
+        let numbers = self.edge_names.with_name(name);
+        let mut found = with_name(alloc, &self.edges, name, numbers)?;
+        sort_edges(&mut found);
+        Ok(found)
     }
 
     /// All vertices of the graph, in vertex order: the vertex `0.0 root`, and the ends of the edges that are not Absent.

@@ -125,6 +125,7 @@ pub(crate) fn set_state(
     ensures graph { (e : Edge) → state_in edges.new.entries e ≡ with_state (edge_at edges.old number) state (state_in edges.old.entries) e }
     ensures room_stays { KeepsRoom edges.old.entries edges.new.entries }
     ensures vertices { edges.new.vertices ≡ edges.old.vertices }
+    ensures edges { edges_of edges.new.entries ≡ edges_of edges.old.entries }
 {
     relist(edges, children, parents, number, state);
     edges.set_state(number, state);

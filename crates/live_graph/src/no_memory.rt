@@ -43,3 +43,9 @@ impl From<grove_edits::NoMemory> for NoMemory {
         NoMemory
     }
 }
+
+impl From<numbers_by_name::NoMemory> for NoMemory {
+    fn from(_error: numbers_by_name::NoMemory) -> NoMemory {
+        NoMemory
+    }
+}

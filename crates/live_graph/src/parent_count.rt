@@ -3,7 +3,7 @@ ghost use Rattle.grove_edits.specs.declared.edge.Edge.{Edge};
 ghost use Rattle.grove_edits.specs.Edge.{edge_cmp};
 ghost use Rattle.grove_edits.specs.Vertex.{stands_in};
 ghost use Rattle.walks.specs.Live.{targets_of};
-ghost use Rattle.edge_numbers.specs.Numbered.{state_in, with_state, edge_at, vertex_at, KeepsRoom, IsEdgeNumber, IsVertexNumber};
+ghost use Rattle.edge_numbers.specs.Numbered.{edges_of, state_in, with_state, edge_at, vertex_at, KeepsRoom, IsEdgeNumber, IsVertexNumber};
 ghost use Rattle.live_graph.specs.Live.{live};
 ghost use Rattle.live_graph.specs.Around.{once, AreAround, IsListed, target_of};
 ghost use Rattle.live_graph.specs.Kept.{IsParentCount};
@@ -57,6 +57,7 @@ pub(crate) fn set_counted_state(
     ensures counted { IsParentCount edges.new parent_count.new }
     ensures graph { (e : Edge) → state_in edges.new.entries e ≡ with_state (edge_at edges.old number) state (state_in edges.old.entries) e }
     ensures room_stays { KeepsRoom edges.old.entries edges.new.entries }
+    ensures edges { edges_of edges.new.entries ≡ edges_of edges.old.entries }
 {
     // No edge has two numbers.
     let _before = edges.edge_count();

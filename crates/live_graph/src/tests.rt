@@ -68,6 +68,23 @@ fn edges_of_one_name_have_states_of_their_own(rt: HostRuntime) -> Result<(), Fai
 }
 
 #[test]
+fn edges_are_found_by_their_name(rt: HostRuntime) -> Result<(), Fail> {
+    let alloc = rt.alloc();
+    let mut graph = LiveGraph::new(alloc);
+    raise(&mut graph, EditKind::Delete, edge(1, 6))?;
+    raise(&mut graph, EditKind::Insert, edge(1, 5))?;
+    raise(&mut graph, EditKind::Insert, edge(2, 7))?;
+    graph.make_room(&edge(1, 4))?;
+    let first = Name {
+        author: 1,
+        counter: 1,
+    };
+    let found = graph.edges_named(alloc, first)?;
+    assert_eq!(rt; found.as_slice(), [edge(1, 5), edge(1, 6)].as_slice());
+    Ok(())
+}
+
+#[test]
 fn a_graph_lists_its_edits_and_vertices(rt: HostRuntime) -> Result<(), Fail> {
     let alloc = rt.alloc();
     let mut graph = LiveGraph::new(alloc);
