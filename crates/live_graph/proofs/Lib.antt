@@ -12,3 +12,4 @@ pub mod Once
 pub mod Ends
 pub mod Targets
 pub mod Names
+pub mod Counts

@@ -8,3 +8,4 @@ pub mod Ends
 pub mod Kept
 pub mod NamedEdges
 pub mod ByName
+pub mod Uses

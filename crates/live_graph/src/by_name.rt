@@ -15,6 +15,22 @@ use numbers_by_name::NumbersByName;
 use std::alloc::Global;
 use std::cmp::Ordering;
 
+/// Puts a number under a name.
+pub(crate) fn add_number(
+    names: &mut NumbersByName,
+    name: Name,
+    number: usize,
+) -> Result<(), NoMemory>
+    ensures kept { KeepsNames names.old names.new }
+    ensures added { OnOk result (holds_number number (numbers_of names.new name) ≡ true) }
+{
+    let Ok(number) = u32::try_from(number) else {
+        return Err(NoMemory);
+    };
+    names.add(name, number)?;
+    Ok(())
+}
+
 /// Puts the number that the next edge gets under the name of the edge.
 pub(crate) fn name_next_edge(
     edges: &EdgeNumbers,
@@ -24,11 +40,7 @@ pub(crate) fn name_next_edge(
     ensures kept { KeepsNames names.old names.new }
     ensures added { OnOk result (holds_number (length edges.now.entries) (numbers_of names.new edge.now.name) ≡ true) }
 {
-    let Ok(number) = u32::try_from(edges.edge_count()) else {
-        return Err(NoMemory);
-    };
-    names.add(edge.name, number)?;
-    Ok(())
+    add_number(names, edge.name, edges.edge_count())
 }
 
 pub(crate) fn is_same_name(a: Name, b: Name) -> bool

@@ -11,6 +11,7 @@ mod neighbours;
 mod no_memory;
 mod parent_count;
 mod places;
+mod uses;
 mod whole;
 
 pub use change::Change;

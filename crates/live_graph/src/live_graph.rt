@@ -16,6 +16,7 @@ use crate::live_lists::enter;
 use crate::neighbours::{children_at, parents_at};
 use crate::no_memory::NoMemory;
 use crate::parent_count::set_counted_state;
+use crate::uses::recount_ends;
 use crate::whole::{edits_of, ends_of, sort_vertices};
 use edge_lattice::{State, join, leq};
 use edge_lists::{ByEdge, ByPosition, EdgeLists};
@@ -40,8 +41,11 @@ pub struct LiveGraph {
     parents: EdgeLists<ByEdge>,
     // How many vertices have a live parent edge.
     parent_count: u64,
-    // The numbers of the edges with each name.
+    // The numbers of the edges and of the vertices with each name.
     edge_names: NumbersByName,
+    vertex_names: NumbersByName,
+    // How many ends of edges that are not Absent each vertex is, by its number.
+    uses: Vec<u64>,
 }
 
 impl Model for LiveGraph {
@@ -52,7 +56,7 @@ impl Model for LiveGraph {
 
     ghost view = { λ graph. graph.edges.entries };
 
-    ghost invariant = { λ graph. IsKept graph.edges graph.children graph.parents graph.parent_count graph.edge_names };
+    ghost invariant = { λ graph. IsKept graph.edges graph.children graph.parents graph.parent_count graph.edge_names graph.vertex_names graph.uses.items };
 }
 
 impl LiveGraph {
@@ -73,6 +77,8 @@ impl LiveGraph {
             parents: EdgeLists::new(alloc),
             parent_count: 0,
             edge_names: NumbersByName::new(alloc),
+            vertex_names: NumbersByName::new(alloc),
+            uses: Vec::new(alloc),
         }
     }
 
@@ -100,7 +106,14 @@ impl LiveGraph {
         }
         // The name comes first, so that each edge with a number has one. A number under a name may still be that of no edge, or of another.
         name_next_edge(&self.edges, &mut self.edge_names, edge)?;
-        enter(&mut self.edges, &mut self.children, &mut self.parents, edge)
+        enter(
+            &mut self.edges,
+            &mut self.children,
+            &mut self.parents,
+            &mut self.vertex_names,
+            &mut self.uses,
+            edge,
+        )
     }
 
     /// Gives an edge that has room a state, as after a call that met `NoMemory` and takes back what it raised.
@@ -110,6 +123,7 @@ impl LiveGraph {
         ensures room_stays { KeepsRoom self.old self.new }
     {
         if let Some(number) = self.edges.number(edge) {
+            recount_ends(&self.edges, &mut self.uses, number, old);
             set_counted_state(
                 &mut self.edges,
                 &mut self.children,

@@ -3,9 +3,9 @@ ghost use Rattle.grove_edits.specs.declared.edge.Edge.{Edge};
 ghost use Rattle.grove_edits.specs.Edge.{edge_cmp};
 ghost use Rattle.grove_edits.specs.Vertex.{stands_in};
 ghost use Rattle.walks.specs.Live.{targets_of};
-ghost use Rattle.edge_numbers.specs.Numbered.{edges_of, state_in, with_state, edge_at, vertex_at, KeepsRoom, IsEdgeNumber, IsVertexNumber};
+ghost use Rattle.edge_numbers.specs.Numbered.{state_in, with_state, edge_at, vertex_at, KeepsRoom, IsEdgeNumber, IsVertexNumber};
 ghost use Rattle.live_graph.specs.Live.{live};
-ghost use Rattle.live_graph.specs.Around.{once, AreAround, IsListed, target_of};
+ghost use Rattle.live_graph.specs.Around.{once, AreAround, IsListed, IsStateSet, target_of};
 ghost use Rattle.live_graph.specs.Kept.{IsParentCount};
 
 use crate::live_lists::set_state;
@@ -28,8 +28,8 @@ fn has_parent(edges: &EdgeNumbers, parents: &EdgeLists<ByEdge>, vertex: usize) -
     !parents.at(vertex).is_empty()
 }
 
-// A count of vertices, one of which had what is counted and now may not have it, or the other way round.
-fn recount(count: &mut u64, had: bool, has: bool)
+/// Counts what had something and now may not have it, or the other way round.
+pub(crate) fn recount(count: &mut u64, had: bool, has: bool)
     requires counted { once had ≤ count.old }
     requires fits { count.old + 1 < 2 ^ 64 }
     ensures { count.new + once had ≡ count.old + once has }
@@ -57,7 +57,7 @@ pub(crate) fn set_counted_state(
     ensures counted { IsParentCount edges.new parent_count.new }
     ensures graph { (e : Edge) → state_in edges.new.entries e ≡ with_state (edge_at edges.old number) state (state_in edges.old.entries) e }
     ensures room_stays { KeepsRoom edges.old.entries edges.new.entries }
-    ensures edges { edges_of edges.new.entries ≡ edges_of edges.old.entries }
+    ensures set { IsStateSet edges.old number state edges.new }
 {
     // No edge has two numbers.
     let _before = edges.edge_count();

@@ -19,6 +19,6 @@ returns-clause-counted c =
     let had : once c.has_parent-had.result ≡ once (stands_in edge.target (targets_of (live edges.entries))) =
     ap once (c.has_parent-had.ensures ∙ ap (λ v. stands_in v (targets_of (live edges.entries))) at) in
     let has : once c.has_parent-has.result ≡ once (stands_in edge.target (targets_of (live after.entries))) =
-    ap once (c.has_parent-has.ensures ∙ ap (λ v. stands_in v (targets_of (live after.entries))) (ap (λ vs. get_or vs c.target-target.result root) c.set_state.ensures.vertices ∙ at)) in
+    ap once (c.has_parent-has.ensures ∙ ap (λ v. stands_in v (targets_of (live after.entries))) (ap (λ vs. get_or vs c.target-target.result root) c.set_state.ensures.set.vertices ∙ at)) in
     let change = targets_set edge c.args.state edges.entries after.entries c.edge_count-before.ensures.once c.edge_count-after.ensures.once c.set_state.ensures.graph in
     omega (arith, had, has, c.recount.ensures, change, c.requires.counted)

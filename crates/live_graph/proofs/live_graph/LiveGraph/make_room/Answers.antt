@@ -38,6 +38,8 @@ invariant_of-self-2 c = record {
   named =
       names_after c.enter.result c.self.inside.edges c.enter.new.edges c.self.inside.edge_names c.name_next_edge.new.names c.args.edge.now c.enter.ensures.entries c.enter.ensures.unchanged
       c.name_next_edge.ensures.kept c.in_ok-name_next_edge.ensures.added c.self.invariant.named;
+  used = c.enter.ensures.uses;
+  vertices_named = c.enter.ensures.names;
 }
 
 pub invariant_of-self : goal.invariant_of-self
@@ -45,4 +47,6 @@ invariant_of-self c = record {
   listed = c.self.invariant.listed;
   counted = c.self.invariant.counted;
   named = names_kept c.self.inside.edges c.self.inside.edges c.self.inside.edge_names c.name_next_edge.new.names refl c.name_next_edge.ensures.kept c.self.invariant.named;
+  used = c.self.invariant.used;
+  vertices_named = c.self.invariant.vertices_named;
 }
