@@ -15,7 +15,7 @@ use Rattle.grove_edits.proofs.Vertices.{same_vertex_exact, same_vertex_itself}
 use Rattle.walks.specs.Whole.{AreVertices, IsVertexOf, IsInVertexOrder}
 use Rattle.edge_numbers.specs.Numbered.{Entries, edges_of, states_of, state_in, entry_at, no_edge}
 use Rattle.live_graph.specs.Named.{is_present}
-use Rattle.live_graph.specs.Ends.{has_end}
+use Rattle.live_graph.specs.Ends.{has_end, IsEndIn}
 use Rattle.live_graph.proofs.Listing.{entry_with_number}
 use Rattle.live_graph.proofs.Lives.{absent_apart}
 
@@ -27,7 +27,7 @@ pub or_none : (b : Bool) → (b || false) ≡ b
 or_none true = refl
 or_none false = refl
 
-or_assoc : (a b c : Bool) → ((a || b) || c) ≡ (a || (b || c))
+pub or_assoc : (a b c : Bool) → ((a || b) || c) ≡ (a || (b || c))
 or_assoc true b c = refl
 or_assoc false b c = refl
 
@@ -83,7 +83,7 @@ not_absent Absent is none = absurd cc
 not_absent Live is none = absurd cc
 not_absent Deleted is none = absurd cc
 
-an_end : (e : Edge) (v : Vertex) → (e.source ≡ v) ⊎ (e.target ≡ v) → (is_same_vertex e.source v || is_same_vertex e.target v) ≡ true
+pub an_end : (e : Edge) (v : Vertex) → (e.source ≡ v) ⊎ (e.target ≡ v) → (is_same_vertex e.source v || is_same_vertex e.target v) ≡ true
 an_end e v (inl from) = ap (λ b. b || is_same_vertex e.target v) (ap (λ w. is_same_vertex w v) from ∙ same_vertex_itself v)
 an_end e v (inr to) = or_right (is_same_vertex e.source v) (ap (λ w. is_same_vertex w v) to ∙ same_vertex_itself v)
 
@@ -104,10 +104,6 @@ end_held (x ∷ xs) e v some end = by_test (is_same_edge e x.0) refl some (λ la
       ap (λ b. b && (is_same_vertex x.0.source v || is_same_vertex x.0.target v)) (present x.1 some) ∙ ap (λ (f : Edge). is_same_vertex f.source v || is_same_vertex f.target v) (sym (one_edge e x.0 same)) ∙ an_end e v end in
       ap (λ b. b || list_any (has_end v) xs) here
   by_test false _ some rest = or_right (has_end v x) (rest some)
-
--- an edge that is not Absent, with this end
-abbrev pub IsEndIn : Entries → Vertex → Type 0
-IsEndIn entries v = (e : Edge) × (state_in entries e ≢ Absent) × ((e.source ≡ v) ⊎ (e.target ≡ v))
 
 pub and_left : (a b : Bool) → (a && b) ≡ true → a ≡ true
 and_left true b h = refl

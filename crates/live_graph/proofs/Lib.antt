@@ -13,3 +13,6 @@ pub mod Ends
 pub mod Targets
 pub mod Names
 pub mod Counts
+pub mod LeastTwo
+pub mod VertexNames
+pub mod Maxima

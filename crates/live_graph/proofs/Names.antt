@@ -40,7 +40,7 @@ passed_named edges name n found not_named e = sym (or_none (holds_edge e found))
 
 -- ---- the edges with a name
 
-any_held : (p : ℕ → Bool) (ns : List ℕ) (n : ℕ) → holds_number n ns ≡ true → p n ≡ true → list_any p ns ≡ true
+pub any_held : (p : ℕ → Bool) (ns : List ℕ) (n : ℕ) → holds_number n ns ≡ true → p n ≡ true → list_any p ns ≡ true
 any_held p [] n held is = absurd cc
 any_held p (m ∷ ms) n held is = by_test (m == n) refl held (λ later. any_held p ms n later is) where
   or_right : (b : Bool) {c : Bool} → c ≡ true → (b || c) ≡ true
@@ -51,17 +51,17 @@ any_held p (m ∷ ms) n held is = by_test (m == n) refl held (λ later. any_held
   by_test true same _ _ = ap (λ b. b || list_any p ms) (ap p (eqb-true m n same) ∙ is)
   by_test false _ later rest = or_right (p m) (rest later)
 
-any_found : (p : ℕ → Bool) (ns : List ℕ) → list_any p ns ≡ true → (n : ℕ) × (p n ≡ true)
+pub any_found : (p : ℕ → Bool) (ns : List ℕ) → list_any p ns ≡ true → (n : ℕ) × (p n ≡ true)
 any_found p [] held = absurd cc
 any_found p (m ∷ ms) held = by_test (p m) refl held (any_found p ms) where
   by_test : (b : Bool) → p m ≡ b → (b || list_any p ms) ≡ true → (list_any p ms ≡ true → (n : ℕ) × (p n ≡ true)) → (n : ℕ) × (p n ≡ true)
   by_test true here _ _ = (m, here)
   by_test false _ later rest = rest later
 
-same_name : (a b : Name) → a ≡ b → is_same_name a b ≡ true
+pub same_name : (a b : Name) → a ≡ b → is_same_name a b ≡ true
 same_name a b is = ap (is_same_name a) (sym is) ∙ ap is_eq (tied_itself name_cmp_total a)
 
-one_name : (a b : Name) → is_same_name a b ≡ true → a ≡ b
+pub one_name : (a b : Name) → is_same_name a b ≡ true → a ≡ b
 one_name a b same = name_cmp_exact a b (equal_from_test (name_cmp a b) same)
 
 module _ (edges : Numbered) (once : IsDistinct is_same_edge (edges_of edges.entries)) where
@@ -77,36 +77,48 @@ module _ (edges : Numbered) (once : IsDistinct is_same_edge (edges_of edges.entr
     has_room None some = absurd (some refl)
     has_room (Some s) some = refl
 
-  pub named_edges : (names : Lists) (name : Name) (found list : List Edge) → HasEdgeNames edges names → ((e : Edge) → holds_edge e found ≡ list_any (is_named_edge edges name e) (numbers_of names name))
-      → IsInEdgeOrder list → ((e : Edge) → holds_edge e list ≡ holds_edge e found) → AreNamed (state_in edges.entries) name list
-  named_edges names name found list has finds ordered same = record {
-    in_order = ordered;
-    each = λ e named some. same e ∙ finds e ∙ each e named some;
-    no_other = λ e held. no_other e (any_found (is_named_edge edges name e) (numbers_of names name) (sym (same e ∙ finds e) ∙ held));
-  }
-    where
-      each : (e : Edge) → e.name ≡ name → state_in edges.entries e ≢ Absent → list_any (is_named_edge edges name e) (numbers_of names name) ≡ true
-      each e named some =
-          let number = number_of_present e some in
-          let n = number.0 in
-          let at : edge_at edges n ≡ e = number.1.1 in
-          any_held (is_named_edge edges name e) (numbers_of names name) n
-          (ap (λ m. holds_number n (numbers_of names m)) (sym named ∙ ap (λ (f : Edge). f.name) (sym at)) ∙ has n number.1.0)
-          (let named_there : is_same_name (edge_at edges n).name name ≡ true = same_name (edge_at edges n).name name (ap (λ (f : Edge). f.name) at ∙ named) in
-          let present_there : is_present (state_at edges n) ≡ true = ap is_present (sym (state_there n number.1.0) ∙ ap (state_in edges.entries) at) ∙ present (state_in edges.entries e) some in
-          let same_there : is_same_edge (edge_at edges n) e ≡ true = ap (λ f. is_same_edge f e) at ∙ same_edge_laws.refl e in
-          (λ j. (lt-ltb n (length edges.entries) number.1.0 j && (named_there j && present_there j)) && same_there j))
+  -- a number tells an edge with the name
+  pub told_edge : (name : Name) (n : ℕ) → is_named edges name n ≡ true → ((edge_at edges n).name ≡ name) × (state_in edges.entries (edge_at edges n) ≢ Absent)
+  told_edge name n is =
+      let within : IsEdgeNumber edges n = ltb-true n (length edges.entries) (and_left (nat_lt n (length edges.entries)) (is_same_name (edge_at edges n).name name && is_present (state_at edges n)) is) in
+      let both = and_right (nat_lt n (length edges.entries)) (is_same_name (edge_at edges n).name name && is_present (state_at edges n)) is in
+      let some = not_absent (state_at edges n) (and_right (is_same_name (edge_at edges n).name name) (is_present (state_at edges n)) both) in
+      (one_name (edge_at edges n).name name (and_left (is_same_name (edge_at edges n).name name) (is_present (state_at edges n)) both), subst (λ s. s ≢ Absent) (sym (state_there n within)) some)
 
-      no_other : (e : Edge) → (n : ℕ) × (is_named_edge edges name e n ≡ true) → (e.name ≡ name) × (state_in edges.entries e ≢ Absent)
-      no_other e hit =
-          let n = hit.0 in
-          let named : is_named edges name n ≡ true = and_left (is_named edges name n) (is_same_edge (edge_at edges n) e) hit.1 in
-          let same : edge_at edges n ≡ e = one_edge (edge_at edges n) e (and_right (is_named edges name n) (is_same_edge (edge_at edges n) e) hit.1) in
-          let within : IsEdgeNumber edges n = ltb-true n (length edges.entries) (and_left (nat_lt n (length edges.entries)) _ named) in
-          let both = and_right (nat_lt n (length edges.entries)) _ named in
-          let name_is = one_name (edge_at edges n).name name (and_left (is_same_name (edge_at edges n).name name) (is_present (state_at edges n)) both) in
-          let some = not_absent (state_at edges n) (and_right (is_same_name (edge_at edges n).name name) (is_present (state_at edges n)) both) in
-          (ap (λ (f : Edge). f.name) (sym same) ∙ name_is, subst (λ s. s ≢ Absent) (sym (state_there n within) ∙ ap (state_in edges.entries) same) some)
+  module _ (names : Lists) (has : HasEdgeNames edges names) (name : Name) where
+    -- an edge with the name has a number under it
+    pub edge_told : (e : Edge) → e.name ≡ name → state_in edges.entries e ≢ Absent → (n : ℕ) × (edge_at edges n ≡ e) × (holds_number n (numbers_of names name) ≡ true) × (is_named edges name n ≡ true)
+    edge_told e named some =
+        let number = number_of_present e some in
+        let n = number.0 in
+        let at : edge_at edges n ≡ e = number.1.1 in
+        let name_is : (edge_at edges n).name ≡ name = ap (λ (f : Edge). f.name) at ∙ named in
+        let present_there : is_present (state_at edges n) ≡ true = ap is_present (sym (state_there n number.1.0) ∙ ap (state_in edges.entries) at) ∙ present (state_in edges.entries e) some in (
+          n,
+          at,
+          ap (λ m. holds_number n (numbers_of names m)) (sym name_is) ∙ has n number.1.0,
+          λ j. lt-ltb n (length edges.entries) number.1.0 j && (same_name (edge_at edges n).name name name_is j && present_there j),
+        )
+
+    pub named_edges : (found list : List Edge) → ((e : Edge) → holds_edge e found ≡ list_any (is_named_edge edges name e) (numbers_of names name))
+        → IsInEdgeOrder list → ((e : Edge) → holds_edge e list ≡ holds_edge e found) → AreNamed (state_in edges.entries) name list
+    named_edges found list finds ordered same = record {
+      in_order = ordered;
+      each = λ e named some. same e ∙ finds e ∙ each e named some;
+      no_other = λ e held. no_other e (any_found (is_named_edge edges name e) (numbers_of names name) (sym (same e ∙ finds e) ∙ held));
+    }
+      where
+        each : (e : Edge) → e.name ≡ name → state_in edges.entries e ≢ Absent → list_any (is_named_edge edges name e) (numbers_of names name) ≡ true
+        each e named some =
+            let number = edge_told e named some in
+            any_held (is_named_edge edges name e) (numbers_of names name) number.0 number.2
+            (λ j. number.3 j && (ap (λ f. is_same_edge f e) number.1 ∙ same_edge_laws.refl e) j)
+
+        no_other : (e : Edge) → (n : ℕ) × (is_named_edge edges name e n ≡ true) → (e.name ≡ name) × (state_in edges.entries e ≢ Absent)
+        no_other e hit =
+            let same : edge_at edges hit.0 ≡ e = one_edge (edge_at edges hit.0) e (and_right (is_named edges name hit.0) (is_same_edge (edge_at edges hit.0) e) hit.1) in
+            subst (λ (f : Edge). (f.name ≡ name) × (state_in edges.entries f ≢ Absent)) same
+            (told_edge name hit.0 (and_left (is_named edges name hit.0) (is_same_edge (edge_at edges hit.0) e) hit.1))
 
 -- ---- names are kept
 

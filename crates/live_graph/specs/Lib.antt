@@ -9,3 +9,5 @@ pub mod Kept
 pub mod NamedEdges
 pub mod ByName
 pub mod Uses
+pub mod Vertices
+pub mod Greatest

@@ -29,3 +29,11 @@ pub record AreUses (edges : Numbered) (uses : List ℕ) : Type 0 where
 -- the number of each of the first vertices stands under its name; other numbers may stand there too
 abbrev pub HasVertexNames : Numbered → ℕ → Lists → Type 0
 HasVertexNames edges count names = (n : ℕ) → n < count → holds_number n (numbers_of names (vertex_at edges n).name) ≡ true
+
+-- the number is that of a vertex with the name that is used
+abbrev pub is_vertex_named : Numbered → List ℕ → Name → ℕ → Bool
+is_vertex_named edges uses name n = nat_lt n (length uses) && (nat_lt 0 (slice_index uses n) && is_same_name (vertex_at edges n).name name)
+
+-- the number is that of this vertex, which has the name and is used
+abbrev pub is_named_vertex : Numbered → List ℕ → Name → Vertex → ℕ → Bool
+is_named_vertex edges uses name v n = is_vertex_named edges uses name n && is_same_vertex (vertex_at edges n) v

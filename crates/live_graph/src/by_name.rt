@@ -49,8 +49,8 @@ pub(crate) fn is_same_name(a: Name, b: Name) -> bool
     a.cmp(&b) == Ordering::Equal
 }
 
-// Whether a number is that of an edge with a name that is not Absent.
-fn is_named(edges: &EdgeNumbers, name: Name, number: usize) -> bool
+/// Whether a number is that of an edge with a name that is not Absent.
+pub(crate) fn is_named(edges: &EdgeNumbers, name: Name, number: usize) -> bool
     ensures { result ≡ is_named edges.now name number }
 {
     number < edges.edge_count()

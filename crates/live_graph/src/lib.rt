@@ -5,6 +5,7 @@
 mod by_name;
 mod change;
 mod edges;
+mod greatest;
 mod live_graph;
 mod live_lists;
 mod neighbours;
@@ -12,12 +13,14 @@ mod no_memory;
 mod parent_count;
 mod places;
 mod uses;
+mod vertices;
 mod whole;
 
 pub use change::Change;
 pub use edges::Edges;
 pub use live_graph::LiveGraph;
 pub use no_memory::NoMemory;
+pub use vertices::Named;
 
 #[cfg(test)]
 mod tests;

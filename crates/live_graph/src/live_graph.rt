@@ -5,18 +5,22 @@ ghost use Rattle.walks.specs.Live.{IsInEdgeOrder, children_of, parents_of};
 ghost use Rattle.walks.specs.Whole.{AreVertices};
 ghost use Rattle.edge_numbers.specs.Numbered.{state_in, with_state, HasRoom, KeepsRoom};
 ghost use Rattle.live_graph.specs.Change.{IsChange};
+ghost use Rattle.live_graph.specs.Greatest.{IsGreatest, IsNameOf};
 ghost use Rattle.live_graph.specs.Live.{live};
 ghost use Rattle.live_graph.specs.NamedEdges.{AreNamed};
 ghost use Rattle.live_graph.specs.Store.{well_formed};
+ghost use Rattle.live_graph.specs.Vertices.{AreLeastTwo, IsVertexNamed};
 
 use crate::by_name::{name_next_edge, sort_edges, with_name};
 use crate::change::Change;
 use crate::edges::Edges;
+use crate::greatest::{greatest_of_edges, greatest_of_vertices};
 use crate::live_lists::enter;
 use crate::neighbours::{children_at, parents_at};
 use crate::no_memory::NoMemory;
 use crate::parent_count::set_counted_state;
 use crate::uses::recount_ends;
+use crate::vertices::{Named, least_named};
 use crate::whole::{edits_of, ends_of, sort_vertices};
 use edge_lattice::{State, join, leq};
 use edge_lists::{ByEdge, ByPosition, EdgeLists};
@@ -170,6 +174,31 @@ impl LiveGraph {
         let mut found = with_name(alloc, &self.edges, name, numbers)?;
         sort_edges(&mut found);
         Ok(found)
+    }
+
+    /// The least two vertices of the graph with this name. The vertex `0.0 root` is one of each graph.
+    pub fn vertices_named(&self, name: Name) -> Named
+        ensures { AreLeastTwo (IsVertexNamed self.now name) result }
+    {
+        // Nothing has two numbers.
+        let _edges = self.edges.edge_count();
+        let _vertices = self.edges.vertex_count();
+        least_named(
+            &self.edges,
+            &self.uses,
+            name,
+            self.vertex_names.with_name(name),
+        )
+    }
+
+    /// The greatest counter of this author in any name of the graph, be it of a vertex or of an edge, deleted or not.
+    /// It is 0 where no name is by this author.
+    pub fn greatest(&self, author: u32) -> u64
+        ensures { IsGreatest (IsNameOf (state_in self.now)) author result }
+    {
+        let of_edges = greatest_of_edges(&self.edges, &self.edge_names, author);
+        let of_vertices = greatest_of_vertices(&self.edges, &self.uses, &self.vertex_names, author);
+        of_edges.max(of_vertices)
     }
 
     /// All vertices of the graph, in vertex order: the vertex `0.0 root`, and the ends of the edges that are not Absent.

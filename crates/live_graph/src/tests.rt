@@ -85,6 +85,49 @@ fn edges_are_found_by_their_name(rt: HostRuntime) -> Result<(), Fail> {
 }
 
 #[test]
+fn vertices_are_found_by_their_name(rt: HostRuntime) -> Result<(), Fail> {
+    let mut graph = LiveGraph::new(rt.alloc());
+    let seven = edge(1, 5).target;
+    let plus = Vertex {
+        name: seven.name,
+        ctor: Ctor::Plus,
+    };
+    assert_eq!(rt;
+        graph.vertices_named(Vertex::ROOT.name),
+        Named::One(Vertex::ROOT)
+    );
+    graph.make_room(&edge(1, 5))?;
+    assert_eq!(rt; graph.vertices_named(seven.name), Named::Zero);
+    raise(&mut graph, EditKind::Insert, edge(1, 5))?;
+    assert_eq!(rt; graph.vertices_named(seven.name), Named::One(seven));
+    let other = Edge {
+        target: plus,
+        ..edge(2, 5)
+    };
+    raise(&mut graph, EditKind::Insert, other)?;
+    let both = if plus < seven {
+        Named::More(plus, seven)
+    } else {
+        Named::More(seven, plus)
+    };
+    assert_eq!(rt; graph.vertices_named(seven.name), both);
+    Ok(())
+}
+
+#[test]
+fn the_greatest_counter_is_told(rt: HostRuntime) -> Result<(), Fail> {
+    let mut graph = LiveGraph::new(rt.alloc());
+    raise(&mut graph, EditKind::Delete, edge(3, 5))?;
+    raise(&mut graph, EditKind::Insert, edge(4, 2))?;
+    graph.make_room(&edge(9, 9))?;
+    assert_eq!(rt; graph.greatest(1), 5);
+    put_back(&mut graph, &edge(3, 5), State::Absent)?;
+    assert_eq!(rt; graph.greatest(1), 4);
+    assert_eq!(rt; graph.greatest(2), 0);
+    Ok(())
+}
+
+#[test]
 fn a_graph_lists_its_edits_and_vertices(rt: HostRuntime) -> Result<(), Fail> {
     let alloc = rt.alloc();
     let mut graph = LiveGraph::new(alloc);

@@ -10,7 +10,7 @@ pub returns : goal.returns
 returns c = record {
   named =
       subst (λ (es : Entries). AreNamed (state_in es) c.args.name c.sort_edges.new.edges.items) c.self.view_is
-      (named_edges c.self.inside.edges c.edge_count-edges.ensures.once c.self.inside.edge_names c.args.name c.in_ok-found.found.items c.sort_edges.new.edges.items c.self.invariant.named
+      (named_edges c.self.inside.edges c.edge_count-edges.ensures.once c.self.inside.edge_names c.self.invariant.named c.args.name c.in_ok-found.found.items c.sort_edges.new.edges.items
       (λ e. c.in_ok-found.ensures e ∙ ap (list_any (is_named_edge c.self.inside.edges c.args.name e)) c.with_name-numbers.ensures)
       c.sort_edges.ensures.in_order c.sort_edges.ensures.same);
 }
