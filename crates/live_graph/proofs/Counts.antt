@@ -3,14 +3,14 @@ use Rattle.std.proofs.Common.{◌≡◌, ℕ, zero, suc, ◌+◌, ◌<◌, ◌�
 use Rattle.std.specs.Prelude.{◌&&◌, ◌||◌, ◌==◌, ◌^◌, not}
 use Rattle.std.specs.List.{AllByRecursion, IsDistinct, list_any}
 use Rattle.std.proofs.lemmas.Bool.{eq-eqb, cases_lt}
-use Rattle.std.proofs.lemmas.List.{length-append, length_push, length-map, map-append, take-append-le, take_all, get_or_append_left, get_or_push}
+use Rattle.std.proofs.lemmas.List.{length-append, length_push, map-append, take-append-le, take_all, get_or_append_left, get_or_push}
 use Rattle.edge_lattice.specs.declared.state.State.{State}
 use Rattle.edge_lattice.specs.declared.state.State.TheVariants.{Absent}
 use Rattle.grove_edits.specs.declared.vertex.Vertex.{Vertex}
 use Rattle.grove_edits.specs.declared.edge.Edge.{Edge}
 use Rattle.grove_edits.specs.Vertex.{is_same_vertex, stands_in, root}
 use Rattle.grove_edits.specs.Graph.{is_same_edge}
-use Rattle.edge_numbers.specs.Numbered.{Numbered, Entries, edges_of, states_of, edge_at, state_at, vertex_at, no_edge, with_entry, IsEdgeNumber, IsNumberOfVertex, BeginsWith, HasEndsIn}
+use Rattle.edge_numbers.specs.Numbered.{Numbered, Entries, edges_of, edge_at, state_at, vertex_at, no_edge, with_entry, IsEdgeNumber, IsNumberOfVertex, BeginsWith, HasEndsIn}
 use Rattle.edge_lists.specs.Lists.{holds_number}
 use Rattle.numbers_by_name.specs.ByName.{Lists, numbers_of}
 use Rattle.live_graph.specs.Named.{is_present}

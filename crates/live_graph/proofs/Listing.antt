@@ -1,5 +1,5 @@
 -- The edits of the entries make the graph that these give.
-use Rattle.std.proofs.Common.{◌≡◌, ℕ, zero, suc, ◌+◌, ◌<◌, Bool, true, false, cond, List, [], ◌∷◌, ◌++◌, Some, None, is_none, length, get_or, take, unwrap_or, true≢false, refl, sym, ap, subst, ◌∙◌, inl, inr, ◌⊎◌, arith}
+use Rattle.std.proofs.Common.{◌≡◌, ℕ, zero, suc, ◌+◌, ◌<◌, Bool, true, false, cond, List, [], ◌∷◌, ◌++◌, Some, None, is_none, length, get_or, take, unwrap_or, true≢false, refl, sym, ap, ◌∙◌, inl, inr, ◌⊎◌, arith}
 use Rattle.std.specs.List.{AllByRecursion, IsDistinct}
 use Rattle.std.proofs.lemmas.List.{take_more, take_all}
 use Rattle.edge_lattice.specs.declared.state.State.{State}
@@ -9,7 +9,7 @@ use Rattle.edge_lattice.proofs.States.{state_join_assoc, state_join_comm, Absent
 use Rattle.grove_edits.specs.declared.edge.Edge.{Edge}
 use Rattle.grove_edits.specs.declared.edit.Edit.{Edit}
 use Rattle.grove_edits.specs.Edge.{edge_fault}
-use Rattle.grove_edits.specs.Edit.{edit_edge, edit_kind}
+use Rattle.grove_edits.specs.Edit.{edit_kind}
 use Rattle.grove_edits.specs.Graph.{Graph, graph, state_of, is_same_edge, IsSame, IsCanonical}
 use Rattle.grove_edits.proofs.Graphs.{asked, graph-append}
 use Rattle.grove_edits.proofs.Orders.{one_edge, same_edge_laws}

@@ -1,17 +1,16 @@
 -- The greatest counter of an author, sought from the greatest one down.
-use Rattle.std.proofs.Common.{◌≡◌, ℕ, ◌+◌, ◌<◌, ◌≤◌, max, Bool, true, false, true≢false, Option, Some, None, List, [], length, refl, sym, ap, subst, ◌∙◌, inl, inr, ◌⊎◌, arith}
+use Rattle.std.proofs.Common.{◌≡◌, ℕ, ◌<◌, ◌≤◌, max, Bool, true, false, true≢false, Option, Some, List, [], length, refl, sym, ap, subst, ◌∙◌, inl, inr, ◌⊎◌, arith}
 use Rattle.std.specs.Prelude.{◌≢◌}
 use Rattle.std.specs.List.{IsDistinct, list_any}
 use Rattle.std.proofs.lemmas.Bool.{cases_lt}
 use Rattle.grove_names.specs.declared.name.Name.{Name}
 use Rattle.grove_edits.specs.declared.vertex.Vertex.{Vertex}
-use Rattle.grove_edits.specs.Vertex.{root, is_same_vertex}
+use Rattle.grove_edits.specs.Vertex.{is_same_vertex}
 use Rattle.grove_edits.specs.Graph.{is_same_edge}
 use Rattle.walks.specs.Whole.{IsVertexOf}
 use Rattle.edge_numbers.specs.Numbered.{Numbered, Entries, edges_of, edge_at, vertex_at, state_in}
 use Rattle.edge_lists.specs.Lists.{holds_number}
 use Rattle.numbers_by_name.specs.ByName.{Lists, numbers_of, name_by, IsBefore, IsLastBefore, HasNoneBefore}
-use Rattle.live_graph.specs.Ends.{IsEndIn}
 use Rattle.live_graph.specs.Greatest.{IsGreatest, IsNameOf, IsNameOfEdge, IsNameOfEnd}
 use Rattle.live_graph.specs.ByName.{is_named, HasEdgeNames}
 use Rattle.live_graph.specs.Uses.{is_vertex_named, AreUses, HasVertexNames}

@@ -1,5 +1,5 @@
 -- How many vertices have a live parent edge, where one edge is added.
-use Rattle.std.proofs.Common.{◌≡◌, ℕ, zero, suc, ◌+◌, ◌≤◌, Bool, true, false, cond, true≢false, List, [], ◌∷◌, length, filter, refl, sym, ap, subst, ◌∙◌, arith}
+use Rattle.std.proofs.Common.{◌≡◌, ℕ, suc, ◌+◌, ◌≤◌, Bool, true, false, cond, true≢false, List, [], ◌∷◌, length, refl, sym, ap, ◌∙◌, arith}
 use Rattle.std.specs.Prelude.{◌||◌, ◌==◌, not}
 use Rattle.std.specs.List.{IsDistinct}
 use Rattle.std.specs.declared.cmp.Ordering.{Ordering}
@@ -15,7 +15,7 @@ use Rattle.grove_edits.specs.Vertex.{is_same_vertex, stands_in}
 use Rattle.grove_edits.specs.Graph.{is_same_edge}
 use Rattle.grove_edits.proofs.Orders.{edge_cmp_exact}
 use Rattle.grove_edits.proofs.Vertices.{same_vertex_exact, same_vertex_itself, same_vertex_laws}
-use Rattle.walks.specs.Live.{targets_of, parents_of, holds_edge}
+use Rattle.walks.specs.Live.{targets_of, parents_of}
 use Rattle.edge_index.specs.Ordered.{with_edge, put_before}
 use Rattle.edge_index.proofs.Ordered.{holds-with_edge, in_order-with_edge, same_lists}
 use Rattle.edge_numbers.specs.Numbered.{Numbered, Entries, edges_of, edge_at, vertex_at, state_in, with_state, IsVertexNumber}

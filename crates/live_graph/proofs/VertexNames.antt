@@ -1,11 +1,8 @@
 -- The vertices with a name by the numbers that stand under it.
 use Rattle.std.proofs.Common.{◌≡◌, ℕ, zero, suc, ◌+◌, ◌<◌, ◌≤◌, Bool, true, false, true≢false, List, [], ◌∷◌, length, get_or, take, refl, sym, ap, subst, ◌∙◌, inl, inr, ◌⊎◌, arith}
-use Rattle.std.specs.Prelude.{◌≢◌, ◌&&◌, ◌||◌, ◌==◌, nat_lt}
-use Rattle.std.specs.List.{AllByRecursion, IsDistinct, list_any}
+use Rattle.std.specs.Prelude.{◌&&◌, ◌||◌, nat_lt}
+use Rattle.std.specs.List.{IsDistinct, list_any}
 use Rattle.std.proofs.lemmas.Bool.{ltb-true, lt-ltb, eq-eqb}
-use Rattle.std.proofs.lemmas.List.{get_or-take, length-take}
-use Rattle.edge_lattice.specs.declared.state.State.{State}
-use Rattle.edge_lattice.specs.declared.state.State.TheVariants.{Absent}
 use Rattle.grove_names.specs.declared.name.Name.{Name}
 use Rattle.grove_edits.specs.declared.vertex.Vertex.{Vertex}
 use Rattle.grove_edits.specs.declared.edge.Edge.{Edge}
@@ -13,14 +10,14 @@ use Rattle.grove_edits.specs.Vertex.{is_same_vertex, stands_in, root}
 use Rattle.grove_edits.specs.Graph.{is_same_edge}
 use Rattle.grove_edits.proofs.Vertices.{same_vertex_exact, same_vertex_itself}
 use Rattle.walks.specs.Whole.{IsVertexOf}
-use Rattle.edge_numbers.specs.Numbered.{Numbered, Entries, edges_of, edge_at, state_at, vertex_at, state_in, HasEndsIn, IsEdgeNumber}
+use Rattle.edge_numbers.specs.Numbered.{Numbered, Entries, edges_of, edge_at, state_at, vertex_at, state_in, HasEndsIn}
 use Rattle.edge_lists.specs.Lists.{holds_number}
 use Rattle.numbers_by_name.specs.ByName.{Lists, numbers_of, is_same_name}
 use Rattle.live_graph.specs.declared.vertices.Named.{Named}
 use Rattle.live_graph.specs.Named.{is_present}
 use Rattle.live_graph.specs.Ends.{has_end, IsEndIn}
 use Rattle.live_graph.specs.Around.{once, is_at, total}
-use Rattle.live_graph.specs.Uses.{use_weight, uses_at, AreUses, HasVertexNames, is_vertex_named, is_named_vertex}
+use Rattle.live_graph.specs.Uses.{use_weight, AreUses, HasVertexNames, is_vertex_named, is_named_vertex}
 use Rattle.live_graph.specs.Vertices.{AreLeastTwo, IsVertexNamed}
 use Rattle.live_graph.proofs.Numbers.{is_at-number, within_edges}
 use Rattle.live_graph.proofs.Totals.{total-at}

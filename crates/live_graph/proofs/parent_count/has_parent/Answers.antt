@@ -1,6 +1,5 @@
 use Rattle.std.proofs.Common.{length, sym, ap, ◌∙◌, arith}
 use Rattle.std.specs.Prelude.{◌==◌, not}
-use Rattle.edge_lists.specs.Lists.{numbers_at}
 use Rattle.live_graph.proofs.Children.{nothing_at}
 use Rattle.live_graph.proofs.Targets.{listed_target}
 use Rattle.live_graph.proofs.parent_count.has_parent.Goals as goal

@@ -1,4 +1,4 @@
-use Rattle.std.proofs.Common.{◌≡◌, length, get_or, ap, ◌∙◌, arith}
+use Rattle.std.proofs.Common.{◌≡◌, get_or, ap, ◌∙◌, arith}
 use Rattle.grove_edits.specs.Vertex.{stands_in, root}
 use Rattle.walks.specs.Live.{targets_of}
 use Rattle.edge_numbers.specs.Numbered.{edge_at}

@@ -1,4 +1,4 @@
-use Rattle.std.proofs.Common.{List, ℕ, ap, subst, ◌∙◌}
+use Rattle.std.proofs.Common.{ap, subst, ◌∙◌}
 use Rattle.std.specs.List.{list_any}
 use Rattle.edge_numbers.specs.Numbered.{Entries, state_in}
 use Rattle.live_graph.specs.ByName.{is_named_edge}
