@@ -21,7 +21,7 @@ in_order-live (x ∷ xs) = by_test (is_live x.1) (in_order-live xs) where
   by_test false rest = rest
 
 -- an edge of which all entries differ is Absent
-pub absent_apart : (e : Edge) (entries : Entries) → AllByRecursion (λ x. is_same_edge e x ≡ false) (edges_of entries) → state_in entries e ≡ Absent
+absent_apart : (e : Edge) (entries : Entries) → AllByRecursion (λ x. is_same_edge e x ≡ false) (edges_of entries) → state_in entries e ≡ Absent
 absent_apart e [] all = refl
 absent_apart e (x ∷ xs) all = ap (λ b. unwrap_or (cond b (Some x.1) (lookup (is_same_edge e) xs)) Absent) all.0 ∙ absent_apart e xs all.1
 
