@@ -1,3 +1,4 @@
+pub mod Ordered
 pub mod Lists
 pub mod Order
 pub mod OrderLaws

@@ -7,3 +7,12 @@ pub mod Listed
 pub mod Entered
 pub mod Raises
 pub mod Children
+pub mod Listing
+pub mod Once
+pub mod Ends
+pub mod Targets
+pub mod Names
+pub mod Counts
+pub mod LeastTwo
+pub mod VertexNames
+pub mod Maxima

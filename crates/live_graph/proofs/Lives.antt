@@ -8,8 +8,8 @@ use Rattle.grove_edits.specs.declared.edge.Edge.{Edge}
 use Rattle.grove_edits.specs.Graph.{is_same_edge}
 use Rattle.grove_edits.proofs.Orders.{one_edge, same_edge_laws}
 use Rattle.walks.specs.Live.{IsInEdgeOrder, holds_edge}
-use Rattle.edge_index.specs.Ordered.{with_edge}
-use Rattle.edge_index.proofs.Ordered.{holds-with_edge, in_order-with_edge}
+use Rattle.edge_lists.specs.Ordered.{with_edge}
+use Rattle.edge_lists.proofs.Ordered.{holds-with_edge, in_order-with_edge}
 use Rattle.edge_numbers.specs.Numbered.{Entries, edges_of, state_in, with_entry}
 use Rattle.live_graph.specs.Live.{is_live, live}
 
@@ -21,7 +21,7 @@ in_order-live (x ∷ xs) = by_test (is_live x.1) (in_order-live xs) where
   by_test false rest = rest
 
 -- an edge of which all entries differ is Absent
-absent_apart : (e : Edge) (entries : Entries) → AllByRecursion (λ x. is_same_edge e x ≡ false) (edges_of entries) → state_in entries e ≡ Absent
+pub absent_apart : (e : Edge) (entries : Entries) → AllByRecursion (λ x. is_same_edge e x ≡ false) (edges_of entries) → state_in entries e ≡ Absent
 absent_apart e [] all = refl
 absent_apart e (x ∷ xs) all = ap (λ b. unwrap_or (cond b (Some x.1) (lookup (is_same_edge e) xs)) Absent) all.0 ∙ absent_apart e xs all.1
 

@@ -70,13 +70,13 @@ module _ (edges : Numbered) where
   pub within_edges : (n : ℕ) → IsEdgeNumber edges n → n < length (edges_of edges.entries)
   within_edges n number = omega (arith, number, length-map edges.entries (λ entry. entry.0))
 
-  known_later : (m : ℕ) (ms : List ℕ) → AreEdgeNumbers edges (m ∷ ms) → AreEdgeNumbers edges ms
+  pub known_later : (m : ℕ) (ms : List ℕ) → AreEdgeNumbers edges (m ∷ ms) → AreEdgeNumbers edges ms
   known_later m ms known n held = known n (by_test (m == n) held) where
     by_test : (b : Bool) → holds_number n ms ≡ true → (b || holds_number n ms) ≡ true
     by_test true h = refl
     by_test false h = h
 
-  known_first : (m : ℕ) (ms : List ℕ) → AreEdgeNumbers edges (m ∷ ms) → IsEdgeNumber edges m
+  pub known_first : (m : ℕ) (ms : List ℕ) → AreEdgeNumbers edges (m ∷ ms) → IsEdgeNumber edges m
   known_first m ms known = known m (ap (λ b. b || holds_number m ms) (eq-eqb m m refl))
 
   -- a list that holds an edge holds its number

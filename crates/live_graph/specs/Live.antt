@@ -3,7 +3,7 @@ use Rattle.std.specs.Prelude.{Bool, true, false, List, [], ◌∷◌, if◌then�
 use Rattle.edge_lattice.specs.declared.state.State.{State}
 use Rattle.edge_lattice.specs.declared.state.State.TheVariants.{Absent, Live, Deleted}
 use Rattle.grove_edits.specs.declared.edge.Edge.{Edge}
-use Rattle.edge_index.specs.Ordered.{with_edge}
+use Rattle.edge_lists.specs.Ordered.{with_edge}
 use Rattle.edge_numbers.specs.Numbered.{Entries}
 
 abbrev pub is_live : State → Bool

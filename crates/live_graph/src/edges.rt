@@ -1,4 +1,4 @@
-ghost use Rattle.std.specs.Prelude.{◌≡◌, length, slice_get};
+ghost use Rattle.std.specs.Prelude.{◌≡◌, ◌==◌, ◌∷◌, [], length, slice_get, IfSome, IfNone};
 
 use edge_numbers::EdgeNumbers;
 use grove_edits::Edge;
@@ -48,5 +48,31 @@ impl<'g> Edges<'g> {
     {
         let number = number_at(self.numbers, index)?;
         Some(self.edges.edge(number))
+    }
+    /// Whether there are none.
+    pub fn is_empty(&self) -> bool
+        ensures { result ≡ (length self.now == 0) }
+    {
+        self.numbers.is_empty()
+    }
+
+    /// The first edge, or None where there are none.
+    pub fn first(&self) -> Option<Edge>
+        ensures { result ≡ slice_get self.now 0 }
+    {
+        self.get(0)
+    }
+
+    /// The first edge and the others, or None where there are none.
+    pub fn split_first(&self) -> Option<(Edge, Edges<'g>)>
+        ensures both { IfSome result (λ found. self.now ≡ found.0 ∷ found.1) }
+        ensures none { IfNone result (self.now ≡ []) }
+    {
+        let (first, others) = self.numbers.split_first()?;
+        let edges = Edges {
+            edges: self.edges,
+            numbers: others,
+        };
+        Some((self.edges.edge(*first as usize), edges))
     }
 }

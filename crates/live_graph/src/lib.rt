@@ -2,18 +2,25 @@
 //! else by its number. Its model is the list of its edges, each with its state, in the order of their numbers.
 #![tactic(auto)]
 
+mod by_name;
 mod change;
 mod edges;
+mod greatest;
 mod live_graph;
 mod live_lists;
 mod neighbours;
 mod no_memory;
+mod parent_count;
 mod places;
+mod uses;
+mod vertices;
+mod whole;
 
 pub use change::Change;
 pub use edges::Edges;
 pub use live_graph::LiveGraph;
 pub use no_memory::NoMemory;
+pub use vertices::Named;
 
 #[cfg(test)]
 mod tests;

@@ -1,26 +1,39 @@
-ghost use Rattle.std.specs.Prelude.{◌≡◌, ◌+◌, [], ◌∷◌, length, OnOk};
+ghost use Rattle.std.specs.Prelude.{◌≡◌, ◌+◌, [], ◌∷◌, length, OnOk, IfOk};
 ghost use Rattle.grove_edits.specs.Edit.{edit_edge, edit_kind};
-ghost use Rattle.grove_edits.specs.Graph.{IsSame, graph, graph_join, state_of};
+ghost use Rattle.grove_edits.specs.Graph.{IsSame, IsCanonical, graph, graph_join, state_of};
 ghost use Rattle.walks.specs.Live.{IsInEdgeOrder, children_of, parents_of};
+ghost use Rattle.walks.specs.Whole.{AreVertices};
 ghost use Rattle.edge_numbers.specs.Numbered.{state_in, with_state, HasRoom, KeepsRoom};
 ghost use Rattle.live_graph.specs.Change.{IsChange};
+ghost use Rattle.live_graph.specs.Greatest.{IsGreatest, IsNameOf};
 ghost use Rattle.live_graph.specs.Live.{live};
+ghost use Rattle.live_graph.specs.NamedEdges.{AreNamed};
+ghost use Rattle.live_graph.specs.Store.{well_formed};
+ghost use Rattle.live_graph.specs.Vertices.{AreLeastTwo, IsVertexNamed};
 
+use crate::by_name::{name_next_edge, sort_edges, with_name};
 use crate::change::Change;
 use crate::edges::Edges;
-use crate::live_lists::{enter, set_state};
+use crate::greatest::{greatest_of_edges, greatest_of_vertices};
+use crate::live_lists::enter;
 use crate::neighbours::{children_at, parents_at};
 use crate::no_memory::NoMemory;
+use crate::parent_count::set_counted_state;
+use crate::uses::recount_ends;
+use crate::vertices::{Named, least_named};
+use crate::whole::{edits_of, ends_of, sort_vertices};
 use edge_lattice::{State, join, leq};
 use edge_lists::{ByEdge, ByPosition, EdgeLists};
 use edge_numbers::EdgeNumbers;
-use grove_edits::{Edge, Edit, EditKind, Vertex};
+use grove_edits::{Edge, Edit, EditKind, EditList, Vertex};
+use grove_names::Name;
 use grove_sorts::Position;
+use numbers_by_name::NumbersByName;
 use seeded_hash::HashSeed;
 use std::alloc::Global;
 use std::marker::Model;
 use std::sync::ledger::Ledger;
-use walks::Steps;
+use walks::{Few, ParentOf, Steps};
 
 /// A live graph: the state of each edge, with the live edges around each vertex. Contracts see its entries, of which those with the state
 /// Absent are room.
@@ -30,17 +43,24 @@ pub struct LiveGraph {
     // The live edges from each vertex, and those to it.
     children: EdgeLists<ByPosition>,
     parents: EdgeLists<ByEdge>,
+    // How many vertices have a live parent edge.
+    parent_count: u64,
+    // The numbers of the edges and of the vertices with each name.
+    edge_names: NumbersByName,
+    vertex_names: NumbersByName,
+    // How many ends of edges that are not Absent each vertex is, by its number.
+    uses: Vec<u64>,
 }
 
 impl Model for LiveGraph {
     ghost use Rattle.edge_numbers.specs.Numbered.{Entries};
-    ghost use Rattle.live_graph.specs.Around.{IsListed};
+    ghost use Rattle.live_graph.specs.Kept.{IsKept};
 
     ghost Value = { Entries };
 
     ghost view = { λ graph. graph.edges.entries };
 
-    ghost invariant = { λ graph. IsListed graph.edges graph.children graph.parents };
+    ghost invariant = { λ graph. IsKept graph.edges graph.children graph.parents graph.parent_count graph.edge_names graph.vertex_names graph.uses.items };
 }
 
 impl LiveGraph {
@@ -59,6 +79,10 @@ impl LiveGraph {
             edges: EdgeNumbers::with_seed(alloc, seed),
             children: EdgeLists::new(alloc),
             parents: EdgeLists::new(alloc),
+            parent_count: 0,
+            edge_names: NumbersByName::new(alloc),
+            vertex_names: NumbersByName::new(alloc),
+            uses: Vec::new(alloc),
         }
     }
 
@@ -84,7 +108,16 @@ impl LiveGraph {
         if let Some(_number) = self.edges.number(edge) {
             return Ok(());
         }
-        enter(&mut self.edges, &mut self.children, &mut self.parents, edge)
+        // The name comes first, so that each edge with a number has one. A number under a name may still be that of no edge, or of another.
+        name_next_edge(&self.edges, &mut self.edge_names, edge)?;
+        enter(
+            &mut self.edges,
+            &mut self.children,
+            &mut self.parents,
+            &mut self.vertex_names,
+            &mut self.uses,
+            edge,
+        )
     }
 
     /// Gives an edge that has room a state, as after a call that met `NoMemory` and takes back what it raised.
@@ -94,10 +127,12 @@ impl LiveGraph {
         ensures room_stays { KeepsRoom self.old self.new }
     {
         if let Some(number) = self.edges.number(edge) {
-            set_state(
+            recount_ends(&self.edges, &mut self.uses, number, old);
+            set_counted_state(
                 &mut self.edges,
                 &mut self.children,
                 &mut self.parents,
+                &mut self.parent_count,
                 number,
                 old,
             );
@@ -119,6 +154,62 @@ impl LiveGraph {
         }
         self.put_back(edge, asked);
         Change::Raised { old }
+    }
+
+    /// The canonical list of the graph, in edge order: an insertion of each live edge and a deletion of each deleted one.
+    pub fn in_order(&self, alloc: Global) -> Result<EditList, NoMemory>
+        ensures canonical { IfOk result (λ list. IsCanonical (well_formed (state_in self.now)) list) }
+    {
+        let edits = edits_of(alloc, &self.edges)?;
+        Ok(edits.into_canonical())
+    }
+
+    /// The edges with this name that are not Absent, in edge order.
+    pub fn edges_named(&self, alloc: Global, name: Name) -> Result<Vec<Edge>, NoMemory>
+        ensures named { IfOk result (λ edges. AreNamed (state_in self.now) name edges.items) }
+    {
+        // No edge has two numbers.
+        let _edges = self.edges.edge_count();
+        let numbers = self.edge_names.with_name(name);
+        let mut found = with_name(alloc, &self.edges, name, numbers)?;
+        sort_edges(&mut found);
+        Ok(found)
+    }
+
+    /// The least two vertices of the graph with this name. The vertex `0.0 root` is one of each graph.
+    pub fn vertices_named(&self, name: Name) -> Named
+        ensures { AreLeastTwo (IsVertexNamed self.now name) result }
+    {
+        // Nothing has two numbers.
+        let _edges = self.edges.edge_count();
+        let _vertices = self.edges.vertex_count();
+        least_named(
+            &self.edges,
+            &self.uses,
+            name,
+            self.vertex_names.with_name(name),
+        )
+    }
+
+    /// The greatest counter of this author in any name of the graph, be it of a vertex or of an edge, deleted or not.
+    /// It is 0 where no name is by this author.
+    pub fn greatest(&self, author: u32) -> u64
+        ensures { IsGreatest (IsNameOf (state_in self.now)) author result }
+    {
+        let of_edges = greatest_of_edges(&self.edges, &self.edge_names, author);
+        let of_vertices = greatest_of_vertices(&self.edges, &self.uses, &self.vertex_names, author);
+        of_edges.max(of_vertices)
+    }
+
+    /// All vertices of the graph, in vertex order: the vertex `0.0 root`, and the ends of the edges that are not Absent.
+    pub fn vertices(&self, alloc: Global) -> Result<Vec<Vertex>, NoMemory>
+        ensures vertices { IfOk result (λ list. AreVertices (state_in self.now) list.items) }
+    {
+        // No edge has two states.
+        let _edges = self.edges.edge_count();
+        let mut vertices = ends_of(alloc, &self.edges)?;
+        sort_vertices(&mut vertices);
+        Ok(vertices)
     }
 
     /// The live edges from a position of a vertex, in edge order. It ticks once for the call, and once for each edge.
@@ -143,6 +234,17 @@ impl LiveGraph {
         }
     }
 
+    // The live parent edges of a vertex, uncounted.
+    fn parents_told(&self, vertex: &Vertex) -> Edges<'_>
+        ensures parents { result ≡ parents_of vertex.now (live self.now) }
+        ensures in_order { IsInEdgeOrder (live self.now) }
+    {
+        Edges {
+            edges: &self.edges,
+            numbers: parents_at(&self.edges, &self.parents, vertex),
+        }
+    }
+
     /// The live parent edges of a vertex, in edge order. It ticks once for the call, and once for each edge.
     pub fn parents<L: Ledger>(&self, vertex: &Vertex, steps: &mut Steps<L>) -> Edges<'_>
         ensures parents { result ≡ parents_of vertex.now (live self.now) }
@@ -158,6 +260,30 @@ impl LiveGraph {
             edges: &self.edges,
             numbers,
         }
+    }
+}
+
+impl ParentOf for LiveGraph {
+    ghost use Rattle.live_graph.specs.Live.{live as live_edges};
+
+    ghost live = { λ entries. live_edges entries };
+
+    fn few<L: Ledger>(&self, vertex: &Vertex, steps: &mut Steps<L>) -> Few {
+        let parents = self.parents_told(vertex);
+        steps.tick();
+        let Some(first) = parents.first() else {
+            return Few::Zero;
+        };
+        steps.tick();
+        let Some(second) = parents.get(1) else {
+            return Few::One(first);
+        };
+        steps.tick();
+        Few::More(first, second)
+    }
+
+    fn vertex_count(&self) -> u64 {
+        self.parent_count
     }
 }
 

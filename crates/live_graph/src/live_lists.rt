@@ -4,13 +4,16 @@ ghost use Rattle.grove_edits.specs.declared.edge.Edge.{Edge};
 ghost use Rattle.edge_numbers.specs.Numbered.{Numbered, state_in, state_at, with_state, with_entry, edge_at, edges_of, HasRoom, KeepsRoom, IsEdgeNumber};
 ghost use Rattle.live_graph.specs.Live.{is_live};
 ghost use Rattle.live_graph.specs.Around.{IsListed, IsStateSet};
+ghost use Rattle.live_graph.specs.Uses.{AreUses, HasVertexNames};
 
 use crate::no_memory::NoMemory;
 use crate::places::make_places;
+use crate::uses::name_vertices;
 use edge_lattice::State;
 use edge_lists::{ByEdge, ByPosition, EdgeLists};
 use edge_numbers::EdgeNumbers;
 use grove_edits::Edge;
+use numbers_by_name::NumbersByName;
 
 // Lists keep the numbers of edges in 32 bits.
 fn want_number(edges: &EdgeNumbers) -> Result<(), NoMemory>
@@ -22,20 +25,27 @@ fn want_number(edges: &EdgeNumbers) -> Result<(), NoMemory>
     Ok(())
 }
 
-/// Enters an edge, with a place at each end. The places are made first, so that each edge with a number has them.
+/// Enters an edge, with a place at each end. The places are made and the ends are named first, so that each edge with a number has them.
 pub(crate) fn enter(
     edges: &mut EdgeNumbers,
     children: &mut EdgeLists<ByPosition>,
     parents: &mut EdgeLists<ByEdge>,
+    vertex_names: &mut NumbersByName,
+    uses: &mut Vec<u64>,
     edge: &Edge,
 ) -> Result<(), NoMemory>
-    requires { IsListed edges.old children.old parents.old }
+    requires listed { IsListed edges.old children.old parents.old }
+    requires uses { AreUses edges.old uses.old.items }
+    requires names { HasVertexNames edges.old (length uses.old.items) vertex_names.old }
     ensures listed { IsListed edges.new children.new parents.new }
+    ensures uses { AreUses edges.new uses.new.items }
+    ensures names { HasVertexNames edges.new (length uses.new.items) vertex_names.new }
     ensures entries { OnOk result (edges.new.entries ≡ with_entry edge.now edges.old.entries) }
     ensures unchanged { OnErr result (edges.new.entries ≡ edges.old.entries) }
 {
     want_number(edges)?;
     make_places(edges, children, parents, edge)?;
+    name_vertices(edges, vertex_names, uses)?;
     // The ends of what has a number are among the vertices.
     let _edges = edges.edge_count();
     edges.enter(edge)?;
@@ -124,6 +134,7 @@ pub(crate) fn set_state(
     ensures listed { IsListed edges.new children.new parents.new }
     ensures graph { (e : Edge) → state_in edges.new.entries e ≡ with_state (edge_at edges.old number) state (state_in edges.old.entries) e }
     ensures room_stays { KeepsRoom edges.old.entries edges.new.entries }
+    ensures set { IsStateSet edges.old number state edges.new }
 {
     relist(edges, children, parents, number, state);
     edges.set_state(number, state);

@@ -37,3 +37,15 @@ impl From<edge_lists::NoMemory> for NoMemory {
         NoMemory
     }
 }
+
+impl From<grove_edits::NoMemory> for NoMemory {
+    fn from(_error: grove_edits::NoMemory) -> NoMemory {
+        NoMemory
+    }
+}
+
+impl From<numbers_by_name::NoMemory> for NoMemory {
+    fn from(_error: numbers_by_name::NoMemory) -> NoMemory {
+        NoMemory
+    }
+}

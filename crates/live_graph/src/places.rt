@@ -1,5 +1,5 @@
 ghost use Rattle.std.specs.Prelude.{◌≡◌, ◌+◌, ◌≤◌, ℕ, OnOk};
-ghost use Rattle.edge_numbers.specs.Numbered.{HasEndsIn};
+ghost use Rattle.edge_numbers.specs.Numbered.{BeginsWith, HasEndsIn};
 ghost use Rattle.edge_lists.specs.Lists.{listed_at, places_at, HasVertex};
 ghost use Rattle.live_graph.specs.Around.{IsListed, HasPlace, KeepsLists, source_of, target_of};
 
@@ -39,6 +39,7 @@ pub(crate) fn make_places(
     requires { IsListed edges.old children.old parents.old }
     ensures listed { IsListed edges.new children.new parents.new }
     ensures entries { edges.new.entries ≡ edges.old.entries }
+    ensures vertices { BeginsWith edges.new.vertices edges.old.vertices }
     ensures ends { OnOk result (HasEndsIn edges.new.vertices edge.now) }
     ensures source { OnOk result (HasPlace source_of edges.new children.new edge.now) }
     ensures target { OnOk result (HasPlace target_of edges.new parents.new edge.now) }

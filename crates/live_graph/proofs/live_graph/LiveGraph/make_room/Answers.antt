@@ -1,6 +1,8 @@
-use Rattle.std.proofs.Common.{sym, ap, subst, ◌∙◌}
+use Rattle.std.proofs.Common.{length, refl, sym, ap, subst, ◌∙◌}
+use Rattle.walks.specs.Live.{targets_of}
 use Rattle.edge_numbers.specs.Numbered.{Entries, state_in, HasRoom}
 use Rattle.live_graph.specs.Live.{live}
+use Rattle.live_graph.proofs.Names.{names_after, names_kept}
 use Rattle.live_graph.proofs.Numbers.{room-at}
 use Rattle.live_graph.proofs.Entered.{graph_stays, live_stays, room_kept, room_made}
 use Rattle.live_graph.proofs.live_graph.LiveGraph.make_room.Goals as goal
@@ -26,3 +28,25 @@ returns-clause-unchanged c e =
 pub returns-clause-live_stays : goal.returns-clause-live_stays
 returns-clause-live_stays c =
     live_stays c.enter.result c.self.inside.edges.entries c.enter.new.edges.entries c.args.edge.now c.enter.ensures.entries c.enter.ensures.unchanged ∙ ap live c.self.view_is
+
+pub invariant_of-self-2 : goal.invariant_of-self-2
+invariant_of-self-2 c = record {
+  listed = c.enter.ensures.listed;
+  counted =
+      c.self.invariant.counted
+      ∙ ap (λ es. length (targets_of es)) (sym (live_stays c.enter.result c.self.inside.edges.entries c.enter.new.edges.entries c.args.edge.now c.enter.ensures.entries c.enter.ensures.unchanged));
+  named =
+      names_after c.enter.result c.self.inside.edges c.enter.new.edges c.self.inside.edge_names c.name_next_edge.new.names c.args.edge.now c.enter.ensures.entries c.enter.ensures.unchanged
+      c.name_next_edge.ensures.kept c.in_ok-name_next_edge.ensures.added c.self.invariant.named;
+  used = c.enter.ensures.uses;
+  vertices_named = c.enter.ensures.names;
+}
+
+pub invariant_of-self : goal.invariant_of-self
+invariant_of-self c = record {
+  listed = c.self.invariant.listed;
+  counted = c.self.invariant.counted;
+  named = names_kept c.self.inside.edges c.self.inside.edges c.self.inside.edge_names c.name_next_edge.new.names refl c.name_next_edge.ensures.kept c.self.invariant.named;
+  used = c.self.invariant.used;
+  vertices_named = c.self.invariant.vertices_named;
+}

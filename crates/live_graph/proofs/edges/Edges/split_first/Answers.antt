@@ -1,0 +1,14 @@
+use Rattle.std.proofs.Common.{subst}
+use Rattle.edge_lists.specs.Lists.{AreEdgeNumbers}
+use Rattle.live_graph.proofs.Numbers.{known_first, known_later}
+use Rattle.live_graph.proofs.edges.Edges.split_first.Goals as goal
+
+pub edge-requires : goal.edge-requires
+edge-requires c =
+    let edges = c.self.inside.edges.now in
+    known_first edges c.in_ok-first.first.now c.in_ok-first.others.now (subst (AreEdgeNumbers edges) c.in_ok-first.ensures.cases.0 c.self.invariant)
+
+pub invariant_of-edges : goal.invariant_of-edges
+invariant_of-edges c =
+    let edges = c.self.inside.edges.now in
+    known_later edges c.in_ok-first.first.now c.in_ok-first.others.now (subst (AreEdgeNumbers edges) c.in_ok-first.ensures.cases.0 c.self.invariant)

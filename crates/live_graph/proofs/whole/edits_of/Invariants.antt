@@ -1,0 +1,6 @@
+use Rattle.live_graph.proofs.Listing.{MakesSoFar}
+use Rattle.live_graph.proofs.whole.edits_of.Given as goal
+
+-- the edits make what the entries so far say
+abbrev pub invariant-loop-number : goal.invariant-loop-number
+invariant-loop-number l = MakesSoFar l.edges.entries l.number l.edits

@@ -1,0 +1,83 @@
+ghost use Rattle.std.specs.Prelude.{◌≡◌, ◌<◌, ◌||◌, ◌++◌, ◌∷◌, [], length, IfOk, OnOk};
+ghost use Rattle.std.specs.List.{list_any};
+ghost use Rattle.grove_edits.specs.declared.vertex.Vertex.{Vertex};
+ghost use Rattle.grove_edits.specs.Graph.{IsSame, graph};
+ghost use Rattle.grove_edits.specs.Vertex.{is_same_vertex, stands_in, root};
+ghost use Rattle.walks.specs.Whole.{IsInVertexOrder};
+ghost use Rattle.edge_numbers.specs.Numbered.{state_in, edge_at, IsEdgeNumber};
+ghost use Rattle.live_graph.specs.Ends.{has_end};
+ghost use Rattle.live_graph.specs.Listed.{IsEditOf};
+ghost use Rattle.live_graph.specs.Named.{is_present};
+ghost use Rattle.live_graph.specs.Store.{well_formed};
+
+use crate::no_memory::NoMemory;
+use edge_lattice::State;
+use edge_numbers::EdgeNumbers;
+use grove_edits::{Edge, Edit, EditKind, EditList, Vertex};
+use std::alloc::Global;
+
+pub(crate) fn is_present(state: State) -> bool
+    ensures { result ≡ is_present state }
+{
+    match state {
+        State::Absent => false,
+        State::Live | State::Deleted => true,
+    }
+}
+
+// The edit that asks a state of an edge, where there is one. A graph takes edges too, so whether they are well formed is tested here.
+fn edit_of(edge: Edge, state: State) -> Option<Edit>
+    ensures { IsEditOf edge state result }
+{
+    let kind = match state {
+        State::Absent => return None,
+        State::Live => EditKind::Insert,
+        State::Deleted => EditKind::Delete,
+    };
+    Edit::new(kind, edge).ok()
+}
+
+/// The edits that make the graph, in the order of the numbers of their edges.
+pub(crate) fn edits_of(alloc: Global, edges: &EdgeNumbers) -> Result<EditList, NoMemory>
+    ensures { IfOk result (λ list. IsSame (graph list) (well_formed (state_in edges.now.entries))) }
+{
+    let mut edits = EditList::new(alloc);
+    for number in 0..edges.edge_count() {
+        if let Some(edit) = edit_of(edges.edge(number), edges.state_at(number)) {
+            edits.push(edit)?;
+        }
+    }
+    Ok(edits)
+}
+
+fn push_ends(vertices: &mut Vec<Vertex>, edges: &EdgeNumbers, number: usize) -> Result<(), NoMemory>
+    requires { IsEdgeNumber edges.now number }
+    ensures { OnOk result (vertices.new.items ≡ (vertices.old.items ++ (edge_at edges.now number).source ∷ []) ++ (edge_at edges.now number).target ∷ []) }
+{
+    vertices.push(*edges.vertex(edges.source(number)))?;
+    vertices.push(*edges.vertex(edges.target(number)))?;
+    Ok(())
+}
+
+/// The vertices of the graph, in no order, and some of them often.
+pub(crate) fn ends_of(alloc: Global, edges: &EdgeNumbers) -> Result<Vec<Vertex>, NoMemory>
+    ensures { IfOk result (λ list. (v : Vertex) → stands_in v list.items ≡ (is_same_vertex root v || list_any (has_end v) edges.now.entries)) }
+{
+    let mut vertices = Vec::new(alloc);
+    vertices.push(Vertex::ROOT)?;
+    for number in 0..edges.edge_count() {
+        if is_present(edges.state_at(number)) {
+            push_ends(&mut vertices, edges, number)?;
+        }
+    }
+    Ok(vertices)
+}
+
+/// Puts vertices in order, and each there once.
+pub(crate) fn sort_vertices(vertices: &mut Vec<Vertex>)
+    ensures in_order { IsInVertexOrder vertices.new.items }
+    ensures same { (v : Vertex) → stands_in v vertices.new.items ≡ stands_in v vertices.old.items }
+{
+    vertices.sort_unstable();
+    vertices.dedup();
+}
