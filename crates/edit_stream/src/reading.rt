@@ -49,10 +49,17 @@ pub(crate) fn read_lines(
     match read_joined_line(alloc, version, kept, end)? {
         Err(fault) => Ok(Reading::stopped(alloc, edits, fault)),
         Ok(edit) => {
+            edits.reserve(most_lines(rest).saturating_add(1))?;
             edits.push(edit)?;
             read_more_lines(alloc, version, edits, rest)
         }
     }
+}
+
+// At least as many lines as a text can have that are all of edits: each ends with an LF, and none is shorter than `+1.1 0.0 root main 1.1 if`.
+fn most_lines(text: &[u8]) -> usize {
+    let ends = text.iter().filter(|byte| **byte == b'\n').count();
+    ends.min(text.len() / 24)
 }
 
 // A line that no cut falls into is read where it stands.

@@ -49,6 +49,14 @@ impl EditList {
         Ok(())
     }
 
+    /// Makes room for so many further edits, where their number is known, so that none is moved as they are pushed.
+    pub fn reserve(&mut self, further: usize) -> Result<(), NoMemory>
+        ensures unchanged { self.new ≡ self.old }
+    {
+        self.edits.reserve_exact(further)?;
+        Ok(())
+    }
+
     pub fn len(&self) -> usize
         ensures { result ≡ length self.now }
     {
