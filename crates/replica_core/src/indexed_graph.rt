@@ -1,6 +1,5 @@
 ghost use Rattle.std.specs.Prelude.{◌≡◌, []};
-ghost use Rattle.grove_edits.specs.Graph.{graph};
-ghost use Rattle.replica_core.specs.Indexes.{StandsFor};
+ghost use Rattle.mark_incremental.specs.Raising.{AreIndexed};
 
 use child_index::ChildIndex;
 use graph_store::GraphStore;
@@ -20,7 +19,7 @@ impl IndexedGraph {
     /// The empty graph, whose indexes hash under a seed.
     pub(crate) fn with_seed(alloc: Global, seed: HashSeed) -> IndexedGraph
         ensures store { result.store ≡ [] }
-        ensures stands { StandsFor (graph []) result }
+        ensures indexed { AreIndexed result.store result.children result.parents }
     {
         IndexedGraph {
             store: GraphStore::new(alloc),

@@ -2,11 +2,14 @@ ghost use Rattle.std.specs.Prelude.{◌≡◌, ◌+◌, ◌<◌, ◌≤◌, ℕ,
 ghost use Rattle.grove_edits.specs.declared.act_fault.ActFault.{ActFault};
 ghost use Rattle.grove_edits.specs.declared.answer.Answer.{Answer};
 ghost use Rattle.grove_edits.specs.Graph.{graph, IsCanonical};
+ghost use Rattle.graph_store.specs.Store.{state_in};
+ghost use Rattle.edge_index.specs.Lists.{live};
 ghost use Rattle.user_actions.specs.Plan.{IsPlan};
 ghost use Rattle.grove_answers.specs.Texts.{IsPrintText, IsCanonicalText};
 ghost use Rattle.mark_incremental.specs.Standing.{KeptMarks, StandFor, kept_in};
 ghost use Rattle.replica_core.specs.Content.{IsContent, no_edits, with_taken, with_block};
 ghost use Rattle.replica_core.specs.Plain.{as_edits};
+ghost use Rattle.replica_core.specs.Shown.{Shows};
 ghost use Rattle.replica_core.specs.Step.{plan_of};
 ghost use Rattle.replica_core.specs.MarkingCost.{edit_marking_cost, edits_marking_cost};
 
@@ -39,7 +42,8 @@ pub struct MarkedReplica {
 
 impl Model for MarkedReplica {
     ghost use Rattle.replica_core.specs.Content.{Content};
-    ghost use Rattle.replica_core.specs.Kept.{content_of, AreMarksKept};
+    ghost use Rattle.replica_core.specs.Kept.{content_of};
+    ghost use Rattle.replica_core.specs.MarksKept.{AreMarksKept};
 
     ghost Value = { Content };
 
@@ -191,8 +195,10 @@ impl MarkedReplica {
         self.marks.contexts()
     }
 
-    // What plans read.
-    pub(crate) fn view(&self) -> View<'_> {
+    /// What plans read.
+    pub(crate) fn view(&self) -> View<'_>
+        ensures { Shows (state_in result.store.now) (live result.children.now) (live result.parents.now) result.opening.now self.now }
+    {
         View {
             store: &self.graph.store,
             opening: &self.opening,

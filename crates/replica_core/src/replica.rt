@@ -1,15 +1,15 @@
-ghost use Rattle.std.specs.Prelude.{◌≡◌, ◌+◌, ◌<◌, ◌≤◌, ℕ, [], ◌∷◌, ◌++◌, List, map, IfOk, OnOk, OnErr};
+ghost use Rattle.std.specs.Prelude.{◌≡◌, ◌+◌, ◌<◌, ◌≤◌, ℕ, [], ◌∷◌, ◌++◌, List, IfOk, OnOk, OnErr};
 ghost use Rattle.grove_edits.specs.declared.act_fault.ActFault.{ActFault};
-ghost use Rattle.grove_edits.specs.Edit.{edit_edge};
 ghost use Rattle.grove_edits.specs.Graph.{graph, IsCanonical};
+ghost use Rattle.edge_numbers.specs.Numbered.{state_in};
+ghost use Rattle.live_graph.specs.Live.{live};
 ghost use Rattle.user_actions.specs.Plan.{IsPlan};
 ghost use Rattle.grove_answers.specs.Texts.{IsPrintText, IsCanonicalText};
-ghost use Rattle.mark_incremental.specs.Standing.{StandFor};
 ghost use Rattle.replica_core.specs.Content.{IsContent, no_edits, with_taken, with_block};
 ghost use Rattle.replica_core.specs.Plain.{as_edits};
+ghost use Rattle.replica_core.specs.Shown.{Shows};
 ghost use Rattle.replica_core.specs.Step.{plan_of};
 ghost use Rattle.replica_core.specs.Cost.{edit_cost, edits_cost};
-ghost use Rattle.replica_core.specs.MarkingCost.{edits_marking_cost};
 
 use crate::no_memory::NoMemory;
 use crate::planning::planned;
@@ -154,8 +154,12 @@ impl Replica {
         Ok(())
     }
 
-    // What plans read.
-    pub(crate) fn view(&self) -> LiveView<'_> {
+    /// What plans read.
+    pub(crate) fn view(&self) -> LiveView<'_>
+        ensures { Shows (state_in result.graph.now) (live result.graph.now) (live result.graph.now) result.opening.now self.now }
+    {
+        // The live edges are those whose state is Live.
+        let _edges = self.graph.edge_count();
         LiveView {
             graph: &self.graph,
             opening: &self.opening,
