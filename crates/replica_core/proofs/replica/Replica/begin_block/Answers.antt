@@ -5,7 +5,7 @@ use Rattle.replica_core.proofs.Keeping.{seen_opened}
 use Rattle.replica_core.proofs.replica.Replica.begin_block.Goals as goal
 
 pub of_list-requires : goal.of_list-requires
-of_list-requires c = subst Ascends (sym c.in_ok-edits.ensures.list) c.in_ok-edits.ensures.canonical.in_order
+of_list-requires c = record { in_order = subst Ascends (sym c.in_ok-edits.ensures.list) c.in_ok-edits.ensures.canonical.in_order }
 
 pub invariant_of-self : goal.invariant_of-self
 invariant_of-self c =
