@@ -115,6 +115,8 @@ impl LiveGraph {
         requires { number < length self.now }
         ensures { (e : Edge) → IsNumberOf self.now e number → result ≡ state_in self.now e }
     {
+        // No edge has two numbers.
+        let _edges = self.edges.edge_count();
         self.edges.state_at(number)
     }
 
@@ -208,7 +210,7 @@ impl LiveGraph {
     pub fn in_order(&self, alloc: Global) -> Result<EditList, NoMemory>
         ensures canonical { IfOk result (λ list. IsCanonical (well_formed (state_in self.now)) list) }
     {
-        let edits = edits_of(alloc, &self.edges)?;
+        let edits = edits_of(alloc, &self.edges, &self.edge_names)?;
         Ok(edits.into_canonical())
     }
 
