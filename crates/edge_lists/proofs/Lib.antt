@@ -2,5 +2,6 @@ pub mod Prefixes
 pub mod Numbers
 pub mod EdgeOrder
 pub mod Ordered
+pub mod ByNumber
 pub mod Positions
 pub mod CallerLemmas

@@ -19,7 +19,7 @@ use Rattle.edge_lists.specs.Order.{IsInOrder, position_first, with_edge_by}
 use Rattle.edge_lists.specs.Places.{is_up_to}
 use Rattle.edge_lists.proofs.Prefixes.{Falls, prefix_len-none, all_fail}
 use Rattle.edge_lists.proofs.Numbers.{one_more}
-use Rattle.edge_lists.proofs.Ordered.{all_after}
+use Rattle.edge_lists.proofs.ByNumber.{all_after}
 
 pub map-filter : (edge : ℕ → Edge) (test : Edge → Bool) (xs : List ℕ) → map edge (filter (λ n. test (edge n)) xs) ≡ filter test (map edge xs)
 map-filter edge test [] = refl

@@ -1,5 +1,5 @@
 -- The vertices of a graph by the ends of its entries.
-use Rattle.std.proofs.Common.{◌≡◌, ℕ, ◌+◌, ◌<◌, Bool, true, false, cond, List, [], ◌∷◌, ◌++◌, Some, length, get_or, take, unwrap_or, refl, sym, ap, subst, ◌∙◌, inl, inr, ◌⊎◌, arith}
+use Rattle.std.proofs.Common.{◌≡◌, ℕ, zero, suc, ◌+◌, ◌<◌, Bool, true, false, cond, List, [], ◌∷◌, ◌++◌, Some, length, get_or, take, unwrap_or, refl, sym, ap, subst, ◌∙◌, inl, inr, ◌⊎◌, arith}
 use Rattle.std.specs.Prelude.{◌≢◌, ◌&&◌, ◌||◌}
 use Rattle.std.specs.List.{IsDistinct, list_any}
 use Rattle.std.proofs.lemmas.List.{take_all}
@@ -16,8 +16,13 @@ use Rattle.walks.specs.Whole.{AreVertices, IsVertexOf, IsInVertexOrder}
 use Rattle.edge_numbers.specs.Numbered.{Entries, edges_of, states_of, state_in, entry_at, no_edge}
 use Rattle.live_graph.specs.Named.{is_present}
 use Rattle.live_graph.specs.Ends.{has_end, IsEndIn}
-use Rattle.live_graph.proofs.Listing.{entry_with_number}
 use Rattle.live_graph.proofs.Lives.{absent_apart}
+
+-- the entry with a number is its edge and its state
+pub entry_with_number : (es : Entries) (n : ℕ) → n < length es → get_or es n (no_edge, Absent) ≡ (get_or (edges_of es) n no_edge, get_or (states_of es) n Absent)
+entry_with_number [] n within = absurd (omega (arith, within))
+entry_with_number (x ∷ xs) zero within = refl
+entry_with_number (x ∷ xs) (suc n) within = entry_with_number xs n (omega (arith, within))
 
 or_right : (b : Bool) {c : Bool} → c ≡ true → (b || c) ≡ true
 or_right true h = refl

@@ -1,6 +1,7 @@
 pub mod Numbers
 pub mod Totals
 pub mod Lives
+pub mod NumbersStay
 pub mod Around
 pub mod Changes
 pub mod Listed

@@ -1,11 +1,19 @@
--- The edits of the entries make the graph that these give.
-use Rattle.std.proofs.Common.{◌≡◌, ℕ, zero, suc, ◌+◌, ◌<◌, Bool, true, false, cond, List, [], ◌∷◌, ◌++◌, Some, None, is_none, length, get_or, take, unwrap_or, true≢false, refl, sym, ap, ◌∙◌, inl, inr, ◌⊎◌, arith}
-use Rattle.std.specs.List.{AllByRecursion, IsDistinct}
+-- The edits of the entries, listed by their numbers, make the graph that these give.
+use Rattle.std.proofs.Common.{◌≡◌, ◌≢◌, ℕ, ◌+◌, ◌<◌, ◌≤◌, Bool, true, false, cond, List, [], ◌∷◌, ◌++◌, None, Some, is_none, length, get_or, take, unwrap_or, true≢false, refl, sym, ap, subst, ◌∙◌, inl, inr, ◌⊎◌, arith}
+use Rattle.std.specs.Prelude.{◌&&◌, ◌||◌, ◌==◌, nat_lt}
+use Rattle.std.specs.List.{IsDistinct}
+use Rattle.std.specs.Map.{lookup}
+use Rattle.std.specs.BTreeMap.{is_at}
+use Rattle.std.proofs.lemmas.Bool.{eqb-true, ltb-true, lt-ltb}
 use Rattle.std.proofs.lemmas.List.{take_more, take_all}
+use Rattle.std.proofs.lemmas.List.Folds.{list_any-append}
 use Rattle.edge_lattice.specs.declared.state.State.{State}
-use Rattle.edge_lattice.specs.declared.state.State.TheVariants.{Absent}
+use Rattle.edge_lattice.specs.declared.state.State.TheVariants.{Absent, Live, Deleted}
 use Rattle.edge_lattice.specs.State.{state_join}
-use Rattle.edge_lattice.proofs.States.{state_join_assoc, state_join_comm, Absent-state_join}
+use Rattle.edge_lattice.proofs.States.{state_join_assoc, state_join_comm, state_join_idem, Absent-state_join}
+use Rattle.grove_sorts.proofs.Truths.{or_left, or_right}
+use Rattle.grove_names.specs.declared.name.Name.{Name}
+use Rattle.grove_names.specs.Name.{name_cmp}
 use Rattle.grove_edits.specs.declared.edge.Edge.{Edge}
 use Rattle.grove_edits.specs.declared.edit.Edit.{Edit}
 use Rattle.grove_edits.specs.Edge.{edge_fault}
@@ -13,119 +21,183 @@ use Rattle.grove_edits.specs.Edit.{edit_kind}
 use Rattle.grove_edits.specs.Graph.{Graph, graph, state_of, is_same_edge, IsSame, IsCanonical}
 use Rattle.grove_edits.proofs.Graphs.{asked, graph-append}
 use Rattle.grove_edits.proofs.Orders.{one_edge, same_edge_laws}
-use Rattle.edge_numbers.specs.Numbered.{Entries, edges_of, states_of, entry_at, state_in, no_edge}
-use Rattle.live_graph.specs.Listed.{IsEditOf}
+use Rattle.edge_numbers.specs.Numbered.{Numbered, edges_of, edge_at, state_at, state_in, IsNumberOfEdge}
+use Rattle.edge_lists.specs.Lists.{holds_number}
+use Rattle.numbers_by_name.specs.ByName.{Lists, all_numbers, numbers_of}
+use Rattle.live_graph.specs.ByName.{HasEdgeNames}
+use Rattle.live_graph.specs.Listed.{IsEditOf, told_at}
 use Rattle.live_graph.specs.Store.{well_formed}
+use Rattle.live_graph.proofs.Names.{number_of_present, state_there}
 
 join_nothing : (s : State) → state_join s Absent ≡ s
 join_nothing s = state_join_comm s Absent ∙ Absent-state_join s
 
-join_swap : (a b s : State) → state_join a (state_join b s) ≡ state_join b (state_join a s)
-join_swap a b s = sym (state_join_assoc a b s) ∙ ap (λ x. state_join x s) (state_join_comm a b) ∙ state_join_assoc b a s
-
--- ---- the entries
-
--- what one entry says of an edge
-abbrev only : Edge × State → Edge → State
-only entry e = cond (is_same_edge entry.0 e) entry.1 Absent
-
--- the join of what the entries say
-abbrev pub joined : Entries → Graph
-joined [] e = Absent
-joined (entry ∷ entries) e = state_join (only entry e) (joined entries e)
-
-joined-push : (es : Entries) (x : Edge × State) (e : Edge) → joined (es ++ x ∷ []) e ≡ state_join (only x e) (joined es e)
-joined-push [] x e = refl
-joined-push (y ∷ ys) x e = ap (state_join (only y e)) (joined-push ys x e) ∙ join_swap (only y e) (only x e) (joined ys e)
-
-joined_apart : (e : Edge) (es : Entries) → AllByRecursion (λ x. is_same_edge e x ≡ false) (edges_of es) → joined es e ≡ Absent
-joined_apart e [] all = refl
-joined_apart e (x ∷ xs) all =
-    ap (λ b. state_join (cond b x.1 Absent) (joined xs e)) (same_edge_laws.symm x.0 e ∙ all.0) ∙ Absent-state_join (joined xs e) ∙ joined_apart e xs all.1
-
--- entries of which no two are of one edge give each edge one state
-pub joined-state_in : (es : Entries) → IsDistinct is_same_edge (edges_of es) → IsSame (joined es) (state_in es)
-unfolding IsDistinct
-joined-state_in [] once e = refl
-joined-state_in (x ∷ xs) once e = by_test (is_same_edge x.0 e) refl (joined-state_in xs once.1 e) where
-  by_test : (b : Bool) → is_same_edge x.0 e ≡ b → joined xs e ≡ state_in xs e → state_join (cond (is_same_edge x.0 e) x.1 Absent) (joined xs e) ≡ unwrap_or (cond (is_same_edge e x.0) (Some x.1) (entry_at xs e)) Absent
-  by_test true same rest =
-      let none : joined xs e ≡ Absent = ap (joined xs) (sym (one_edge x.0 e same)) ∙ joined_apart x.0 xs once.0 in
-      ap (λ b. state_join (cond b x.1 Absent) (joined xs e)) same ∙ ap (state_join x.1) none ∙ join_nothing x.1
-      ∙ sym (ap (λ b. unwrap_or (cond b (Some x.1) (entry_at xs e)) Absent) (same_edge_laws.symm e x.0 ∙ same))
-  by_test false other rest =
-      ap (λ b. state_join (cond b x.1 Absent) (joined xs e)) other ∙ Absent-state_join (joined xs e) ∙ rest
-      ∙ sym (ap (λ b. unwrap_or (cond b (Some x.1) (entry_at xs e)) Absent) (same_edge_laws.symm e x.0 ∙ other))
-
--- the entry with a number is its edge and its state
-pub entry_with_number : (es : Entries) (n : ℕ) → n < length es → get_or es n (no_edge, Absent) ≡ (get_or (edges_of es) n no_edge, get_or (states_of es) n Absent)
-entry_with_number [] n within = absurd (omega (arith, within))
-entry_with_number (x ∷ xs) zero within = refl
-entry_with_number (x ∷ xs) (suc n) within = entry_with_number xs n (omega (arith, within))
-
 -- ---- the edit of an entry
 
+-- what an edge with a state says of an edge
+abbrev only : Edge → State → Edge → State
+only x s e = cond (is_same_edge x e) s Absent
+
+nothing_well_formed : (w : Bool) → Absent ≡ cond w Absent Absent
+nothing_well_formed true = refl
+nothing_well_formed false = refl
+
 -- an entry that lists no edit says nothing of well-formed edges
-skipped : (x : Edge × State) (e : Edge) (s : State) → IsEditOf x.0 x.1 None → cond (is_none (edge_fault e)) s Absent ≡ cond (is_none (edge_fault e)) (state_join (only x e) s) Absent
-skipped x e s none = by_tests (is_none (edge_fault e)) (is_same_edge x.0 e) refl refl none where
-  by_tests : (w b : Bool) → is_none (edge_fault e) ≡ w → is_same_edge x.0 e ≡ b → (x.1 ≡ Absent) ⊎ (is_none (edge_fault x.0) ≡ false)
-      → cond w s Absent ≡ cond w (state_join (cond b x.1 Absent) s) Absent
+skipped : (x : Edge) (s : State) (e : Edge) → IsEditOf x s None → Absent ≡ cond (is_none (edge_fault e)) (only x s e) Absent
+skipped x s e none = by_tests (is_none (edge_fault e)) (is_same_edge x e) refl refl none where
+  by_tests : (w b : Bool) → is_none (edge_fault e) ≡ w → is_same_edge x e ≡ b → (s ≡ Absent) ⊎ (is_none (edge_fault x) ≡ false) → Absent ≡ cond w (cond b s Absent) Absent
   by_tests false b ill same none = refl
-  by_tests true false well other none = sym (Absent-state_join s)
-  by_tests true true well same (inl absent) = sym (Absent-state_join s) ∙ sym (ap (λ t. state_join t s) absent)
-  by_tests true true well same (inr ill) = absurd (true≢false (sym well ∙ ap (λ (f : Edge). is_none (edge_fault f)) (sym (one_edge x.0 e same)) ∙ ill))
+  by_tests true false well other none = refl
+  by_tests true true well same (inl absent) = sym absent
+  by_tests true true well same (inr ill) = absurd (true≢false (sym well ∙ ap (λ (f : Edge). is_none (edge_fault f)) (sym (one_edge x e same)) ∙ ill))
 
 -- an entry that lists an edit is of a well-formed edge
-listed : (x : Edge × State) (e : Edge) (s : State) (edit : Edit) → IsEditOf x.0 x.1 (Some edit)
-    → state_join (asked edit e) (cond (is_none (edge_fault e)) s Absent) ≡ cond (is_none (edge_fault e)) (state_join (only x e) s) Absent
-listed x e s edit one =
-    ap (λ (f : Edge). state_join (cond (is_same_edge f e) (state_of (edit_kind edit)) Absent) (cond (is_none (edge_fault e)) s Absent)) one.0
-    ∙ ap (λ t. state_join (cond (is_same_edge x.0 e) t Absent) (cond (is_none (edge_fault e)) s Absent)) one.1
-    ∙ by_tests (is_none (edge_fault e)) (is_same_edge x.0 e) refl refl
+listed : (x : Edge) (s : State) (e : Edge) (edit : Edit) → IsEditOf x s (Some edit) → asked edit e ≡ cond (is_none (edge_fault e)) (only x s e) Absent
+listed x s e edit one =
+    ap (λ (f : Edge). cond (is_same_edge f e) (state_of (edit_kind edit)) Absent) one.0 ∙ ap (λ t. cond (is_same_edge x e) t Absent) one.1
+    ∙ by_tests (is_none (edge_fault e)) (is_same_edge x e) refl refl
   where
-    good : is_none (edge_fault x.0) ≡ true
+    good : is_none (edge_fault x) ≡ true
     good = ap (λ (f : Edge). is_none (edge_fault f)) (sym one.0) ∙ edit.well_formed
 
-    by_tests : (w b : Bool) → is_none (edge_fault e) ≡ w → is_same_edge x.0 e ≡ b → state_join (cond b x.1 Absent) (cond w s Absent) ≡ cond w (state_join (cond b x.1 Absent) s) Absent
+    by_tests : (w b : Bool) → is_none (edge_fault e) ≡ w → is_same_edge x e ≡ b → cond b s Absent ≡ cond w (cond b s Absent) Absent
     by_tests true b well same = refl
     by_tests false false ill other = refl
-    by_tests false true ill same = absurd (true≢false (sym good ∙ ap (λ (f : Edge). is_none (edge_fault f)) (one_edge x.0 e same) ∙ ill))
+    by_tests false true ill same = absurd (true≢false (sym good ∙ ap (λ (f : Edge). is_none (edge_fault f)) (one_edge x e same) ∙ ill))
 
--- ---- the loop
+-- ---- the edit of a number
 
--- the edits make what the entries so far say of well-formed edges
-abbrev pub MakesSoFar : Entries → ℕ → List Edit → Type 0
-MakesSoFar all n edits = IsSame (graph edits) (well_formed (joined (take n all)))
+module _ (edges : Numbered) (n : ℕ) where
+  told_within : (edge : Edge) (state : State) → nat_lt n (length edges.entries) ≡ true → edge ≡ edge_at edges n → state ≡ state_at edges n → (e : Edge)
+      → cond (is_none (edge_fault e)) (only edge state e) Absent ≡ well_formed (told_at edges n) e
+  told_within edge state within is_edge is_state e =
+      (λ j. cond (is_none (edge_fault e)) (only (is_edge j) (is_state j) e) Absent)
+      ∙ ap (λ b. cond (is_none (edge_fault e)) (cond (b && is_same_edge (edge_at edges n) e) (state_at edges n) Absent) Absent) (sym within)
 
-module _ (all : Entries) (n : ℕ) (within : n < length all) (edge : Edge) (state : State) (is_edge : edge ≡ get_or (edges_of all) n no_edge) (is_state : state ≡ get_or (states_of all) n Absent) where
-  joined_more : (e : Edge) → joined (take (n + 1) all) e ≡ state_join (only (edge, state) e) (joined (take n all) e)
-  joined_more e =
-      ap (λ es. joined es e) (take_more all n (no_edge, Absent) within) ∙ joined-push (take n all) (get_or all n (no_edge, Absent)) e
-      ∙ ap (λ x. state_join (only x e) (joined (take n all) e)) (entry_with_number all n within)
-      ∙ (λ j. state_join (cond (is_same_edge (sym is_edge j) e) (sym is_state j) Absent) (joined (take n all) e))
+  pub edit_pushed : (edits more : List Edit) (edge : Edge) (state : State) (edit : Edit) → nat_lt n (length edges.entries) ≡ true → edge ≡ edge_at edges n → state ≡ state_at edges n → IsEditOf edge state (Some edit)
+      → more ≡ edits ++ edit ∷ [] → (e : Edge) → graph more e ≡ state_join (graph edits e) (well_formed (told_at edges n) e)
+  edit_pushed edits more edge state edit within is_edge is_state one is e =
+      ap (λ l. graph l e) is ∙ graph-append edits (edit ∷ []) e
+      ∙ ap (state_join (graph edits e)) (join_nothing (asked edit e) ∙ listed edge state e edit one ∙ told_within edge state within is_edge is_state e)
 
-  pub listed_more : (edits more : List Edit) (edit : Edit) → IsEditOf edge state (Some edit) → more ≡ edits ++ edit ∷ [] → MakesSoFar all n edits → MakesSoFar all (n + 1) more
-  listed_more edits more edit one is so_far e =
-      ap (λ l. graph l e) is ∙ graph-append edits (edit ∷ []) e ∙ state_join_comm (graph edits e) (graph (edit ∷ []) e)
-      ∙ ap (λ s. state_join s (graph edits e)) (join_nothing (asked edit e)) ∙ ap (state_join (asked edit e)) (so_far e)
-      ∙ listed (edge, state) e (joined (take n all) e) edit one
-      ∙ sym (ap (λ s. cond (is_none (edge_fault e)) s Absent) (joined_more e))
+  pub edit_passed : (edits : List Edit) (edge : Edge) (state : State) → nat_lt n (length edges.entries) ≡ true → edge ≡ edge_at edges n → state ≡ state_at edges n → IsEditOf edge state None
+      → (e : Edge) → graph edits e ≡ state_join (graph edits e) (well_formed (told_at edges n) e)
+  edit_passed edits edge state within is_edge is_state none e =
+      sym (join_nothing (graph edits e)) ∙ ap (state_join (graph edits e)) (skipped edge state e none ∙ told_within edge state within is_edge is_state e)
 
-  pub skipped_more : (edits : List Edit) → IsEditOf edge state None → MakesSoFar all n edits → MakesSoFar all (n + 1) edits
-  skipped_more edits none so_far e =
-      so_far e ∙ skipped (edge, state) e (joined (take n all) e) none ∙ sym (ap (λ s. cond (is_none (edge_fault e)) s Absent) (joined_more e))
+  -- a number that is that of no edge
+  pub number_passed : (edits : List Edit) → nat_lt n (length edges.entries) ≡ false → (e : Edge) → graph edits e ≡ state_join (graph edits e) (well_formed (told_at edges n) e)
+  number_passed edits beyond e =
+      sym (join_nothing (graph edits e))
+      ∙ ap (state_join (graph edits e))
+      (nothing_well_formed (is_none (edge_fault e))
+      ∙ ap (λ b. cond (is_none (edge_fault e)) (cond (b && is_same_edge (edge_at edges n) e) (state_at edges n) Absent) Absent) (sym beyond))
 
-pub none_made : (all : Entries) (edits : List Edit) → edits ≡ [] → MakesSoFar all 0 edits
-none_made all edits is e = ap (λ l. graph l e) is ∙ by_test (is_none (edge_fault e)) where
-  by_test : (w : Bool) → Absent ≡ cond w Absent Absent
-  by_test true = refl
-  by_test false = refl
+-- ---- the edits of many numbers
 
-pub all_made : (all : Entries) (n : ℕ) (edits : List Edit) → IsDistinct is_same_edge (edges_of all) → length all ≡ n → MakesSoFar all n edits → IsSame (graph edits) (well_formed (state_in all))
-all_made all n edits once count so_far e =
-    so_far e
-    ∙ ap (λ es. cond (is_none (edge_fault e)) (joined es e) Absent) (take_all n all (omega (arith, count)))
-    ∙ ap (λ s. cond (is_none (edge_fault e)) s Absent) (joined-state_in all once e)
+-- the join of what is said at each number
+abbrev pub joined : (ℕ → State) → List ℕ → State
+joined f [] = Absent
+joined f (n ∷ ns) = state_join (f n) (joined f ns)
+
+pub joined-push : (f : ℕ → State) (ns : List ℕ) (n : ℕ) → joined f (ns ++ n ∷ []) ≡ state_join (joined f ns) (f n)
+joined-push f [] n = state_join_comm (f n) Absent
+joined-push f (m ∷ ms) n = ap (state_join (f m)) (joined-push f ms n) ∙ sym (state_join_assoc (f m) (joined f ms) (f n))
+
+-- each number says nothing or the same
+module _ (f : ℕ → State) (s : State) (each : (n : ℕ) → (f n ≡ Absent) ⊎ (f n ≡ s)) where
+  pub joined_or_none : (ns : List ℕ) → (joined f ns ≡ Absent) ⊎ (joined f ns ≡ s)
+  joined_or_none [] = inl refl
+  joined_or_none (n ∷ ns) = by_cases (each n) (joined_or_none ns) where
+    by_cases : (f n ≡ Absent) ⊎ (f n ≡ s) → (joined f ns ≡ Absent) ⊎ (joined f ns ≡ s) → (state_join (f n) (joined f ns) ≡ Absent) ⊎ (state_join (f n) (joined f ns) ≡ s)
+    by_cases (inl none) (inl rest) = inl (λ j. state_join (none j) (rest j))
+    by_cases (inl none) (inr rest) = inr ((λ j. state_join (none j) (rest j)) ∙ Absent-state_join s)
+    by_cases (inr some) (inl rest) = inr ((λ j. state_join (some j) (rest j)) ∙ join_nothing s)
+    by_cases (inr some) (inr rest) = inr ((λ j. state_join (some j) (rest j)) ∙ state_join_idem s)
+
+  pub joined_held : (ns : List ℕ) (n : ℕ) → holds_number n ns ≡ true → f n ≡ s → joined f ns ≡ s
+  joined_held [] n held is = absurd cc
+  joined_held (m ∷ ms) n held is = by_test (m == n) refl held (λ later. joined_held ms n later is) (each m) (joined_or_none ms) where
+    by_test : (b : Bool) → (m == n) ≡ b → (b || holds_number n ms) ≡ true → (holds_number n ms ≡ true → joined f ms ≡ s) → (f m ≡ Absent) ⊎ (f m ≡ s) → (joined f ms ≡ Absent) ⊎ (joined f ms ≡ s)
+        → state_join (f m) (joined f ms) ≡ s
+    by_test true same _ _ _ (inl rest) = (λ j. state_join ((ap f (eqb-true m n same) ∙ is) j) (rest j)) ∙ join_nothing s
+    by_test true same _ _ _ (inr rest) = (λ j. state_join ((ap f (eqb-true m n same) ∙ is) j) (rest j)) ∙ state_join_idem s
+    by_test false _ held later (inl none) _ = (λ j. state_join (none j) (later held j)) ∙ Absent-state_join s
+    by_test false _ held later (inr some) _ = (λ j. state_join (some j) (later held j)) ∙ state_join_idem s
+
+-- the edits make what the numbers so far say
+abbrev pub MakesSoFar : Numbered → List ℕ → List Edit → Type 0
+MakesSoFar edges ns edits = (e : Edge) → graph edits e ≡ joined (λ n. well_formed (told_at edges n) e) ns
+
+pub made_more : (edges : Numbered) (numbers : List ℕ) (i : ℕ) (edits more : List Edit) → i < length numbers → MakesSoFar edges (take i numbers) edits
+    → ((e : Edge) → graph more e ≡ state_join (graph edits e) (well_formed (told_at edges (get_or numbers i 0)) e)) → MakesSoFar edges (take (i + 1) numbers) more
+made_more edges numbers i edits more within so_far adds e =
+    let f : ℕ → State = λ n. well_formed (told_at edges n) e in
+    adds e ∙ ap (λ s. state_join s (f (get_or numbers i 0))) (so_far e) ∙ sym (joined-push f (take i numbers) (get_or numbers i 0))
+    ∙ ap (joined f) (sym (take_more numbers i 0 within))
+
+-- a number under a name is among all
+pub held_by_name : (names : Lists) (name : Name) (n : ℕ) → holds_number n (numbers_of names name) ≡ true → holds_number n (all_numbers names) ≡ true
+held_by_name [] name n held = absurd cc
+held_by_name (x ∷ xs) name n held = list_any-append (λ m. m == n) x.1 (all_numbers xs) ∙ by_test (is_at (name_cmp name) x.0) held (held_by_name xs name n) where
+  by_test : (b : Bool) → holds_number n (unwrap_or (cond b (Some x.1) (lookup (is_at (name_cmp name)) xs)) []) ≡ true
+      → (holds_number n (numbers_of xs name) ≡ true → holds_number n (all_numbers xs) ≡ true) → (holds_number n x.1 || holds_number n (all_numbers xs)) ≡ true
+  by_test true here _ = or_left (holds_number n x.1) (holds_number n (all_numbers xs)) here
+  by_test false later rest = or_right (holds_number n x.1) (holds_number n (all_numbers xs)) (rest later)
+
+module _ (edges : Numbered) (once : IsDistinct is_same_edge (edges_of edges.entries)) (names : Lists) (has : HasEdgeNames edges names) where
+  -- what a number says of an edge is nothing or its state
+  told_or_none : (e : Edge) (n : ℕ) → (told_at edges n e ≡ Absent) ⊎ (told_at edges n e ≡ state_in edges.entries e)
+  told_or_none e n = by_tests (nat_lt n (length edges.entries)) (is_same_edge (edge_at edges n) e) refl refl where
+    by_tests : (b c : Bool) → nat_lt n (length edges.entries) ≡ b → is_same_edge (edge_at edges n) e ≡ c
+        → (cond (b && c) (state_at edges n) Absent ≡ Absent) ⊎ (cond (b && c) (state_at edges n) Absent ≡ state_in edges.entries e)
+    by_tests false c beyond same = inl refl
+    by_tests true false within other = inl refl
+    by_tests true true within same =
+        inr (sym (state_there edges once n (ltb-true n (length edges.entries) within)) ∙ ap (state_in edges.entries) (one_edge (edge_at edges n) e same))
+
+  told_there : (e : Edge) (n : ℕ) → IsNumberOfEdge edges e n → told_at edges n e ≡ state_in edges.entries e
+  told_there e n is =
+      ap (λ b. cond (b && is_same_edge (edge_at edges n) e) (state_at edges n) Absent) (lt-ltb n (length edges.entries) is.0)
+      ∙ ap (λ (f : Edge). cond (is_same_edge f e) (state_at edges n) Absent) is.1 ∙ ap (λ b. cond b (state_at edges n) Absent) (same_edge_laws.refl e)
+      ∙ sym (state_there edges once n is.0) ∙ ap (state_in edges.entries) is.1
+
+  joined_told : (e : Edge) → joined (λ n. told_at edges n e) (all_numbers names) ≡ state_in edges.entries e
+  joined_told e = by_state (state_in edges.entries e) refl where
+    f : ℕ → State
+    f n = told_at edges n e
+
+    found : state_in edges.entries e ≢ Absent → joined f (all_numbers names) ≡ state_in edges.entries e
+    found some =
+        let number = number_of_present edges once e some in
+        let n = number.0 in
+        let under : holds_number n (numbers_of names (edge_at edges n).name) ≡ true = has n number.1.0 in
+        joined_held f (state_in edges.entries e) (told_or_none e) (all_numbers names) n (held_by_name names (edge_at edges n).name n under) (told_there e n number.1)
+
+    by_state : (s : State) → state_in edges.entries e ≡ s → joined f (all_numbers names) ≡ state_in edges.entries e
+    by_state Absent is = by_cases (joined_or_none f (state_in edges.entries e) (told_or_none e) (all_numbers names)) where
+      by_cases : (joined f (all_numbers names) ≡ Absent) ⊎ (joined f (all_numbers names) ≡ state_in edges.entries e) → joined f (all_numbers names) ≡ state_in edges.entries e
+      by_cases (inl none) = none ∙ sym is
+      by_cases (inr all) = all
+    by_state Live is = found (λ none. live_is_absent (sym is ∙ none)) where
+      live_is_absent : Live ≡ Absent → ⊥
+      live_is_absent h = absurd cc
+    by_state Deleted is = found (λ none. deleted_is_absent (sym is ∙ none)) where
+      deleted_is_absent : Deleted ≡ Absent → ⊥
+      deleted_is_absent h = absurd cc
+
+  pub all_made : (numbers : List ℕ) (i : ℕ) (edits : List Edit) → numbers ≡ all_numbers names → length numbers ≤ i → MakesSoFar edges (take i numbers) edits
+      → IsSame (graph edits) (well_formed (state_in edges.entries))
+  all_made numbers i edits are whole so_far e =
+      so_far e ∙ ap (joined (λ n. well_formed (told_at edges n) e)) (take_all i numbers whole ∙ are) ∙ by_form (is_none (edge_fault e))
+    where
+      none_joined : (ns : List ℕ) → joined (λ n. Absent) ns ≡ Absent
+      none_joined [] = refl
+      none_joined (n ∷ ns) = Absent-state_join (joined (λ n. Absent) ns) ∙ none_joined ns
+
+      by_form : (w : Bool) → joined (λ n. cond w (told_at edges n e) Absent) (all_numbers names) ≡ cond w (state_in edges.entries e) Absent
+      by_form true = joined_told e
+      by_form false = none_joined (all_numbers names)
 
 pub canonical_of : (g h : Graph) (list : List Edit) → IsSame g h → IsCanonical g list → IsCanonical h list
 canonical_of g h list same is = record { in_order = is.in_order; same = λ e. is.same e ∙ same e }

@@ -1,8 +1,9 @@
 -- What an edit makes of a graph, where it asks more of its edge than the graph has, and where it does not.
-use Rattle.std.proofs.Common.{◌≡◌, ◌<◌, ◌≤◌, Bool, true, false, cond, [], ◌∷◌, refl, sym, subst, ◌∙◌, arith}
+use Rattle.std.proofs.Common.{◌≡◌, ◌<◌, ◌≤◌, Bool, true, false, cond, [], ◌∷◌, refl, sym, ap, subst, ◌∙◌, arith}
 use Rattle.edge_lattice.specs.declared.state.State.{State}
 use Rattle.edge_lattice.specs.declared.state.State.TheVariants.{Absent, Live, Deleted}
 use Rattle.edge_lattice.specs.State.{rank, state_join}
+use Rattle.grove_edits.specs.declared.edge.Edge.{Edge}
 use Rattle.grove_edits.specs.declared.edit.Edit.{Edit}
 use Rattle.grove_edits.specs.Edit.{edit_edge, edit_kind}
 use Rattle.grove_edits.specs.Graph.{Graph, IsSame, graph, graph_join, is_same_edge, state_of}
@@ -61,3 +62,19 @@ above_from_not Live Deleted not_below = omega arith
 above_from_not Deleted Absent not_below = absurd (not_below (omega arith))
 above_from_not Deleted Live not_below = absurd (not_below (omega arith))
 above_from_not Deleted Deleted not_below = absurd (not_below (omega arith))
+
+-- ---- the state of one edge
+
+join_absent : (s : State) → state_join s Absent ≡ s
+join_absent Absent = refl
+join_absent Live = refl
+join_absent Deleted = refl
+
+pub raised_at : (g h : Graph) (x : Edge) (s : State) → IsSame h (with_state x s g) → rank (g x) < rank s → IsSame h (with_state x (state_join (g x) s) g)
+raised_at g h x s is above e = is e ∙ ap (λ t. with_state x t g e) (sym (ap (state_join (g x)) (sym (join_absent s)) ∙ join_above (g x) s above))
+
+pub not_raised_at : (g : Graph) (x : Edge) (s : State) → rank s ≤ rank (g x) → IsSame g (with_state x (state_join (g x) s) g)
+not_raised_at g x s below e = by_test (is_same_edge x e) refl where
+  by_test : (b : Bool) → is_same_edge x e ≡ b → g e ≡ cond b (state_join (g x) s) (g e)
+  by_test true same = ap g (sym (one_edge x e same)) ∙ sym (ap (state_join (g x)) (sym (join_absent s)) ∙ join_below (g x) s below)
+  by_test false _ = refl

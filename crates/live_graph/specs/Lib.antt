@@ -1,4 +1,5 @@
 pub mod Live
+pub mod NumberOf
 pub mod Change
 pub mod Around
 pub mod Store

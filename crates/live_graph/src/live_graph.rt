@@ -1,4 +1,7 @@
-ghost use Rattle.std.specs.Prelude.{◌≡◌, ◌+◌, [], ◌∷◌, length, OnOk, IfOk};
+ghost use Rattle.std.specs.Prelude.{◌≡◌, ◌+◌, ◌<◌, [], ◌∷◌, length, OnOk, IfOk};
+ghost use Rattle.edge_lattice.specs.State.{state_join};
+ghost use Rattle.grove_edits.specs.declared.edge.Edge.{Edge};
+ghost use Rattle.grove_edits.specs.declared.edit.Edit.{Edit};
 ghost use Rattle.grove_edits.specs.Edit.{edit_edge, edit_kind};
 ghost use Rattle.grove_edits.specs.Graph.{IsSame, IsCanonical, graph, graph_join, state_of};
 ghost use Rattle.walks.specs.Live.{IsInEdgeOrder, children_of, parents_of};
@@ -8,6 +11,7 @@ ghost use Rattle.live_graph.specs.Change.{IsChange};
 ghost use Rattle.live_graph.specs.Greatest.{IsGreatest, IsNameOf};
 ghost use Rattle.live_graph.specs.Live.{live};
 ghost use Rattle.live_graph.specs.NamedEdges.{AreNamed};
+ghost use Rattle.live_graph.specs.NumberOf.{IsNumberOf, KeepsNumbersOf};
 ghost use Rattle.live_graph.specs.Store.{well_formed};
 ghost use Rattle.live_graph.specs.Vertices.{AreLeastTwo, IsVertexNamed};
 
@@ -98,15 +102,27 @@ impl LiveGraph {
         self.edges.state(edge)
     }
 
-    /// Makes room for an edge, so that raising it takes no memory. Room once made stays.
-    pub fn make_room(&mut self, edge: &Edge) -> Result<(), NoMemory>
+    /// The state of the edge with a number.
+    pub fn state_at(&self, number: usize) -> State
+        requires { number < length self.now }
+        ensures { (e : Edge) → IsNumberOf self.now e number → result ≡ state_in self.now e }
+    {
+        // No edge has two numbers.
+        let _edges = self.edges.edge_count();
+        self.edges.state_at(number)
+    }
+
+    /// Makes room for an edge, so that raising it takes no memory, and answers the number of the edge. Room once made stays, and so do numbers.
+    pub fn make_room(&mut self, edge: &Edge) -> Result<usize, NoMemory>
+        ensures number { IfOk result (IsNumberOf self.new edge.now) }
         ensures room { OnOk result (HasRoom self.new edge.now) }
         ensures room_stays { KeepsRoom self.old self.new }
+        ensures numbers_stay { KeepsNumbersOf self.old self.new }
         ensures unchanged { IsSame (state_in self.new) (state_in self.old) }
         ensures live_stays { live self.new ≡ live self.old }
     {
-        if let Some(_number) = self.edges.number(edge) {
-            return Ok(());
+        if let Some(number) = self.edges.number(edge) {
+            return Ok(number);
         }
         // The name comes first, so that each edge with a number has one. A number under a name may still be that of no edge, or of another.
         name_next_edge(&self.edges, &mut self.edge_names, edge)?;
@@ -120,22 +136,33 @@ impl LiveGraph {
         )
     }
 
+    // Gives the edge with a number a state.
+    fn set_state_at(&mut self, number: usize, state: State)
+        requires { number < length self.old }
+        ensures state { (e : Edge) → IsNumberOf self.old e number → IsSame (state_in self.new) (with_state e state (state_in self.old)) }
+        ensures room_stays { KeepsRoom self.old self.new }
+        ensures numbers_stay { KeepsNumbersOf self.old self.new }
+    {
+        recount_ends(&self.edges, &mut self.uses, number, state);
+        set_counted_state(
+            &mut self.edges,
+            &mut self.children,
+            &mut self.parents,
+            &mut self.parent_count,
+            number,
+            state,
+        );
+    }
+
     /// Gives an edge that has room a state, as after a call that met `NoMemory` and takes back what it raised.
     pub fn put_back(&mut self, edge: &Edge, old: State)
         requires { HasRoom self.old edge.now }
         ensures state { IsSame (state_in self.new) (with_state edge.now old (state_in self.old)) }
         ensures room_stays { KeepsRoom self.old self.new }
+        ensures numbers_stay { KeepsNumbersOf self.old self.new }
     {
         if let Some(number) = self.edges.number(edge) {
-            recount_ends(&self.edges, &mut self.uses, number, old);
-            set_counted_state(
-                &mut self.edges,
-                &mut self.children,
-                &mut self.parents,
-                &mut self.parent_count,
-                number,
-                old,
-            );
+            self.set_state_at(number, old);
         }
     }
 
@@ -145,14 +172,29 @@ impl LiveGraph {
         ensures joined { IsSame (state_in self.new) (graph_join (state_in self.old) (graph (edit.now ∷ []))) }
         ensures change { IsChange (state_in self.old (edit_edge edit.now)) (state_of (edit_kind edit.now)) result }
         ensures room_stays { KeepsRoom self.old self.new }
+        ensures numbers_stay { KeepsNumbersOf self.old self.new }
     {
-        let edge = edit.as_edge();
-        let asked = asked_by(edit.kind());
-        let old = self.state(edge);
+        match self.edges.number(edit.as_edge()) {
+            Some(number) => self.raise_at(number, edit.kind()),
+            None => Change::Same,
+        }
+    }
+
+    /// Joins what an edit of the edge with a number asks to the graph.
+    pub fn raise_at(&mut self, number: usize, kind: EditKind) -> Change
+        requires { number < length self.old }
+        ensures joined { (edit : Edit) → IsNumberOf self.old (edit_edge edit) number → edit_kind edit ≡ kind → IsSame (state_in self.new) (graph_join (state_in self.old) (graph (edit ∷ []))) }
+        ensures state { (e : Edge) → IsNumberOf self.old e number → IsSame (state_in self.new) (with_state e (state_join (state_in self.old e) (state_of kind)) (state_in self.old)) }
+        ensures change { (e : Edge) → IsNumberOf self.old e number → IsChange (state_in self.old e) (state_of kind) result }
+        ensures room_stays { KeepsRoom self.old self.new }
+        ensures numbers_stay { KeepsNumbersOf self.old self.new }
+    {
+        let asked = asked_by(kind);
+        let old = self.state_at(number);
         if leq(asked, old) {
             return Change::Same;
         }
-        self.put_back(edge, asked);
+        self.set_state_at(number, asked);
         Change::Raised { old }
     }
 
@@ -160,7 +202,7 @@ impl LiveGraph {
     pub fn in_order(&self, alloc: Global) -> Result<EditList, NoMemory>
         ensures canonical { IfOk result (λ list. IsCanonical (well_formed (state_in self.now)) list) }
     {
-        let edits = edits_of(alloc, &self.edges)?;
+        let edits = edits_of(alloc, &self.edges, &self.edge_names)?;
         Ok(edits.into_canonical())
     }
 

@@ -1,8 +1,9 @@
-ghost use Rattle.std.specs.Prelude.{◌≡◌, ◌<◌, ◌^◌, length, true, false, OnOk, OnErr};
+ghost use Rattle.std.specs.Prelude.{◌≡◌, ◌<◌, ◌^◌, length, true, false, IfOk, OnOk, OnErr};
 ghost use Rattle.edge_lattice.specs.declared.state.State.{State};
 ghost use Rattle.grove_edits.specs.declared.edge.Edge.{Edge};
 ghost use Rattle.edge_numbers.specs.Numbered.{Numbered, state_in, state_at, with_state, with_entry, edge_at, edges_of, HasRoom, KeepsRoom, IsEdgeNumber};
 ghost use Rattle.live_graph.specs.Live.{is_live};
+ghost use Rattle.live_graph.specs.NumberOf.{IsNumberOf, KeepsNumbersOf};
 ghost use Rattle.live_graph.specs.Around.{IsListed, IsStateSet};
 ghost use Rattle.live_graph.specs.Uses.{AreUses, HasVertexNames};
 
@@ -25,7 +26,7 @@ fn want_number(edges: &EdgeNumbers) -> Result<(), NoMemory>
     Ok(())
 }
 
-/// Enters an edge, with a place at each end. The places are made and the ends are named first, so that each edge with a number has them.
+/// Enters an edge, with a place at each end, and answers its number. The places are made and the ends are named first, so that each edge with a number has them.
 pub(crate) fn enter(
     edges: &mut EdgeNumbers,
     children: &mut EdgeLists<ByPosition>,
@@ -33,13 +34,15 @@ pub(crate) fn enter(
     vertex_names: &mut NumbersByName,
     uses: &mut Vec<u64>,
     edge: &Edge,
-) -> Result<(), NoMemory>
+) -> Result<usize, NoMemory>
     requires listed { IsListed edges.old children.old parents.old }
     requires uses { AreUses edges.old uses.old.items }
     requires names { HasVertexNames edges.old (length uses.old.items) vertex_names.old }
     ensures listed { IsListed edges.new children.new parents.new }
     ensures uses { AreUses edges.new uses.new.items }
     ensures names { HasVertexNames edges.new (length uses.new.items) vertex_names.new }
+    ensures number { IfOk result (IsNumberOf edges.new.entries edge.now) }
+    ensures numbers_stay { KeepsNumbersOf edges.old.entries edges.new.entries }
     ensures entries { OnOk result (edges.new.entries ≡ with_entry edge.now edges.old.entries) }
     ensures unchanged { OnErr result (edges.new.entries ≡ edges.old.entries) }
 {
@@ -48,8 +51,8 @@ pub(crate) fn enter(
     name_vertices(edges, vertex_names, uses)?;
     // The ends of what has a number are among the vertices.
     let _edges = edges.edge_count();
-    edges.enter(edge)?;
-    Ok(())
+    let number = edges.enter(edge)?;
+    Ok(number)
 }
 
 fn is_live_state(state: State) -> bool

@@ -1,12 +1,13 @@
 ghost use Rattle.std.specs.Prelude.{◌≡◌, ◌<◌, ◌||◌, ◌++◌, ◌∷◌, [], length, IfOk, OnOk};
 ghost use Rattle.std.specs.List.{list_any};
 ghost use Rattle.grove_edits.specs.declared.vertex.Vertex.{Vertex};
-ghost use Rattle.grove_edits.specs.Graph.{IsSame, graph};
+ghost use Rattle.grove_edits.specs.Graph.{IsSame, graph, graph_join};
 ghost use Rattle.grove_edits.specs.Vertex.{is_same_vertex, stands_in, root};
 ghost use Rattle.walks.specs.Whole.{IsInVertexOrder};
 ghost use Rattle.edge_numbers.specs.Numbered.{state_in, edge_at, IsEdgeNumber};
+ghost use Rattle.live_graph.specs.ByName.{HasEdgeNames};
 ghost use Rattle.live_graph.specs.Ends.{has_end};
-ghost use Rattle.live_graph.specs.Listed.{IsEditOf};
+ghost use Rattle.live_graph.specs.Listed.{IsEditOf, told_at};
 ghost use Rattle.live_graph.specs.Named.{is_present};
 ghost use Rattle.live_graph.specs.Store.{well_formed};
 
@@ -14,6 +15,7 @@ use crate::no_memory::NoMemory;
 use edge_lattice::State;
 use edge_numbers::EdgeNumbers;
 use grove_edits::{Edge, Edit, EditKind, EditList, Vertex};
+use numbers_by_name::NumbersByName;
 use std::alloc::Global;
 
 pub(crate) fn is_present(state: State) -> bool
@@ -37,15 +39,36 @@ fn edit_of(edge: Edge, state: State) -> Option<Edit>
     Edit::new(kind, edge).ok()
 }
 
-/// The edits that make the graph, in the order of the numbers of their edges.
-pub(crate) fn edits_of(alloc: Global, edges: &EdgeNumbers) -> Result<EditList, NoMemory>
+// Lists the edit of the edge with a number, where there is one. A number under a name may be that of no edge.
+fn push_edit(edits: &mut EditList, edges: &EdgeNumbers, number: usize) -> Result<(), NoMemory>
+    ensures { OnOk result (IsSame (graph edits.new) (graph_join (graph edits.old) (well_formed (told_at edges.now number)))) }
+{
+    if number >= edges.edge_count() {
+        return Ok(());
+    }
+    if let Some(edit) = edit_of(edges.edge(number), edges.state_at(number)) {
+        edits.push(edit)?;
+    }
+    Ok(())
+}
+
+/// The edits that make the graph, in the order of the names of their edges, so that what sorts them finds most in their places.
+/// A number that stands under two names lists its edge twice.
+pub(crate) fn edits_of(
+    alloc: Global,
+    edges: &EdgeNumbers,
+    names: &NumbersByName,
+) -> Result<EditList, NoMemory>
+    requires { HasEdgeNames edges.now names.now }
     ensures { IfOk result (λ list. IsSame (graph list) (well_formed (state_in edges.now.entries))) }
 {
+    // No edge has two numbers.
+    let count = edges.edge_count();
+    let numbers = names.in_order(alloc)?;
     let mut edits = EditList::new(alloc);
-    for number in 0..edges.edge_count() {
-        if let Some(edit) = edit_of(edges.edge(number), edges.state_at(number)) {
-            edits.push(edit)?;
-        }
+    edits.reserve(count)?;
+    for number in &numbers {
+        push_edit(&mut edits, edges, *number as usize)?;
     }
     Ok(edits)
 }

@@ -1,5 +1,5 @@
 -- Lists of numbers as they are kept, by look-up.
-use Rattle.std.proofs.Common.{◌≡◌, ◌≢◌, ℕ, Bool, true, false, cond, List, [], ◌∷◌, ◌++◌, Option, None, Some, IfSome, refl, sym, ap, subst, Ordering, Less, Equal, Greater, is_eq, ◌∙◌}
+use Rattle.std.proofs.Common.{◌≡◌, ◌≢◌, ℕ, Bool, true, false, cond, List, [], ◌∷◌, ◌++◌, map, Option, None, Some, IfSome, refl, sym, ap, subst, Ordering, Less, Equal, Greater, is_eq, ◌∙◌}
 use Rattle.std.specs.Prelude.{unwrap_or}
 use Rattle.std.specs.Option.{option_map}
 use Rattle.std.specs.Map.{lookup}
@@ -9,7 +9,7 @@ use Rattle.smallvec.specs.SmallVec.{SmallVec}
 use Rattle.grove_names.specs.declared.name.Name.{Name}
 use Rattle.grove_names.specs.Name.{name_cmp}
 use Rattle.grove_names.proofs.Orders.{name_cmp_exact}
-use Rattle.numbers_by_name.specs.ByName.{numbers_of, is_same_name, with_number}
+use Rattle.numbers_by_name.specs.ByName.{all_numbers, numbers_of, is_same_name, with_number}
 use Rattle.numbers_by_name.specs.Kept.{Entries, lists_of, HaveNumbers}
 
 equal_from_test : (o : Ordering) → is_eq o ≡ true → o ≡ Equal
@@ -53,3 +53,14 @@ module _ (old new : Entries) (name : Name) (list : SmallVec ℕ) (updates : (n :
         items ∙ ap (λ (m : Name). items_of (found old m) ++ number ∷ []) (name_cmp_exact name n (equal_from_test (name_cmp name n) same))
         ∙ ap (λ xs. xs ++ number ∷ []) (sym (numbers_of_found old n))
     by_test false other = sym (numbers_of_found old n)
+
+-- ---- all numbers
+
+-- the numbers of lists, one after another
+abbrev pub all_items : List (SmallVec ℕ) → List ℕ
+all_items [] = []
+all_items (list ∷ lists) = list.items ++ all_items lists
+
+pub all_numbers_kept : (entries : Entries) → all_numbers (lists_of entries) ≡ all_items (map (λ entry. entry.1) entries)
+all_numbers_kept [] = refl
+all_numbers_kept (entry ∷ entries) = ap (λ ns. entry.1.items ++ ns) (all_numbers_kept entries)

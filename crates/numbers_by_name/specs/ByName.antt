@@ -14,6 +14,11 @@ Lists = List (Name × List ℕ)
 abbrev pub numbers_of : Lists → Name → List ℕ
 numbers_of lists name = unwrap_or (lookup (is_at (name_cmp name)) lists) []
 
+-- the numbers of each name, one after another
+abbrev pub all_numbers : Lists → List ℕ
+all_numbers [] = []
+all_numbers (entry ∷ lists) = entry.1 ++ all_numbers lists
+
 abbrev pub is_same_name : Name → Name → Bool
 is_same_name a b = is_eq (name_cmp a b)
 

@@ -1,7 +1,7 @@
-ghost use Rattle.std.specs.Prelude.{◌≡◌, ℕ, ◌<◌, ◌^◌, [], Some, IfSome, IfNone, OnOk, OnErr};
+ghost use Rattle.std.specs.Prelude.{◌≡◌, ℕ, ◌<◌, ◌^◌, [], Some, IfSome, IfNone, IfOk, OnOk, OnErr};
 ghost use Rattle.std.specs.Option.{option_map};
 ghost use Rattle.grove_names.specs.declared.name.Name.{Name};
-ghost use Rattle.numbers_by_name.specs.ByName.{numbers_of, name_by, with_number, IsLastBefore, HasNoneBefore};
+ghost use Rattle.numbers_by_name.specs.ByName.{all_numbers, numbers_of, name_by, with_number, IsLastBefore, HasNoneBefore};
 
 use crate::end::end_of_names;
 use crate::no_memory::NoMemory;
@@ -73,6 +73,17 @@ impl NumbersByName {
             Some(list) => list.as_slice(),
             None => &[],
         }
+    }
+
+    /// All numbers: those of the least name first, and then those of each greater one.
+    pub fn in_order(&self, alloc: Global) -> Result<Vec<u32>, NoMemory>
+        ensures { IfOk result (λ numbers. numbers.items ≡ all_numbers self.now) }
+    {
+        let mut numbers = Vec::with_capacity(alloc, self.lists.len())?;
+        for list in self.lists.values() {
+            numbers.extend_from_slice(list.as_slice())?;
+        }
+        Ok(numbers)
     }
 
     /// The greatest counter under which the author has a name with numbers, and the numbers; of the counters that are less than

@@ -46,3 +46,22 @@ fn the_last_counter_of_an_author_is_found(rt: HostRuntime) -> Result<(), Fail> {
     assert_eq!(rt; numbers.last_before(0, None), None);
     Ok(())
 }
+
+#[test]
+fn all_numbers_stand_in_the_order_of_their_names(rt: HostRuntime) -> Result<(), Fail> {
+    let alloc = rt.alloc();
+    let mut numbers = NumbersByName::new(alloc);
+    for (at, number) in [
+        (name(2, 1), 5),
+        (name(1, 9), 6),
+        (name(1, 2), 7),
+        (name(1, 9), 0),
+    ] {
+        numbers.add(at, number)?;
+    }
+    assert_eq!(rt;
+        numbers.in_order(alloc)?.as_slice(),
+        [7, 6, 0, 5].as_slice()
+    );
+    Ok(())
+}

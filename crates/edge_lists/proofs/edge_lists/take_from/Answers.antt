@@ -2,7 +2,7 @@ use Rattle.std.proofs.Common.{◌≡◌, ap, ◌∙◌, arith}
 use Rattle.std.specs.Prelude.{remove}
 use Rattle.edge_numbers.specs.Numbered.{edge_at}
 use Rattle.edge_lists.specs.Places.{place}
-use Rattle.edge_lists.proofs.Ordered.{prefix_len-held, remove-prefix_len}
+use Rattle.edge_lists.proofs.ByNumber.{prefix_len-held, remove-prefix_len}
 use Rattle.edge_lists.proofs.edge_lists.take_from.Goals as goal
 
 pub remove-requires : goal.remove-requires

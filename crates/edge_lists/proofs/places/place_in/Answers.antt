@@ -4,7 +4,7 @@ use Rattle.edge_numbers.specs.Numbered.{edge_at}
 use Rattle.edge_lists.specs.Places.{is_before}
 use Rattle.edge_lists.proofs.Prefixes.{prefix_len-le, prefix_len-passed, prefix_len-failed}
 use Rattle.edge_lists.proofs.Numbers.{known_at}
-use Rattle.edge_lists.proofs.Ordered.{falls-order}
+use Rattle.edge_lists.proofs.ByNumber.{falls-order}
 use Rattle.edge_lists.proofs.places.place_in.Goals as goal
 
 pub loop-low-init : goal.loop-low-init

@@ -4,7 +4,7 @@ use Rattle.edge_numbers.specs.Numbered.{edge_at}
 use Rattle.edge_lists.specs.Lists.{numbers_at, edges_at, holds_number, with_position}
 use Rattle.edge_lists.specs.Order.{by_edge, IsInOrder}
 use Rattle.edge_lists.proofs.Numbers.{holds-with_number}
-use Rattle.edge_lists.proofs.Ordered.{in_order-with_edge_by, edges-with_number}
+use Rattle.edge_lists.proofs.ByNumber.{in_order-with_edge_by, edges-with_number}
 use Rattle.edge_lists.proofs.Positions.{with_position-with_edge_by}
 use Rattle.edge_lists.proofs.edge_lists.EdgeLists.put.Goals as goal
 

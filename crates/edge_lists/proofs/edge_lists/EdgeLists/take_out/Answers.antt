@@ -7,7 +7,7 @@ use Rattle.edge_numbers.specs.Numbered.{edge_at}
 use Rattle.edge_lists.specs.Lists.{numbers_at, edges_at, holds_number, with_position}
 use Rattle.edge_lists.specs.Order.{IsInOrder}
 use Rattle.edge_lists.proofs.Numbers.{holds-without_number}
-use Rattle.edge_lists.proofs.Ordered.{in_order-filter, edges-without_number}
+use Rattle.edge_lists.proofs.ByNumber.{in_order-filter, edges-without_number}
 use Rattle.edge_lists.proofs.Positions.{filter-filter}
 use Rattle.edge_lists.proofs.edge_lists.EdgeLists.take_out.Goals as goal
 

@@ -1,27 +1,27 @@
-use Rattle.std.proofs.Common.{◌≤◌, ◌<◌, true≢false, sym, ap, subst, ◌∙◌}
-use Rattle.edge_lattice.specs.State.{rank}
+use Rattle.std.proofs.Common.{sym, subst}
+use Rattle.grove_edits.specs.declared.edge.Edge.{Edge}
 use Rattle.grove_edits.specs.Edit.{edit_edge}
 use Rattle.grove_edits.specs.Graph.{state_of}
-use Rattle.edge_numbers.specs.Numbered.{state_in, with_state}
-use Rattle.live_graph.proofs.Raises.{raised, not_raised, above_from_not}
+use Rattle.edge_numbers.specs.Numbered.{Entries, state_in, HasRoom}
+use Rattle.live_graph.specs.Change.{IsChange}
+use Rattle.live_graph.specs.NumberOf.{IsNumberOf}
+use Rattle.live_graph.proofs.NumbersStay.{no_room}
 use Rattle.live_graph.proofs.live_graph.LiveGraph.raise.Goals as goal
+use Rattle.live_graph.proofs.live_graph.LiveGraph.raise.Goals.{In-None}
 
-pub returns-then-leq-clause-joined : goal.returns-then-leq-clause-joined
-returns-then-leq-clause-joined c =
-    let g = state_in c.args.self.now in
-    let old = c.state-old.ensures ∙ ap g c.as_edge-edge.ensures in
-    let asked = c.asked_by-asked.ensures ∙ ap state_of c.kind.ensures in
-    let below : rank c.asked_by-asked.result ≤ rank c.state-old.result = c.leq.ensures.at_most.0 c.if-leq.true in
-    not_raised g c.args.edit.now (subst (λ s. rank s ≤ rank (g (edit_edge c.args.edit.now))) asked (subst (λ s. rank c.asked_by-asked.result ≤ rank s) old below))
+pub returns-in-Some-clause-change : goal.returns-in-Some-clause-change
+returns-in-Some-clause-change c =
+    let number = subst (λ (es : Entries). IsNumberOf es c.as_edge.result.now c.in-Some.number) c.self.view_is c.in-Some.ensures.number in
+    subst (λ k. IsChange (state_in c.args.self.now (edit_edge c.args.edit.now)) (state_of k) c.raise_at.result) c.kind.ensures
+    (c.raise_at.ensures.change (edit_edge c.args.edit.now) (subst (λ (e : Edge). IsNumberOf c.args.self.now e c.in-Some.number) c.as_edge.ensures number))
 
-pub returns-clause-joined : goal.returns-clause-joined
-returns-clause-joined c =
-    let g = state_in c.args.self.now in
-    let edge = c.as_edge-edge.ensures in
-    let old = c.state-old.ensures ∙ ap g edge in
-    let asked = c.asked_by-asked.ensures ∙ ap state_of c.kind.ensures in
-    let above : rank c.state-old.result < rank c.asked_by-asked.result =
-    above_from_not c.state-old.result c.asked_by-asked.result (λ below. true≢false (sym (c.leq.ensures.at_most.1 below) ∙ c.if-leq.false)) in
-    raised g (state_in c.put_back.new.self) c.args.edit.now
-    (λ e. c.put_back.ensures.state e ∙ (λ j. with_state (edge j) (asked j) g e))
-    (subst (λ s. rank (g (edit_edge c.args.edit.now)) < rank s) asked (subst (λ s. rank s < rank c.asked_by-asked.result) old above))
+no_number : In-None → ⊥
+no_number c =
+    let room = subst (λ (es : Entries). HasRoom es (edit_edge c.args.edit.now)) (sym c.self.view_is) c.requires in
+    no_room c.self.inside.edges.entries c.as_edge.result.now c.in-None.ensures.only (subst (HasRoom c.self.inside.edges.entries) (sym c.as_edge.ensures) room)
+
+pub returns-in-None-clause-joined : goal.returns-in-None-clause-joined
+returns-in-None-clause-joined c = absurd (no_number c)
+
+pub returns-in-None-clause-change : goal.returns-in-None-clause-change
+returns-in-None-clause-change c = absurd (no_number c)
