@@ -8,7 +8,7 @@ use Rattle.grove_edits.specs.declared.vertex.Vertex.{Vertex}
 use Rattle.grove_edits.specs.declared.edge.Edge.{Edge}
 use Rattle.walks.specs.Live.{children_of}
 use Rattle.walks.specs.Whole.{AreLive}
-use Rattle.graph_store.specs.Store.{Entries, state_in}
+use Rattle.grove_edits.specs.Graph.{Graph}
 use Rattle.graph_store.specs.Greatest.{IsGreatest, IsNameOf}
 use Rattle.grove_terms.proofs.OneGrove.{one_live}
 use Rattle.grove_edits.specs.declared.action.Place.{Place}
@@ -83,27 +83,27 @@ module _ (lists : GraphLists) (opening : List Edge) (author : ℕ) (action : Act
       )
 
   -- the faults of an action that names one vertex
-  pub one_vertex_rows : (entries : Entries) → AreListsOf (state_in entries) lists → vertex_names action ≡ place.name ∷ [] → place_of action ≡ Some place → IsOnly lists place.name v
+  pub one_vertex_rows : (g : Graph) → AreListsOf g lists → vertex_names action ≡ place.name ∷ [] → place_of action ≡ Some place → IsOnly lists place.name v
       → first_fault lists opening author action ≡ first_some rows_from
-  one_vertex_rows entries of names is only =
+  one_vertex_rows g of names is only =
       ap (λ (ns : List Name). first_some (no_vertex lists.vertices ns ∷ ambiguous_vertex lists.vertices ns ∷ action_rows)) names
-      ∙ one_tells entries lists of place.name v only action_rows ∙ rows_are is only
+      ∙ one_tells g lists of place.name v only action_rows ∙ rows_are is only
 
 -- ---- what the checks tell of the rows
 
-pub live_is : (entries : Entries) (lists : GraphLists) (live : List Edge) → AreListsOf (state_in entries) lists → AreLive (state_in entries) live → live ≡ lists.live
-live_is entries lists live of is = one_live (state_in entries) live lists.live is of.live
+pub live_is : (g : Graph) (lists : GraphLists) (live : List Edge) → AreListsOf g lists → AreLive g live → live ≡ lists.live
+live_is g lists live of is = one_live g live lists.live is of.live
 
-pub edges_are : (entries : Entries) (lists : GraphLists) (live edges : List Edge) (v : Vertex) (place : Place) → AreListsOf (state_in entries) lists → AreLive (state_in entries) live
-    → edges ≡ children_of v place.position live → edges ≡ edges_at lists v place
-edges_are entries lists live edges v place of is at = at ∙ ap (λ es. children_of v place.position es) (live_is entries lists live of is)
+pub edges_are : (g : Graph) (lists : GraphLists) (live : List Edge) (v : Vertex) (place : Place) → AreListsOf g lists → AreLive g live
+    → children_of v place.position live ≡ edges_at lists v place
+edges_are g lists live v place of is = ap (λ es. children_of v place.position es) (live_is g lists live of is)
 
 pub sort_told : (o : Option Sort) (wanted found own : Sort) (answer : Option ActFault) → o ≡ Some wanted → found ≡ own → other_sort (Some wanted) (Some found) ≡ answer → other_sort o (Some own) ≡ answer
 sort_told o wanted found own answer is same told = ap (λ p. other_sort p (Some own)) is ∙ ap (λ s. other_sort (Some wanted) (Some s)) (sym same) ∙ told
 
-pub names_fit : (entries : Entries) (lists : GraphLists) (author : ℕ) (action : Action) (greatest count : ℕ) → AreListsOf (state_in entries) lists → IsGreatest (IsNameOf (state_in entries)) author greatest
+pub names_fit : (g : Graph) (lists : GraphLists) (author : ℕ) (action : Action) (greatest count : ℕ) → AreListsOf g lists → IsGreatest (IsNameOf g) author greatest
     → name_count lists action ≡ count → greatest + count ≤ last_counter → names_spent lists author action ≡ None
-names_fit entries lists author action greatest count of is counted fits = by_test (greatest_is (state_in entries) lists of author greatest is) (nat_lt last_counter (greatest_counter lists author + name_count lists action)) refl where
+names_fit g lists author action greatest count of is counted fits = by_test (greatest_is g lists of author greatest is) (nat_lt last_counter (greatest_counter lists author + name_count lists action)) refl where
   nothing : (b : Bool) → (b && false) ≡ false
   nothing true = refl
   nothing false = refl
@@ -114,23 +114,23 @@ names_fit entries lists author action greatest count of is counted fits = by_tes
       ap (λ b. cond (nat_lt 0 (name_count lists action) && b) (Some (NamesSpent (greatest_counter lists author))) None) within
       ∙ ap (λ b. cond b (Some (NamesSpent (greatest_counter lists author))) None) (nothing (nat_lt 0 (name_count lists action)))
 
-pub names_told : (entries : Entries) (lists : GraphLists) (author : ℕ) (action : Action) (count : ℕ) (fault : ActFault) → AreListsOf (state_in entries) lists → IsSpent entries author count fault
+pub names_told : (g : Graph) (lists : GraphLists) (author : ℕ) (action : Action) (count : ℕ) (fault : ActFault) → AreListsOf g lists → IsSpent g author count fault
     → name_count lists action ≡ count → 0 < count → names_spent lists author action ≡ Some fault
-names_told entries lists author action count (NamesSpent greatest) of is counted positive =
-    let own : greatest_counter lists author ≡ greatest = greatest_is (state_in entries) lists of author greatest is.0 in
+names_told g lists author action count (NamesSpent greatest) of is counted positive =
+    let own : greatest_counter lists author ≡ greatest = greatest_is g lists of author greatest is.0 in
     let some : nat_lt 0 (name_count lists action) ≡ true = lt-ltb 0 (name_count lists action) (omega arith) in
     let over = is.1 in
     let above : nat_lt last_counter (greatest_counter lists author + name_count lists action) ≡ true = lt-ltb last_counter (greatest_counter lists author + name_count lists action) (omega arith) in
     ap (λ b. cond (b && nat_lt last_counter (greatest_counter lists author + name_count lists action)) (Some (NamesSpent (greatest_counter lists author))) None) some
     ∙ ap (λ b. cond b (Some (NamesSpent (greatest_counter lists author))) None) above ∙ ap (λ n. Some (NamesSpent n)) own
-names_told entries lists author action count (NoVertex n) of is counted positive = absurd is
-names_told entries lists author action count (AmbiguousVertex a b) of is counted positive = absurd is
-names_told entries lists author action count (NoPosition w) of is counted positive = absurd is
-names_told entries lists author action count (WrongSort s t) of is counted positive = absurd is
-names_told entries lists author action count (Occupied e) of is counted positive = absurd is
-names_told entries lists author action count (Empty p) of is counted positive = absurd is
-names_told entries lists author action count (CannotWrap k) of is counted positive = absurd is
-names_told entries lists author action count (NoEdge n) of is counted positive = absurd is
-names_told entries lists author action count (AmbiguousEdge e f) of is counted positive = absurd is
-names_told entries lists author action count (IntoItself w) of is counted positive = absurd is
-names_told entries lists author action count (NotLoose e) of is counted positive = absurd is
+names_told g lists author action count (NoVertex n) of is counted positive = absurd is
+names_told g lists author action count (AmbiguousVertex a b) of is counted positive = absurd is
+names_told g lists author action count (NoPosition w) of is counted positive = absurd is
+names_told g lists author action count (WrongSort s t) of is counted positive = absurd is
+names_told g lists author action count (Occupied e) of is counted positive = absurd is
+names_told g lists author action count (Empty p) of is counted positive = absurd is
+names_told g lists author action count (CannotWrap k) of is counted positive = absurd is
+names_told g lists author action count (NoEdge n) of is counted positive = absurd is
+names_told g lists author action count (AmbiguousEdge e f) of is counted positive = absurd is
+names_told g lists author action count (IntoItself w) of is counted positive = absurd is
+names_told g lists author action count (NotLoose e) of is counted positive = absurd is

@@ -1,4 +1,4 @@
--- What look-ups in a store tell of the lists of its graph.
+-- What look-ups in a graph tell of its lists.
 use Rattle.std.proofs.Common.{◌≡◌, ℕ, ◌≤◌, Bool, true, false, cond, List, [], ◌∷◌, ◌++◌, map, filter, refl, sym, ap, subst, ◌∙◌, inl, inr, ◌⊎◌, arith}
 use borrow.Author.Tests.{eqb-true}
 use Rattle.std.specs.Prelude.{◌||◌, ◌==◌, Option, None, Some, Result, Ok, Err, IsErrAnd, is_none, slice_get}
@@ -17,9 +17,7 @@ use Rattle.walks.specs.Live.{holds_edge}
 use Rattle.grove_edits.specs.Vertex.{is_same_vertex, stands_in}
 use Rattle.walks.specs.Whole.{IsInVertexOrder}
 use Rattle.grove_edits.proofs.Vertices.{same_vertex_exact, same_vertex_itself}
-use Rattle.graph_store.specs.Store.{Entries, state_in}
 use Rattle.graph_store.specs.Greatest.{IsGreatest, IsNameOf, name_by}
-use Rattle.graph_store.specs.Vertices.{IsVertexNamed}
 use Rattle.grove_edits.specs.declared.act_fault.ActFault.{ActFault}
 use Rattle.grove_edits.specs.declared.act_fault.ActFault.TheVariants.{NoVertex, AmbiguousVertex, NoPosition, WrongSort, Occupied, Empty, CannotWrap, NoEdge, AmbiguousEdge, IntoItself, NotLoose, NamesSpent}
 use Rattle.grove_edits.specs.declared.action.Action.{Action}
@@ -28,7 +26,7 @@ use Rattle.user_actions.specs.declared.planned.PlanFault.{PlanFault}
 use Rattle.user_actions.specs.declared.planned.PlanFault.TheVariants.{Refused, NoMemory}
 use Rattle.user_actions.specs.Lists.{GraphLists, AreListsOf}
 use Rattle.user_actions.specs.Names.{is_same_name, vertices_named, greatest_in, names_of, greatest_counter}
-use Rattle.user_actions.specs.NamedVertices.{IsOneNamed, IsNoneNamed, AreTwoNamed, IsVertexFault, IsFirstVertexFault}
+use Rattle.user_actions.specs.NamedVertices.{IsVertexNamed, IsOneNamed, IsNoneNamed, AreTwoNamed, IsVertexFault, IsFirstVertexFault}
 use Rattle.user_actions.specs.Faults.{no_vertex, two_vertices, ambiguous_vertex, first_some, first_fault}
 use Rattle.user_actions.specs.Planned.{TellsPlan}
 use Rattle.grove_sorts.proofs.Truths.{or_left, or_right}
@@ -106,14 +104,14 @@ named_stands name (x ∷ xs) v h = by_test (is_same_name x.name name) refl h (na
 some_from_option : (fault : ActFault) (b : Bool) (rest : Option ActFault) → b ≡ true → cond b (Some fault) rest ≡ Some fault
 some_from_option fault b rest is = ap (λ c. cond c (Some fault) rest) is
 
-module _ (entries : Entries) (lists : GraphLists) (of : AreListsOf (state_in entries) lists) where
-  is_named : (name : Name) (v : Vertex) → stands_in v (vertices_named name lists.vertices) ≡ true → IsVertexNamed entries name v
+module _ (g : Graph) (lists : GraphLists) (of : AreListsOf g lists) where
+  is_named : (name : Name) (v : Vertex) → stands_in v (vertices_named name lists.vertices) ≡ true → IsVertexNamed g name v
   is_named name v h = let parts = named_stands name lists.vertices v h in (parts.1, of.vertices.no_other v parts.0)
 
-  stands_named : (name : Name) (v : Vertex) → IsVertexNamed entries name v → stands_in v (vertices_named name lists.vertices) ≡ true
+  stands_named : (name : Name) (v : Vertex) → IsVertexNamed g name v → stands_in v (vertices_named name lists.vertices) ≡ true
   stands_named name v is = still_named name lists.vertices v (of.vertices.each v is.1) is.0
 
-  pub only_from : (name : Name) (v : Vertex) → IsOneNamed entries name v → IsOnly lists name v
+  pub only_from : (name : Name) (v : Vertex) → IsOneNamed g name v → IsOnly lists name v
   only_from name v one = by_list (vertices_named name lists.vertices) refl (order_kept (λ x. is_same_name x.name name) lists.vertices of.vertices.in_order) where
     by_list : (xs : List Vertex) → vertices_named name lists.vertices ≡ xs → IsInVertexOrder xs → xs ≡ v ∷ []
     by_list [] is order = let there = ap (stands_in v) (sym is) ∙ stands_named name v one.0 in absurd cc
@@ -123,15 +121,15 @@ module _ (entries : Entries) (lists : GraphLists) (of : AreListsOf (state_in ent
         let second = one.1 b (is_named name b (ap (stands_in b) is ∙ second_stands a b rest)) in
         absurd (not_less_itself v (ap (λ x. vertex_cmp x v) (sym first) ∙ ap (vertex_cmp a) (sym second) ∙ order.0.0))
 
-  pub none_from : (name : Name) → IsNoneNamed entries name → vertices_named name lists.vertices ≡ []
+  pub none_from : (name : Name) → IsNoneNamed g name → vertices_named name lists.vertices ≡ []
   none_from name none = by_list (vertices_named name lists.vertices) refl where
     by_list : (xs : List Vertex) → vertices_named name lists.vertices ≡ xs → xs ≡ []
     by_list [] is = refl
     by_list (a ∷ rest) is = absurd (none a (is_named name a (ap (stands_in a) is ∙ first_stands a rest)))
 
-  pub two_from : (name : Name) (a b : Vertex) → AreTwoNamed entries name a b → (rest : List Vertex) × (vertices_named name lists.vertices ≡ a ∷ b ∷ rest)
+  pub two_from : (name : Name) (a b : Vertex) → AreTwoNamed g name a b → (rest : List Vertex) × (vertices_named name lists.vertices ≡ a ∷ b ∷ rest)
   two_from name a b two = by_list (vertices_named name lists.vertices) refl (order_kept (λ x. is_same_name x.name name) lists.vertices of.vertices.in_order) where
-    has : (xs : List Vertex) → vertices_named name lists.vertices ≡ xs → (u : Vertex) → IsVertexNamed entries name u → stands_in u xs ≡ true
+    has : (xs : List Vertex) → vertices_named name lists.vertices ≡ xs → (u : Vertex) → IsVertexNamed g name u → stands_in u xs ≡ true
     has xs is u named = ap (stands_in u) (sym is) ∙ stands_named name u named
 
     only : (x u : Vertex) → stands_in u (x ∷ []) ≡ true → x ≡ u
@@ -180,7 +178,7 @@ module _ (entries : Entries) (lists : GraphLists) (of : AreListsOf (state_in ent
         by_second first (inr not) (inr later) = by_rest not (split y rest b later)
 
   -- the fault of one name is told
-  pub vertex_fault_tells : (name : Name) (fault : ActFault) → IsVertexFault entries name fault → (rest : List (Option ActFault))
+  pub vertex_fault_tells : (name : Name) (fault : ActFault) → IsVertexFault g name fault → (rest : List (Option ActFault))
       → first_some (no_vertex lists.vertices (name ∷ []) ∷ ambiguous_vertex lists.vertices (name ∷ []) ∷ rest) ≡ Some fault
   vertex_fault_tells name (NoVertex missing) is rest =
       stop (no_vertex lists.vertices (name ∷ [])) (ambiguous_vertex lists.vertices (name ∷ []) ∷ rest) (NoVertex missing)
@@ -207,18 +205,18 @@ module _ (entries : Entries) (lists : GraphLists) (of : AreListsOf (state_in ent
       skip (no_vertex lists.vertices (name ∷ [])) (ambiguous_vertex lists.vertices (name ∷ []) ∷ rest) (ap (λ (xs : List Vertex). cond (is_none (slice_get xs 0)) (Some (NoVertex name)) None) only)
       ∙ skip (ambiguous_vertex lists.vertices (name ∷ [])) rest (ap (λ xs. two_vertices xs None) only)
 
-  is_some_named : (name : Name) (v : Vertex) → IsVertexNamed entries name v → (x : Vertex) × (rest : List Vertex) × (vertices_named name lists.vertices ≡ x ∷ rest)
+  is_some_named : (name : Name) (v : Vertex) → IsVertexNamed g name v → (x : Vertex) × (rest : List Vertex) × (vertices_named name lists.vertices ≡ x ∷ rest)
   is_some_named name v is = by_list (vertices_named name lists.vertices) refl where
     by_list : (xs : List Vertex) → vertices_named name lists.vertices ≡ xs → (x : Vertex) × (rest : List Vertex) × (xs ≡ x ∷ rest)
     by_list [] nil = let there = ap (stands_in v) (sym nil) ∙ stands_named name v is in absurd cc
     by_list (x ∷ rest) nil = (x, rest, refl)
 
-  not_none : (name : Name) → (IsNoneNamed entries name → ⊥) → (xs : List Vertex) → vertices_named name lists.vertices ≡ xs → is_none (slice_get xs 0) ≡ false
+  not_none : (name : Name) → (IsNoneNamed g name → ⊥) → (xs : List Vertex) → vertices_named name lists.vertices ≡ xs → is_none (slice_get xs 0) ≡ false
   not_none name some [] is = absurd (some (λ u named. let there = ap (stands_in u) (sym is) ∙ stands_named name u named in cc))
   not_none name some (x ∷ xs) is = refl
 
   -- the fault of two names is told
-  pub two_names_tell : (one two : Name) (fault : ActFault) → IsFirstVertexFault entries one two fault → (rest : List (Option ActFault))
+  pub two_names_tell : (one two : Name) (fault : ActFault) → IsFirstVertexFault g one two fault → (rest : List (Option ActFault))
       → first_some (no_vertex lists.vertices (one ∷ two ∷ []) ∷ ambiguous_vertex lists.vertices (one ∷ two ∷ []) ∷ rest) ≡ Some fault
   two_names_tell one two (NoVertex name) (inl is) rest =
       stop (no_vertex lists.vertices (one ∷ two ∷ [])) (ambiguous_vertex lists.vertices (one ∷ two ∷ []) ∷ rest) (NoVertex name)

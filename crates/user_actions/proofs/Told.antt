@@ -1,21 +1,20 @@
--- What is told by the lists of a store's graph is the plan on that graph.
-use Rattle.std.proofs.Common.{ℕ, List, map, sym, subst}
+-- What is told by the lists of a graph is the plan on that graph.
+use Rattle.std.proofs.Common.{ℕ, List, sym, subst}
 use Rattle.std.specs.Prelude.{Result, Ok, Err, IfOk, IfErr}
 use Rattle.grove_edits.specs.declared.edge.Edge.{Edge}
 use Rattle.grove_edits.specs.declared.action.Action.{Action}
 use Rattle.grove_edits.specs.declared.action.Action.TheVariants.{Construct, Wrap, Become, Delete, Cut, Relocate, Restore}
 use Rattle.grove_edits.specs.Graph.{Graph}
 use Rattle.walks.specs.Live.{IsInEdgeOrder}
-use Rattle.graph_store.specs.Store.{Entries, state_in}
 use Rattle.user_actions.specs.declared.planned.Plan.{Plan}
 use Rattle.user_actions.specs.declared.planned.PlanFault.{PlanFault}
 use Rattle.user_actions.specs.declared.planned.PlanFault.TheVariants.{Refused, NoMemory}
-use Rattle.user_actions.specs.Lists.{GraphLists, AreListsOf}
+use Rattle.user_actions.specs.Lists.{GraphLists, AreListsOf, IsFinite}
 use Rattle.user_actions.specs.Plan.{IsPlan, answer_of}
 use Rattle.user_actions.specs.After.{IsAccepted}
 use Rattle.user_actions.specs.Planned.{IsRefusal, TellsPlan}
 use Rattle.user_actions.proofs.OnePlan.{plan_from_made, plan_from_fault}
-use Rattle.user_actions.proofs.SomeLists.{lists_from, lists_are, entries_have}
+use Rattle.user_actions.proofs.SomeLists.{lists_from, lists_are}
 
 accepted_is : (lists : GraphLists) (author : ℕ) (action : Action) → IsAccepted (answer_of lists author action)
 accepted_is lists author (Construct place ctor) = tt
@@ -33,10 +32,10 @@ told_of g lists of opening author action order (Ok p) tells =
 told_of g lists of opening author action order (Err (Refused fault)) tells = (tt, tt, plan_from_fault g lists opening author action fault order of tells)
 told_of g lists of opening author action order (Err NoMemory) tells = (tt, tt, tt)
 
-pub plan_told : (entries : Entries) (opening : List Edge) (author : ℕ) (action : Action) → IsInEdgeOrder opening → (r : Result Plan PlanFault)
-    → ((lists : GraphLists) → AreListsOf (state_in entries) lists → TellsPlan lists opening author action r)
-    → IfOk r (λ p. IsPlan (state_in entries) opening author action p.edits p.answer) × IfOk r (λ p. IsAccepted p.answer) × IfErr r (λ fault. IsRefusal (state_in entries) opening author action fault)
-plan_told entries opening author action order r tells =
-    let lists = lists_from (state_in entries) (map (λ entry. entry.0) entries) (entries_have entries) in
-    let of = lists_are (state_in entries) (map (λ entry. entry.0) entries) (entries_have entries) in
-    told_of (state_in entries) lists of opening author action order r (tells lists of)
+pub plan_told : (g : Graph) (opening : List Edge) (author : ℕ) (action : Action) → IsFinite g → IsInEdgeOrder opening → (r : Result Plan PlanFault)
+    → ((lists : GraphLists) → AreListsOf g lists → TellsPlan lists opening author action r)
+    → IfOk r (λ p. IsPlan g opening author action p.edits p.answer) × IfOk r (λ p. IsAccepted p.answer) × IfErr r (λ fault. IsRefusal g opening author action fault)
+plan_told g opening author action finite order r tells =
+    let lists = lists_from g finite.0 finite.1 in
+    let of = lists_are g finite.0 finite.1 in
+    told_of g lists of opening author action order r (tells lists of)

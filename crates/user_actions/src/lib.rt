@@ -6,10 +6,12 @@ mod carried;
 mod edges;
 mod edits;
 mod laws;
+mod live_view;
 mod new_names;
 mod no_memory;
 mod opening_set;
 mod place;
+mod plan_view;
 mod planned;
 mod planning;
 #[cfg(test)]
@@ -24,8 +26,10 @@ pub use laws::{
     graphs_of_edits_can_be_planned_on, moves_make_no_cycle_root, new_names_are_new,
     other_places_stay,
 };
+pub use live_view::LiveView;
 pub use no_memory::NoMemory;
 pub use opening_set::OpeningSet;
+pub use plan_view::PlanView;
 pub use planned::{Plan, PlanFault};
 pub use planning::plan;
 pub use view::View;

@@ -1,10 +1,9 @@
 ghost use Rattle.std.specs.Prelude.{◌≡◌, ◌+◌, ◌<◌, ◌≤◌, ◌^◌, IfOk, IfErr};
 ghost use Rattle.graph_store.specs.Greatest.{IsGreatest, IsNameOf};
-ghost use Rattle.graph_store.specs.Store.{state_in};
 ghost use Rattle.user_actions.specs.Faults.{last_counter};
 ghost use Rattle.user_actions.specs.Spent.{IsSpent};
 
-use graph_store::GraphStore;
+use crate::plan_view::PlanView;
 use grove_edits::{ActFault, Vertex};
 use grove_names::Name;
 use grove_sorts::Ctor;
@@ -44,13 +43,17 @@ impl NewNames {
 }
 
 /// The author's new names, or that there are not so many left.
-pub(crate) fn new_names(store: &GraphStore, author: u32, count: u64) -> Result<NewNames, ActFault>
+pub(crate) fn new_names<V: PlanView>(
+    view: &V,
+    author: u32,
+    count: u64,
+) -> Result<NewNames, ActFault>
     ensures author { IfOk result (λ names. names.author ≡ author) }
-    ensures greatest { IfOk result (λ names. IsGreatest (IsNameOf (state_in store.now)) author names.greatest) }
+    ensures greatest { IfOk result (λ names. IsGreatest (IsNameOf (V.states view.now)) author names.greatest) }
     ensures fits { IfOk result (λ names. names.greatest + count ≤ last_counter) }
-    ensures spent { IfErr result (λ fault. IsSpent store.now author count fault) }
+    ensures spent { IfErr result (λ fault. IsSpent (V.states view.now) author count fault) }
 {
-    let greatest = store.greatest(author);
+    let greatest = view.greatest(author);
     match greatest.checked_add(count) {
         Some(_last) => Ok(NewNames { author, greatest }),
         None => Err(ActFault::NamesSpent { greatest }),

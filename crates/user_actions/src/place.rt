@@ -5,48 +5,20 @@ ghost use Rattle.grove_edits.specs.declared.edge.Edge.{Edge};
 ghost use Rattle.walks.specs.Live.{children_of, parents_of};
 ghost use Rattle.walks.specs.Few.{first_two};
 ghost use Rattle.unicycle_roots.specs.Met.{leads_to};
-ghost use Rattle.edge_index.specs.Lists.{live};
 ghost use Rattle.user_actions.specs.Faults.{other_sort, only_target, two_edges, none_named, below_itself, first_some};
 ghost use Rattle.user_actions.specs.Names.{is_same_name};
 ghost use Rattle.user_actions.specs.Place.{sort_at_place};
 ghost use Rattle.user_actions.specs.Told.{Tells};
 
+use crate::plan_view::PlanView;
 use crate::walk_up::leads_to;
-use child_index::ChildIndex;
 use grove_edits::{ActFault, Edge, Place, Vertex};
 use grove_names::Name;
 use grove_sorts::{Ctor, Position, Sort, first_position_of_sort, position_sort, sort_of};
-use parent_index::ParentIndex;
 use std::cmp::Ordering;
 use std::marker::Brand;
 use std::sync::ledger::{Blank, Ledger};
-use walks::{Few, ParentOf, Steps};
-
-/// The live edges from a position of a vertex, in edge order.
-pub(crate) fn edges_at<'a>(
-    children: &'a ChildIndex,
-    vertex: &Vertex,
-    position: Position,
-) -> &'a [Edge]
-    ensures { result.now ≡ children_of vertex.now position (live children.now) }
-{
-    edges_counting::<Brand>(children, vertex, position, Blank::new(1))
-}
-
-fn edges_counting<'a, L: Ledger>(
-    children: &'a ChildIndex,
-    vertex: &Vertex,
-    position: Position,
-    blank: Blank,
-) -> &'a [Edge]
-    requires name { blank.name ≡ L.name }
-    requires parts { blank.parts ≡ L.parts }
-    requires some { 0 < blank.parts }
-    ensures edges { result.now ≡ children_of vertex.now position (live children.now) }
-{
-    let mut steps = Steps::<L>::new(blank);
-    children.children(vertex, position, &mut steps)
-}
+use walks::{Few, Steps};
 
 /// The sort of the children at a place, or that its vertex has no such position.
 pub(crate) fn wanted_sort(vertex: &Vertex, place: Place) -> Result<Sort, ActFault>
@@ -79,39 +51,50 @@ pub(crate) fn check_target_sort(wanted: Sort, edges: &[Edge]) -> Result<(), ActF
     }
 }
 
-/// Whether nothing stands at a place.
-pub(crate) fn check_free(edges: &[Edge]) -> Result<(), ActFault>
-    ensures { Tells (option_map ActFault.Occupied (slice_get edges.now 0)) result }
+/// Whether nothing stands at a place of a vertex.
+pub(crate) fn check_free<V: PlanView>(
+    view: &V,
+    vertex: &Vertex,
+    place: Place,
+) -> Result<(), ActFault>
+    ensures { Tells (option_map ActFault.Occupied (slice_get (children_of vertex.now place.position (V.children view.now)) 0)) result }
 {
-    match edges.first() {
+    match view.child(vertex, place.position, 0) {
         None => Ok(()),
-        Some(edge) => Err(ActFault::Occupied { edge: *edge }),
+        Some(edge) => Err(ActFault::Occupied { edge }),
     }
 }
 
-/// Whether something stands at a place.
-pub(crate) fn check_filled(edges: &[Edge], place: Place) -> Result<(), ActFault>
-    ensures { Tells (if is_none (slice_get edges.now 0) then Some (ActFault.Empty place) else None) result }
+/// Whether something stands at a place of a vertex.
+pub(crate) fn check_filled<V: PlanView>(
+    view: &V,
+    vertex: &Vertex,
+    place: Place,
+) -> Result<(), ActFault>
+    ensures { Tells (if is_none (slice_get (children_of vertex.now place.position (V.children view.now)) 0) then Some (ActFault.Empty place) else None) result }
 {
-    if edges.is_empty() {
-        Err(ActFault::Empty { place })
-    } else {
-        Ok(())
+    match view.child(vertex, place.position, 0) {
+        None => Err(ActFault::Empty { place }),
+        Some(_) => Ok(()),
     }
 }
 
-/// The one edge at a place.
-pub(crate) fn sole_edge(edges: &[Edge], place: Place) -> Result<Edge, ActFault>
-    ensures sole { IfOk result (λ edge. edges.now ≡ edge ∷ []) }
-    ensures fault { Tells (first_some ((if is_none (slice_get edges.now 0) then Some (ActFault.Empty place) else None) ∷ two_edges edges.now ∷ [])) result }
+/// The one edge at a place of a vertex.
+pub(crate) fn sole_edge<V: PlanView>(
+    view: &V,
+    vertex: &Vertex,
+    place: Place,
+) -> Result<Edge, ActFault>
+    ensures sole { IfOk result (λ edge. children_of vertex.now place.position (V.children view.now) ≡ edge ∷ []) }
+    ensures fault { Tells (first_some ((if is_none (slice_get (children_of vertex.now place.position (V.children view.now)) 0) then Some (ActFault.Empty place) else None)
+        ∷ two_edges (children_of vertex.now place.position (V.children view.now)) ∷ [])) result }
 {
-    match edges {
-        [] => Err(ActFault::Empty { place }),
-        [edge] => Ok(*edge),
-        [first, second, ..] => Err(ActFault::AmbiguousEdge {
-            first: *first,
-            second: *second,
-        }),
+    let Some(first) = view.child(vertex, place.position, 0) else {
+        return Err(ActFault::Empty { place });
+    };
+    match view.child(vertex, place.position, 1) {
+        None => Ok(first),
+        Some(second) => Err(ActFault::AmbiguousEdge { first, second }),
     }
 }
 
@@ -140,13 +123,21 @@ pub(crate) fn sole_named(edges: &[Edge], name: Name) -> Result<Edge, ActFault>
     }
 }
 
-/// Whether nothing but edges with a name stands at a place.
-pub(crate) fn check_free_but(edges: &[Edge], name: Name) -> Result<(), ActFault>
-    ensures { Tells (option_map ActFault.Occupied (slice_get (filter (λ e. not (is_same_name e.name name)) edges.now) 0)) result }
+/// Whether nothing but edges with a name stands at a place of a vertex.
+pub(crate) fn check_free_but<V: PlanView>(
+    view: &V,
+    vertex: &Vertex,
+    place: Place,
+    name: Name,
+) -> Result<(), ActFault>
+    ensures { Tells (option_map ActFault.Occupied (slice_get (filter (λ e. not (is_same_name e.name name)) (children_of vertex.now place.position (V.children view.now))) 0)) result }
 {
-    for edge in edges {
+    for index in 0..view.child_count(vertex, place.position) {
+        let Some(edge) = view.child(vertex, place.position, index) else {
+            return Ok(());
+        };
         if !is_same_name(edge.name, name) {
-            return Err(ActFault::Occupied { edge: *edge });
+            return Err(ActFault::Occupied { edge });
         }
     }
     Ok(())
@@ -167,22 +158,22 @@ pub(crate) fn wrapping_position(ctor: &Ctor, sort: Sort) -> Result<Position, Act
 }
 
 /// Whether a vertex does not stand on the walk up from the vertex of its new place.
-pub(crate) fn check_apart(
-    parents: &ParentIndex,
+pub(crate) fn check_apart<V: PlanView>(
+    view: &V,
     vertex: &Vertex,
     moved: &Vertex,
 ) -> Result<(), ActFault>
-    ensures { Tells (below_itself (live parents.now) vertex.now (Some moved.now)) result }
+    ensures { Tells (below_itself (V.live view.now) vertex.now (Some moved.now)) result }
 {
-    if leads_counting::<Brand>(parents, vertex, moved, Blank::new(1)) {
+    if leads_counting::<V, Brand>(view, vertex, moved, Blank::new(1)) {
         Err(ActFault::IntoItself { vertex: *moved })
     } else {
         Ok(())
     }
 }
 
-fn leads_counting<L: Ledger>(
-    parents: &ParentIndex,
+fn leads_counting<V: PlanView, L: Ledger>(
+    view: &V,
     vertex: &Vertex,
     moved: &Vertex,
     blank: Blank,
@@ -190,28 +181,28 @@ fn leads_counting<L: Ledger>(
     requires name { blank.name ≡ L.name }
     requires parts { blank.parts ≡ L.parts }
     requires some { 0 < blank.parts }
-    ensures { result ≡ leads_to (live parents.now) vertex.now moved.now }
+    ensures { result ≡ leads_to (V.live view.now) vertex.now moved.now }
 {
     let mut steps = Steps::<L>::new(blank);
-    leads_to(vertex, moved, parents, &mut steps)
+    leads_to(vertex, moved, view, &mut steps)
 }
 
 /// Whether a vertex has no live parent edge.
-pub(crate) fn check_loose(parents: &ParentIndex, moved: &Vertex) -> Result<(), ActFault>
-    ensures { Tells (option_map ActFault.NotLoose (slice_get (parents_of moved.now (live parents.now)) 0)) result }
+pub(crate) fn check_loose<V: PlanView>(view: &V, moved: &Vertex) -> Result<(), ActFault>
+    ensures { Tells (option_map ActFault.NotLoose (slice_get (parents_of moved.now (V.live view.now)) 0)) result }
 {
-    match few_counting::<Brand>(parents, moved, Blank::new(1)) {
+    match few_counting::<V, Brand>(view, moved, Blank::new(1)) {
         Few::Zero => Ok(()),
         Few::One(edge) | Few::More(edge, _) => Err(ActFault::NotLoose { edge }),
     }
 }
 
-fn few_counting<L: Ledger>(parents: &ParentIndex, vertex: &Vertex, blank: Blank) -> Few
+fn few_counting<V: PlanView, L: Ledger>(view: &V, vertex: &Vertex, blank: Blank) -> Few
     requires name { blank.name ≡ L.name }
     requires parts { blank.parts ≡ L.parts }
     requires some { 0 < blank.parts }
-    ensures { result ≡ first_two (parents_of vertex.now (live parents.now)) }
+    ensures { result ≡ first_two (parents_of vertex.now (V.live view.now)) }
 {
     let mut steps = Steps::<L>::new(blank);
-    parents.few(vertex, &mut steps)
+    view.few(vertex, &mut steps)
 }

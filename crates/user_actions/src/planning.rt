@@ -1,7 +1,5 @@
 ghost use Rattle.std.specs.Prelude.{◌≡◌, ◌<◌, IfOk, IfErr};
 ghost use Rattle.walks.specs.Whole.{AreLive};
-ghost use Rattle.edge_index.specs.Lists.{live};
-ghost use Rattle.graph_store.specs.Store.{state_in};
 ghost use Rattle.user_actions.specs.Good.{AreWellFormed, AreOpening};
 ghost use Rattle.user_actions.specs.Lists.{GraphLists, AreListsOf};
 ghost use Rattle.user_actions.specs.After.{IsAccepted};
@@ -9,46 +7,51 @@ ghost use Rattle.user_actions.specs.Plan.{IsPlan};
 ghost use Rattle.user_actions.specs.Planned.{CanPlan, IsRefusal, TellsPlan};
 
 use crate::carried::carried;
-use crate::edges::{edges_named, held_of, live_of, opened_or_named};
+use crate::edges::{held_of, live_of, opened_or_named};
 use crate::edits::{carry_over, delete, delete_each, insert, put_below};
 use crate::new_names::new_names;
 use crate::place::{
     check_apart, check_filled, check_free, check_free_but, check_loose, check_named, check_sort,
-    check_target_sort, edges_at, sole_edge, sole_named, wanted_sort, wrapping_position,
+    check_target_sort, sole_edge, sole_named, wanted_sort, wrapping_position,
 };
+use crate::plan_view::PlanView;
 use crate::planned::{Plan, PlanFault};
 use crate::vertices::{vertex_named, vertices_named};
-use crate::view::View;
 use grove_edits::{Action, Answer, Edge, EditList, Place};
 use grove_names::Name;
 use grove_sorts::{Ctor, sort_of};
 use std::alloc::Global;
 
 /// Plans an author's action on the graph of a view: its edits and its answer, or the first fault that applies.
-pub fn plan(alloc: Global, view: &View<'_>, author: u32, action: &Action) -> Result<Plan, PlanFault>
-    requires author { 0 < author }
-    requires well_formed { AreWellFormed (state_in view.now.store.now) }
-    requires opening { AreOpening (state_in view.now.store.now) view.now.opening.now }
-    requires children { AreLive (state_in view.now.store.now) (live view.now.children.now) }
-    requires parents { AreLive (state_in view.now.store.now) (live view.now.parents.now) }
-    ensures planned { IfOk result (λ plan. IsPlan (state_in view.now.store.now) view.now.opening.now author action.now plan.edits plan.answer) }
-    ensures accepted { IfOk result (λ plan. IsAccepted plan.answer) }
-    ensures refused { IfErr result (λ fault. IsRefusal (state_in view.now.store.now) view.now.opening.now author action.now fault) }
-{
-    // The edges of the set are in order.
-    let _edges = view.opening.len();
-    plan_action(alloc, view, author, action)
-}
-
-fn plan_action(
+pub fn plan<V: PlanView>(
     alloc: Global,
-    view: &View<'_>,
+    view: &V,
     author: u32,
     action: &Action,
 ) -> Result<Plan, PlanFault>
-    requires { CanPlan (state_in view.now.store.now) view.now.opening.now (live view.now.children.now) (live view.now.parents.now) author }
-    ensures { (lists : GraphLists) → AreListsOf (state_in view.now.store.now) lists
-        → TellsPlan lists view.now.opening.now author action.now result }
+    requires author { 0 < author }
+    requires well_formed { AreWellFormed (V.states view.now) }
+    requires opening { AreOpening (V.states view.now) (V.opening view.now) }
+    requires children { AreLive (V.states view.now) (V.children view.now) }
+    requires parents { AreLive (V.states view.now) (V.live view.now) }
+    ensures planned { IfOk result (λ plan. IsPlan (V.states view.now) (V.opening view.now) author action.now plan.edits plan.answer) }
+    ensures accepted { IfOk result (λ plan. IsAccepted plan.answer) }
+    ensures refused { IfErr result (λ fault. IsRefusal (V.states view.now) (V.opening view.now) author action.now fault) }
+{
+    // The opening edges are in order, and the graph has finitely many.
+    let _edges = view.opening_set();
+    plan_action(alloc, view, author, action)
+}
+
+fn plan_action<V: PlanView>(
+    alloc: Global,
+    view: &V,
+    author: u32,
+    action: &Action,
+) -> Result<Plan, PlanFault>
+    requires { CanPlan (V.states view.now) (V.opening view.now) (V.children view.now) (V.live view.now) author }
+    ensures { (lists : GraphLists) → AreListsOf (V.states view.now) lists
+        → TellsPlan lists (V.opening view.now) author action.now result }
 {
     match *action {
         Action::Construct { place, ctor } => plan_construct(alloc, view, author, place, ctor),
@@ -61,22 +64,22 @@ fn plan_action(
     }
 }
 
-fn plan_construct(
+fn plan_construct<V: PlanView>(
     alloc: Global,
-    view: &View<'_>,
+    view: &V,
     author: u32,
     place: Place,
     ctor: Ctor,
 ) -> Result<Plan, PlanFault>
-    requires { CanPlan (state_in view.now.store.now) view.now.opening.now (live view.now.children.now) (live view.now.parents.now) author }
-    ensures { (lists : GraphLists) → AreListsOf (state_in view.now.store.now) lists
-        → TellsPlan lists view.now.opening.now author (Action.Construct place ctor) result }
+    requires { CanPlan (V.states view.now) (V.opening view.now) (V.children view.now) (V.live view.now) author }
+    ensures { (lists : GraphLists) → AreListsOf (V.states view.now) lists
+        → TellsPlan lists (V.opening view.now) author (Action.Construct place ctor) result }
 {
-    let vertex = vertex_named(view.store, place.name)?;
+    let vertex = vertex_named(view, place.name)?;
     let wanted = wanted_sort(&vertex, place)?;
     check_sort(wanted, sort_of(&ctor))?;
-    check_free(edges_at(view.children, &vertex, place.position))?;
-    let names = new_names(view.store, author, 2)?;
+    check_free(view, &vertex, place)?;
+    let names = new_names(view, author, 2)?;
     let made = names.vertex(ctor);
     let mut edits = EditList::new(alloc);
     let inserted = Edge {
@@ -92,27 +95,27 @@ fn plan_construct(
     })
 }
 
-fn plan_wrap(
+fn plan_wrap<V: PlanView>(
     alloc: Global,
-    view: &View<'_>,
+    view: &V,
     author: u32,
     place: Place,
     ctor: Ctor,
 ) -> Result<Plan, PlanFault>
-    requires { CanPlan (state_in view.now.store.now) view.now.opening.now (live view.now.children.now) (live view.now.parents.now) author }
-    ensures { (lists : GraphLists) → AreListsOf (state_in view.now.store.now) lists
-        → TellsPlan lists view.now.opening.now author (Action.Wrap place ctor) result }
+    requires { CanPlan (V.states view.now) (V.opening view.now) (V.children view.now) (V.live view.now) author }
+    ensures { (lists : GraphLists) → AreListsOf (V.states view.now) lists
+        → TellsPlan lists (V.opening view.now) author (Action.Wrap place ctor) result }
 {
-    let vertex = vertex_named(view.store, place.name)?;
+    let vertex = vertex_named(view, place.name)?;
     let wanted = wanted_sort(&vertex, place)?;
     check_sort(wanted, sort_of(&ctor))?;
-    let wrapped = edges_at(view.children, &vertex, place.position);
-    check_filled(wrapped, place)?;
+    check_filled(view, &vertex, place)?;
     let below = wrapping_position(&ctor, wanted)?;
-    let names = new_names(view.store, author, 2 + wrapped.len() as u64)?;
+    let wrapped = view.children_at(alloc, &vertex, place.position)?;
+    let names = new_names(view, author, 2 + wrapped.len() as u64)?;
     let made = names.vertex(ctor);
     let mut edits = EditList::new(alloc);
-    delete_each(&mut edits, wrapped)?;
+    delete_each(&mut edits, &wrapped)?;
     let inserted = Edge {
         name: names.name(2),
         source: vertex,
@@ -120,30 +123,30 @@ fn plan_wrap(
         target: made,
     };
     insert(&mut edits, inserted)?;
-    put_below(&mut edits, &names, &made, below, wrapped)?;
+    put_below(&mut edits, &names, &made, below, &wrapped)?;
     Ok(Plan {
         edits,
         answer: Answer::Made { vertex: made.name },
     })
 }
 
-fn plan_become(
+fn plan_become<V: PlanView>(
     alloc: Global,
-    view: &View<'_>,
+    view: &V,
     author: u32,
     place: Place,
     ctor: Ctor,
 ) -> Result<Plan, PlanFault>
-    requires { CanPlan (state_in view.now.store.now) view.now.opening.now (live view.now.children.now) (live view.now.parents.now) author }
-    ensures { (lists : GraphLists) → AreListsOf (state_in view.now.store.now) lists
-        → TellsPlan lists view.now.opening.now author (Action.Become place ctor) result }
+    requires { CanPlan (V.states view.now) (V.opening view.now) (V.children view.now) (V.live view.now) author }
+    ensures { (lists : GraphLists) → AreListsOf (V.states view.now) lists
+        → TellsPlan lists (V.opening view.now) author (Action.Become place ctor) result }
 {
-    let vertex = vertex_named(view.store, place.name)?;
+    let vertex = vertex_named(view, place.name)?;
     let wanted = wanted_sort(&vertex, place)?;
     check_sort(wanted, sort_of(&ctor))?;
-    let replaced = sole_edge(edges_at(view.children, &vertex, place.position), place)?;
-    let moved = carried(alloc, view.children, &ctor, &replaced)?;
-    let names = new_names(view.store, author, 2 + moved.len() as u64)?;
+    let replaced = sole_edge(view, &vertex, place)?;
+    let moved = carried(alloc, view, &ctor, &replaced)?;
+    let names = new_names(view, author, 2 + moved.len() as u64)?;
     let made = names.vertex(ctor);
     let mut edits = EditList::new(alloc);
     delete(&mut edits, replaced)?;
@@ -161,30 +164,40 @@ fn plan_become(
     })
 }
 
-fn plan_delete(alloc: Global, view: &View<'_>, author: u32, place: Place) -> Result<Plan, PlanFault>
-    requires { CanPlan (state_in view.now.store.now) view.now.opening.now (live view.now.children.now) (live view.now.parents.now) author }
-    ensures { (lists : GraphLists) → AreListsOf (state_in view.now.store.now) lists
-        → TellsPlan lists view.now.opening.now author (Action.Delete place) result }
+fn plan_delete<V: PlanView>(
+    alloc: Global,
+    view: &V,
+    author: u32,
+    place: Place,
+) -> Result<Plan, PlanFault>
+    requires { CanPlan (V.states view.now) (V.opening view.now) (V.children view.now) (V.live view.now) author }
+    ensures { (lists : GraphLists) → AreListsOf (V.states view.now) lists
+        → TellsPlan lists (V.opening view.now) author (Action.Delete place) result }
 {
-    let vertex = vertex_named(view.store, place.name)?;
+    let vertex = vertex_named(view, place.name)?;
     wanted_sort(&vertex, place)?;
-    let edges = edges_at(view.children, &vertex, place.position);
-    check_filled(edges, place)?;
+    check_filled(view, &vertex, place)?;
+    let edges = view.children_at(alloc, &vertex, place.position)?;
     let mut edits = EditList::new(alloc);
-    delete_each(&mut edits, edges)?;
+    delete_each(&mut edits, &edges)?;
     Ok(Plan {
         edits,
         answer: Answer::Done,
     })
 }
 
-fn plan_cut(alloc: Global, view: &View<'_>, author: u32, edge: Name) -> Result<Plan, PlanFault>
-    requires { CanPlan (state_in view.now.store.now) view.now.opening.now (live view.now.children.now) (live view.now.parents.now) author }
-    ensures { (lists : GraphLists) → AreListsOf (state_in view.now.store.now) lists
-        → TellsPlan lists view.now.opening.now author (Action.Cut edge) result }
+fn plan_cut<V: PlanView>(
+    alloc: Global,
+    view: &V,
+    author: u32,
+    edge: Name,
+) -> Result<Plan, PlanFault>
+    requires { CanPlan (V.states view.now) (V.opening view.now) (V.children view.now) (V.live view.now) author }
+    ensures { (lists : GraphLists) → AreListsOf (V.states view.now) lists
+        → TellsPlan lists (V.opening view.now) author (Action.Cut edge) result }
 {
-    let named = edges_named(alloc, view.store, edge)?;
-    let opened = held_of(alloc, view.opening, &named)?;
+    let named = view.edges_named(alloc, edge)?;
+    let opened = held_of(alloc, view.opening_set(), &named)?;
     let cut = opened_or_named(&opened, &named);
     check_named(cut, edge)?;
     let mut edits = EditList::new(alloc);
@@ -195,26 +208,26 @@ fn plan_cut(alloc: Global, view: &View<'_>, author: u32, edge: Name) -> Result<P
     })
 }
 
-fn plan_relocate(
+fn plan_relocate<V: PlanView>(
     alloc: Global,
-    view: &View<'_>,
+    view: &V,
     author: u32,
     edge: Name,
     place: Place,
 ) -> Result<Plan, PlanFault>
-    requires { CanPlan (state_in view.now.store.now) view.now.opening.now (live view.now.children.now) (live view.now.parents.now) author }
-    ensures { (lists : GraphLists) → AreListsOf (state_in view.now.store.now) lists
-        → TellsPlan lists view.now.opening.now author (Action.Relocate edge place) result }
+    requires { CanPlan (V.states view.now) (V.opening view.now) (V.children view.now) (V.live view.now) author }
+    ensures { (lists : GraphLists) → AreListsOf (V.states view.now) lists
+        → TellsPlan lists (V.opening view.now) author (Action.Relocate edge place) result }
 {
-    let vertex = vertex_named(view.store, place.name)?;
+    let vertex = vertex_named(view, place.name)?;
     let wanted = wanted_sort(&vertex, place)?;
-    let named = edges_named(alloc, view.store, edge)?;
-    let moved = live_of(alloc, view.store, &named)?;
+    let named = view.edges_named(alloc, edge)?;
+    let moved = live_of(alloc, view, &named)?;
     check_target_sort(wanted, &moved)?;
-    check_free_but(edges_at(view.children, &vertex, place.position), edge)?;
+    check_free_but(view, &vertex, place, edge)?;
     let old = sole_named(&moved, edge)?;
-    check_apart(view.parents, &vertex, &old.target)?;
-    let names = new_names(view.store, author, 1)?;
+    check_apart(view, &vertex, &old.target)?;
+    let names = new_names(view, author, 1)?;
     let mut edits = EditList::new(alloc);
     delete(&mut edits, old)?;
     let inserted = Edge {
@@ -232,24 +245,24 @@ fn plan_relocate(
     })
 }
 
-fn plan_restore(
+fn plan_restore<V: PlanView>(
     alloc: Global,
-    view: &View<'_>,
+    view: &V,
     author: u32,
     vertex: Name,
     place: Place,
 ) -> Result<Plan, PlanFault>
-    requires { CanPlan (state_in view.now.store.now) view.now.opening.now (live view.now.children.now) (live view.now.parents.now) author }
-    ensures { (lists : GraphLists) → AreListsOf (state_in view.now.store.now) lists
-        → TellsPlan lists view.now.opening.now author (Action.Restore vertex place) result }
+    requires { CanPlan (V.states view.now) (V.opening view.now) (V.children view.now) (V.live view.now) author }
+    ensures { (lists : GraphLists) → AreListsOf (V.states view.now) lists
+        → TellsPlan lists (V.opening view.now) author (Action.Restore vertex place) result }
 {
-    let (at, moved) = vertices_named(view.store, place.name, vertex)?;
+    let (at, moved) = vertices_named(view, place.name, vertex)?;
     let wanted = wanted_sort(&at, place)?;
     check_sort(wanted, sort_of(&moved.ctor))?;
-    check_free(edges_at(view.children, &at, place.position))?;
-    check_apart(view.parents, &at, &moved)?;
-    check_loose(view.parents, &moved)?;
-    let names = new_names(view.store, author, 1)?;
+    check_free(view, &at, place)?;
+    check_apart(view, &at, &moved)?;
+    check_loose(view, &moved)?;
+    let names = new_names(view, author, 1)?;
     let mut edits = EditList::new(alloc);
     let inserted = Edge {
         name: names.name(1),

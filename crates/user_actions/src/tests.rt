@@ -1,19 +1,20 @@
-ghost use Rattle.std.specs.Prelude.{◌≢◌, ◌<◌, IfOk, OnOk};
+ghost use Rattle.std.specs.Prelude.{◌≡◌, ◌≢◌, ◌<◌, [], IfOk, OnOk};
 ghost use Rattle.edge_lattice.specs.declared.state.State.TheVariants.{Absent};
 ghost use Rattle.grove_edits.specs.declared.edge.Edge.{Edge};
 ghost use Rattle.walks.specs.Whole.{AreLive};
 ghost use Rattle.edge_index.specs.Lists.{live};
 ghost use Rattle.graph_store.specs.Store.{state_in, well_formed};
-ghost use Rattle.user_actions.specs.Good.{AreWellFormed};
+ghost use Rattle.user_actions.specs.Good.{AreWellFormed, AreOpening};
 ghost use Rattle.user_actions.specs.Lists.{ArePresent};
 
 use super::*;
 use child_index::ChildIndex;
 use edge_lattice::State;
 use graph_store::GraphStore;
-use grove_edits::{ActFault, Action, Answer, Edge, Edit, Place, Vertex};
+use grove_edits::{ActFault, Action, Answer, Edge, Edit, EditList, Place, Vertex};
 use grove_names::Name;
 use grove_sorts::{Ctor, Position, Sort};
+use live_graph::LiveGraph;
 use parent_index::ParentIndex;
 use std::alloc::Global;
 use std::test::Fail;
@@ -103,8 +104,32 @@ fn opening_set(alloc: Global, store: &GraphStore) -> Result<OpeningSet, NoMemory
     }
 }
 
-// What is planned on the graph of some edges, in a block that opened before the later ones came. Where there was no memory it is
-// planned again, so that one refused allocation, whichever it is, changes no answer.
+// What is planned on the graph of a view. Where there was no memory it is planned again, so that one refused allocation, whichever it
+// is, changes no answer.
+fn planned_on<V: PlanView>(
+    alloc: Global,
+    view: &V,
+    author: u32,
+    action: &Action,
+) -> Result<Result<Plan, ActFault>, Fail>
+    requires author { 0 < author }
+    requires well_formed { AreWellFormed (V.states view.now) }
+    requires opening { AreOpening (V.states view.now) (V.opening view.now) }
+    requires children { AreLive (V.states view.now) (V.children view.now) }
+    requires parents { AreLive (V.states view.now) (V.live view.now) }
+{
+    let mut answer = plan(alloc, view, author, action);
+    if let Err(PlanFault::NoMemory) = answer {
+        answer = plan(alloc, view, author, action);
+    }
+    match answer {
+        Ok(plan) => Ok(Ok(plan)),
+        Err(PlanFault::Refused(fault)) => Ok(Err(fault)),
+        Err(PlanFault::NoMemory) => Err("out of memory twice".into()),
+    }
+}
+
+// What is planned on the graph of some edges, in a block that opened before the later ones came.
 fn planned_in_block(
     alloc: Global,
     opened: &[Edge],
@@ -126,15 +151,7 @@ fn planned_in_block(
         children: &children,
         parents: &parents,
     };
-    let mut answer = plan(alloc, &view, author, action);
-    if let Err(PlanFault::NoMemory) = answer {
-        answer = plan(alloc, &view, author, action);
-    }
-    match answer {
-        Ok(plan) => Ok(Ok(plan)),
-        Err(PlanFault::Refused(fault)) => Ok(Err(fault)),
-        Err(PlanFault::NoMemory) => Err("out of memory twice".into()),
-    }
+    planned_on(alloc, &view, author, action)
 }
 
 // The same where nothing came in the block.
@@ -466,6 +483,58 @@ fn a_cut_takes_the_edges_that_the_block_opened_with(rt: HostRuntime) -> Result<(
             assert_eq!(rt; *edit, Edit::delete(*edge)?);
         }
     }
+    Ok(())
+}
+
+// The set of no edges. Where there was no memory it is made again.
+fn empty_set(alloc: Global) -> Result<OpeningSet, NoMemory>
+    ensures empty { IfOk result (λ set. set ≡ []) }
+{
+    let edits = EditList::new(alloc);
+    match OpeningSet::of_list(alloc, &edits) {
+        Ok(set) => Ok(set),
+        Err(NoMemory) => OpeningSet::of_list(alloc, &edits),
+    }
+}
+
+// What is planned on a live graph of no edges.
+fn planned_on_live(
+    alloc: Global,
+    author: u32,
+    action: &Action,
+) -> Result<Result<Plan, ActFault>, Fail>
+    requires { 0 < author }
+{
+    let graph = LiveGraph::new(alloc);
+    let opening = empty_set(alloc)?;
+    let view = LiveView {
+        graph: &graph,
+        opening: &opening,
+    };
+    planned_on(alloc, &view, author, action)
+}
+
+#[test]
+fn a_live_graph_is_planned_on(rt: HostRuntime) -> Result<(), Fail> {
+    let construct = Action::Construct {
+        place: place(0, 0, Position::Main),
+        ctor: Ctor::Num(7),
+    };
+    let Ok(made) = planned_on_live(rt.alloc(), 1, &construct)? else {
+        return Err("the number is refused".into());
+    };
+    let new = edge(
+        1,
+        2,
+        Vertex::ROOT,
+        Position::Main,
+        vertex(1, 1, Ctor::Num(7)),
+    );
+    assert_eq!(rt; made.answer, Answer::Made { vertex: name(1, 1) });
+    assert_eq!(rt; made.edits.as_slice(), [Edit::insert(new)?].as_slice());
+    let cut = Action::Cut { edge: name(1, 2) };
+    let refused = planned_on_live(rt.alloc(), 1, &cut)?;
+    assert_eq!(rt; refused.err(), Some(ActFault::NoEdge { name: name(1, 2) }));
     Ok(())
 }
 

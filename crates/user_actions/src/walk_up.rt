@@ -3,9 +3,7 @@ ghost use Rattle.walks.specs.Walk.{above};
 ghost use Rattle.unicycle_roots.specs.Met.{leads_to};
 
 use grove_edits::{Vertex, is_same_vertex};
-use parent_index::ParentIndex;
-use std::marker::Brand;
-use std::sync::ledger::{Blank, Ledger};
+use std::sync::ledger::Ledger;
 use walks::{Few, ParentOf, Steps};
 
 /// The source of the one live parent edge, if there is exactly one.

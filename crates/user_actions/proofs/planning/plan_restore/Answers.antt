@@ -4,8 +4,6 @@ use Rattle.grove_sorts.specs.Ctor.{sort_of_ctor}
 use Rattle.grove_edits.specs.declared.vertex.Vertex.{Vertex}
 use Rattle.grove_edits.specs.declared.edge.Edge.{Edge}
 use Rattle.walks.specs.Live.{parents_of}
-use Rattle.graph_store.specs.Store.{state_in}
-use Rattle.edge_index.specs.Lists.{live}
 use Rattle.grove_edits.specs.declared.action.Action.TheVariants.{Restore}
 use Rattle.grove_edits.specs.declared.act_fault.ActFault.TheVariants.{Occupied, NotLoose}
 use Rattle.grove_edits.specs.declared.answer.Answer.TheVariants.{Moved}
@@ -23,110 +21,110 @@ use Rattle.user_actions.proofs.PlanLaws.{edits_here}
 use Rattle.user_actions.proofs.planning.plan_restore.Goals as goal
 
 pub returns-in_err-at : goal.returns-in_err-at
-returns-in_err-at c lists of =
-    refusal_is lists c.args.view.now.opening.now c.args.author (Restore c.args.vertex c.args.place) c.from_residual.result c.in_err-at.field-0.0 c.from_residual.ensures.1
-    (two_names_tell c.args.view.now.store.now lists of c.args.place.name c.args.vertex c.in_err-at.field-0.0 c.in_err-at.ensures.fault _)
+returns-in_err-at g c lists of =
+    refusal_is lists (g.V.PlanView.opening c.args.view.now) c.args.author (Restore c.args.vertex c.args.place) c.from_residual.result c.in_err-at.field-0.0 c.from_residual.ensures.1
+    (two_names_tell (g.V.PlanView.states c.args.view.now) lists of c.args.place.name c.args.vertex c.in_err-at.field-0.0 c.in_err-at.ensures.fault _)
 
 pub returns-in_err-wanted : goal.returns-in_err-wanted
-returns-in_err-wanted c lists of =
+returns-in_err-wanted g c lists of =
     let action = Restore c.args.vertex c.args.place in
     let v = c.in_ok-at.at in
     let m = c.in_ok-at.moved in
-    let only = only_from c.args.view.now.store.now lists of c.args.place.name v c.in_ok-at.ensures.first in
-    let other = only_from c.args.view.now.store.now lists of c.args.vertex m c.in_ok-at.ensures.second in
+    let only = only_from (g.V.PlanView.states c.args.view.now) lists of c.args.place.name v c.in_ok-at.ensures.first in
+    let other = only_from (g.V.PlanView.states c.args.view.now) lists of c.args.vertex m c.in_ok-at.ensures.second in
     let named = vertex_named_is lists c.args.vertex m other in
-    let rows = two_names_one c.args.view.now.store.now lists of c.args.place.name c.args.vertex v m only other (action_rows lists c.args.view.now.opening.now c.args.author action c.args.place v) ∙ rows_are lists c.args.view.now.opening.now c.args.author action c.args.place v refl only in
-    refusal_is lists c.args.view.now.opening.now c.args.author (Restore c.args.vertex c.args.place) c.from_residual-in_err-wanted.result c.in_err-wanted.field-0.0 c.from_residual-in_err-wanted.ensures.1
+    let rows = two_names_one (g.V.PlanView.states c.args.view.now) lists of c.args.place.name c.args.vertex v m only other (action_rows lists (g.V.PlanView.opening c.args.view.now) c.args.author action c.args.place v) ∙ rows_are lists (g.V.PlanView.opening c.args.view.now) c.args.author action c.args.place v refl only in
+    refusal_is lists (g.V.PlanView.opening c.args.view.now) c.args.author (Restore c.args.vertex c.args.place) c.from_residual-in_err-wanted.result c.in_err-wanted.field-0.0 c.from_residual-in_err-wanted.ensures.1
     (rows ∙ stop _ _ c.in_err-wanted.field-0.0 c.in_err-wanted.ensures.fault)
 
 pub returns-in_err-check_sort : goal.returns-in_err-check_sort
-returns-in_err-check_sort c lists of =
+returns-in_err-check_sort g c lists of =
     let action = Restore c.args.vertex c.args.place in
     let v = c.in_ok-at.at in
     let m = c.in_ok-at.moved in
-    let only = only_from c.args.view.now.store.now lists of c.args.place.name v c.in_ok-at.ensures.first in
-    let other = only_from c.args.view.now.store.now lists of c.args.vertex m c.in_ok-at.ensures.second in
+    let only = only_from (g.V.PlanView.states c.args.view.now) lists of c.args.place.name v c.in_ok-at.ensures.first in
+    let other = only_from (g.V.PlanView.states c.args.view.now) lists of c.args.vertex m c.in_ok-at.ensures.second in
     let named = vertex_named_is lists c.args.vertex m other in
-    let rows = two_names_one c.args.view.now.store.now lists of c.args.place.name c.args.vertex v m only other (action_rows lists c.args.view.now.opening.now c.args.author action c.args.place v) ∙ rows_are lists c.args.view.now.opening.now c.args.author action c.args.place v refl only in
+    let rows = two_names_one (g.V.PlanView.states c.args.view.now) lists of c.args.place.name c.args.vertex v m only other (action_rows lists (g.V.PlanView.opening c.args.view.now) c.args.author action c.args.place v) ∙ rows_are lists (g.V.PlanView.opening c.args.view.now) c.args.author action c.args.place v refl only in
     let own = ap (option_map (λ (w : Vertex). sort_of_ctor w.ctor)) named in
     let told = ap (other_sort (sort_at_place v c.args.place)) own ∙ sort_told (sort_at_place v c.args.place) c.in_ok-wanted.wanted c.sort_of.result (sort_of_ctor m.ctor) (Some c.in_err-check_sort.field-0.0) c.in_ok-wanted.ensures.sort c.sort_of.ensures c.in_err-check_sort.ensures.fault in
-    refusal_is lists c.args.view.now.opening.now c.args.author (Restore c.args.vertex c.args.place) c.from_residual-in_err-check_sort.result c.in_err-check_sort.field-0.0 c.from_residual-in_err-check_sort.ensures.1
+    refusal_is lists (g.V.PlanView.opening c.args.view.now) c.args.author (Restore c.args.vertex c.args.place) c.from_residual-in_err-check_sort.result c.in_err-check_sort.field-0.0 c.from_residual-in_err-check_sort.ensures.1
     (rows ∙ skip _ _ c.in_ok-wanted.ensures.fault ∙ stop _ _ c.in_err-check_sort.field-0.0 told)
 
 pub returns-in_err-check_free : goal.returns-in_err-check_free
-returns-in_err-check_free c lists of =
+returns-in_err-check_free g c lists of =
     let action = Restore c.args.vertex c.args.place in
     let v = c.in_ok-at.at in
     let m = c.in_ok-at.moved in
-    let only = only_from c.args.view.now.store.now lists of c.args.place.name v c.in_ok-at.ensures.first in
-    let other = only_from c.args.view.now.store.now lists of c.args.vertex m c.in_ok-at.ensures.second in
+    let only = only_from (g.V.PlanView.states c.args.view.now) lists of c.args.place.name v c.in_ok-at.ensures.first in
+    let other = only_from (g.V.PlanView.states c.args.view.now) lists of c.args.vertex m c.in_ok-at.ensures.second in
     let named = vertex_named_is lists c.args.vertex m other in
-    let rows = two_names_one c.args.view.now.store.now lists of c.args.place.name c.args.vertex v m only other (action_rows lists c.args.view.now.opening.now c.args.author action c.args.place v) ∙ rows_are lists c.args.view.now.opening.now c.args.author action c.args.place v refl only in
+    let rows = two_names_one (g.V.PlanView.states c.args.view.now) lists of c.args.place.name c.args.vertex v m only other (action_rows lists (g.V.PlanView.opening c.args.view.now) c.args.author action c.args.place v) ∙ rows_are lists (g.V.PlanView.opening c.args.view.now) c.args.author action c.args.place v refl only in
     let own = ap (option_map (λ (w : Vertex). sort_of_ctor w.ctor)) named in
     let sorted = ap (other_sort (sort_at_place v c.args.place)) own ∙ sort_told (sort_at_place v c.args.place) c.in_ok-wanted.wanted c.sort_of.result (sort_of_ctor m.ctor) None c.in_ok-wanted.ensures.sort c.sort_of.ensures c.in_ok-check_sort.ensures.fault in
-    let es = edges_are c.args.view.now.store.now lists (live c.args.view.now.children.now) c.edges_at.result.now v c.args.place of c.requires.live_children c.edges_at.ensures in
-    refusal_is lists c.args.view.now.opening.now c.args.author (Restore c.args.vertex c.args.place) c.from_residual-in_err-check_free.result c.in_err-check_free.field-0.0 c.from_residual-in_err-check_free.ensures.1
+    let es = edges_are (g.V.PlanView.states c.args.view.now) lists (g.V.PlanView.children c.args.view.now) v c.args.place of c.requires.live_children in
+    refusal_is lists (g.V.PlanView.opening c.args.view.now) c.args.author (Restore c.args.vertex c.args.place) c.from_residual-in_err-check_free.result c.in_err-check_free.field-0.0 c.from_residual-in_err-check_free.ensures.1
     (rows ∙ skip _ _ c.in_ok-wanted.ensures.fault ∙ skip _ _ sorted ∙ stop _ _ c.in_err-check_free.field-0.0 (ap (λ (xs : List Edge). option_map Occupied (slice_get xs 0)) (sym es) ∙ c.in_err-check_free.ensures))
 
 pub returns-in_err-check_apart : goal.returns-in_err-check_apart
-returns-in_err-check_apart c lists of =
+returns-in_err-check_apart g c lists of =
     let action = Restore c.args.vertex c.args.place in
     let v = c.in_ok-at.at in
     let m = c.in_ok-at.moved in
-    let only = only_from c.args.view.now.store.now lists of c.args.place.name v c.in_ok-at.ensures.first in
-    let other = only_from c.args.view.now.store.now lists of c.args.vertex m c.in_ok-at.ensures.second in
+    let only = only_from (g.V.PlanView.states c.args.view.now) lists of c.args.place.name v c.in_ok-at.ensures.first in
+    let other = only_from (g.V.PlanView.states c.args.view.now) lists of c.args.vertex m c.in_ok-at.ensures.second in
     let named = vertex_named_is lists c.args.vertex m other in
-    let rows = two_names_one c.args.view.now.store.now lists of c.args.place.name c.args.vertex v m only other (action_rows lists c.args.view.now.opening.now c.args.author action c.args.place v) ∙ rows_are lists c.args.view.now.opening.now c.args.author action c.args.place v refl only in
+    let rows = two_names_one (g.V.PlanView.states c.args.view.now) lists of c.args.place.name c.args.vertex v m only other (action_rows lists (g.V.PlanView.opening c.args.view.now) c.args.author action c.args.place v) ∙ rows_are lists (g.V.PlanView.opening c.args.view.now) c.args.author action c.args.place v refl only in
     let own = ap (option_map (λ (w : Vertex). sort_of_ctor w.ctor)) named in
     let sorted = ap (other_sort (sort_at_place v c.args.place)) own ∙ sort_told (sort_at_place v c.args.place) c.in_ok-wanted.wanted c.sort_of.result (sort_of_ctor m.ctor) None c.in_ok-wanted.ensures.sort c.sort_of.ensures c.in_ok-check_sort.ensures.fault in
-    let es = edges_are c.args.view.now.store.now lists (live c.args.view.now.children.now) c.edges_at.result.now v c.args.place of c.requires.live_children c.edges_at.ensures in
+    let es = edges_are (g.V.PlanView.states c.args.view.now) lists (g.V.PlanView.children c.args.view.now) v c.args.place of c.requires.live_children in
     let free = ap (λ (xs : List Edge). option_map Occupied (slice_get xs 0)) (sym es) ∙ c.in_ok-check_free.ensures in
-    let same = live_is c.args.view.now.store.now lists (live c.args.view.now.parents.now) of c.requires.live_parents in
+    let same = live_is (g.V.PlanView.states c.args.view.now) lists (g.V.ParentOf.live c.args.view.now) of c.requires.live_parents in
     let apart = ap (below_itself lists.live v) named ∙ ap (λ xs. below_itself xs v (Some m)) (sym same) ∙ c.in_err-check_apart.ensures in
-    refusal_is lists c.args.view.now.opening.now c.args.author (Restore c.args.vertex c.args.place) c.from_residual-in_err-check_apart.result c.in_err-check_apart.field-0.0 c.from_residual-in_err-check_apart.ensures.1
+    refusal_is lists (g.V.PlanView.opening c.args.view.now) c.args.author (Restore c.args.vertex c.args.place) c.from_residual-in_err-check_apart.result c.in_err-check_apart.field-0.0 c.from_residual-in_err-check_apart.ensures.1
     (rows ∙ skip _ _ c.in_ok-wanted.ensures.fault ∙ skip _ _ sorted ∙ skip _ _ free ∙ stop _ _ c.in_err-check_apart.field-0.0 apart)
 
 pub returns-in_err-check_loose : goal.returns-in_err-check_loose
-returns-in_err-check_loose c lists of =
+returns-in_err-check_loose g c lists of =
     let action = Restore c.args.vertex c.args.place in
     let v = c.in_ok-at.at in
     let m = c.in_ok-at.moved in
-    let only = only_from c.args.view.now.store.now lists of c.args.place.name v c.in_ok-at.ensures.first in
-    let other = only_from c.args.view.now.store.now lists of c.args.vertex m c.in_ok-at.ensures.second in
+    let only = only_from (g.V.PlanView.states c.args.view.now) lists of c.args.place.name v c.in_ok-at.ensures.first in
+    let other = only_from (g.V.PlanView.states c.args.view.now) lists of c.args.vertex m c.in_ok-at.ensures.second in
     let named = vertex_named_is lists c.args.vertex m other in
-    let rows = two_names_one c.args.view.now.store.now lists of c.args.place.name c.args.vertex v m only other (action_rows lists c.args.view.now.opening.now c.args.author action c.args.place v) ∙ rows_are lists c.args.view.now.opening.now c.args.author action c.args.place v refl only in
+    let rows = two_names_one (g.V.PlanView.states c.args.view.now) lists of c.args.place.name c.args.vertex v m only other (action_rows lists (g.V.PlanView.opening c.args.view.now) c.args.author action c.args.place v) ∙ rows_are lists (g.V.PlanView.opening c.args.view.now) c.args.author action c.args.place v refl only in
     let own = ap (option_map (λ (w : Vertex). sort_of_ctor w.ctor)) named in
     let sorted = ap (other_sort (sort_at_place v c.args.place)) own ∙ sort_told (sort_at_place v c.args.place) c.in_ok-wanted.wanted c.sort_of.result (sort_of_ctor m.ctor) None c.in_ok-wanted.ensures.sort c.sort_of.ensures c.in_ok-check_sort.ensures.fault in
-    let es = edges_are c.args.view.now.store.now lists (live c.args.view.now.children.now) c.edges_at.result.now v c.args.place of c.requires.live_children c.edges_at.ensures in
+    let es = edges_are (g.V.PlanView.states c.args.view.now) lists (g.V.PlanView.children c.args.view.now) v c.args.place of c.requires.live_children in
     let free = ap (λ (xs : List Edge). option_map Occupied (slice_get xs 0)) (sym es) ∙ c.in_ok-check_free.ensures in
-    let same = live_is c.args.view.now.store.now lists (live c.args.view.now.parents.now) of c.requires.live_parents in
+    let same = live_is (g.V.PlanView.states c.args.view.now) lists (g.V.ParentOf.live c.args.view.now) of c.requires.live_parents in
     let apart = ap (below_itself lists.live v) named ∙ ap (λ xs. below_itself xs v (Some m)) (sym same) ∙ c.in_ok-check_apart.ensures in
     let loose = ap (λ o. of_vertex o None (λ w. option_map NotLoose (slice_get (parents_of w lists.live) 0))) named ∙ ap (λ xs. option_map NotLoose (slice_get (parents_of m xs) 0)) (sym same) ∙ c.in_err-check_loose.ensures in
-    refusal_is lists c.args.view.now.opening.now c.args.author (Restore c.args.vertex c.args.place) c.from_residual-in_err-check_loose.result c.in_err-check_loose.field-0.0 c.from_residual-in_err-check_loose.ensures.1
+    refusal_is lists (g.V.PlanView.opening c.args.view.now) c.args.author (Restore c.args.vertex c.args.place) c.from_residual-in_err-check_loose.result c.in_err-check_loose.field-0.0 c.from_residual-in_err-check_loose.ensures.1
     (rows ∙ skip _ _ c.in_ok-wanted.ensures.fault ∙ skip _ _ sorted ∙ skip _ _ free ∙ skip _ _ apart ∙ stop _ _ c.in_err-check_loose.field-0.0 loose)
 
 pub returns-in_err-names : goal.returns-in_err-names
-returns-in_err-names c lists of =
+returns-in_err-names g c lists of =
     let action = Restore c.args.vertex c.args.place in
     let v = c.in_ok-at.at in
     let m = c.in_ok-at.moved in
-    let only = only_from c.args.view.now.store.now lists of c.args.place.name v c.in_ok-at.ensures.first in
-    let other = only_from c.args.view.now.store.now lists of c.args.vertex m c.in_ok-at.ensures.second in
+    let only = only_from (g.V.PlanView.states c.args.view.now) lists of c.args.place.name v c.in_ok-at.ensures.first in
+    let other = only_from (g.V.PlanView.states c.args.view.now) lists of c.args.vertex m c.in_ok-at.ensures.second in
     let named = vertex_named_is lists c.args.vertex m other in
-    let rows = two_names_one c.args.view.now.store.now lists of c.args.place.name c.args.vertex v m only other (action_rows lists c.args.view.now.opening.now c.args.author action c.args.place v) ∙ rows_are lists c.args.view.now.opening.now c.args.author action c.args.place v refl only in
+    let rows = two_names_one (g.V.PlanView.states c.args.view.now) lists of c.args.place.name c.args.vertex v m only other (action_rows lists (g.V.PlanView.opening c.args.view.now) c.args.author action c.args.place v) ∙ rows_are lists (g.V.PlanView.opening c.args.view.now) c.args.author action c.args.place v refl only in
     let own = ap (option_map (λ (w : Vertex). sort_of_ctor w.ctor)) named in
     let sorted = ap (other_sort (sort_at_place v c.args.place)) own ∙ sort_told (sort_at_place v c.args.place) c.in_ok-wanted.wanted c.sort_of.result (sort_of_ctor m.ctor) None c.in_ok-wanted.ensures.sort c.sort_of.ensures c.in_ok-check_sort.ensures.fault in
-    let es = edges_are c.args.view.now.store.now lists (live c.args.view.now.children.now) c.edges_at.result.now v c.args.place of c.requires.live_children c.edges_at.ensures in
+    let es = edges_are (g.V.PlanView.states c.args.view.now) lists (g.V.PlanView.children c.args.view.now) v c.args.place of c.requires.live_children in
     let free = ap (λ (xs : List Edge). option_map Occupied (slice_get xs 0)) (sym es) ∙ c.in_ok-check_free.ensures in
-    let same = live_is c.args.view.now.store.now lists (live c.args.view.now.parents.now) of c.requires.live_parents in
+    let same = live_is (g.V.PlanView.states c.args.view.now) lists (g.V.ParentOf.live c.args.view.now) of c.requires.live_parents in
     let apart = ap (below_itself lists.live v) named ∙ ap (λ xs. below_itself xs v (Some m)) (sym same) ∙ c.in_ok-check_apart.ensures in
     let loose = ap (λ o. of_vertex o None (λ w. option_map NotLoose (slice_get (parents_of w lists.live) 0))) named ∙ ap (λ xs. option_map NotLoose (slice_get (parents_of m xs) 0)) (sym same) ∙ c.in_ok-check_loose.ensures in
-    let spent = names_told c.args.view.now.store.now lists c.args.author action 1 c.in_err-names.field-0.0 of c.in_err-names.ensures.spent refl (omega arith) in
-    refusal_is lists c.args.view.now.opening.now c.args.author (Restore c.args.vertex c.args.place) c.from_residual-in_err-names.result c.in_err-names.field-0.0 c.from_residual-in_err-names.ensures.1
+    let spent = names_told (g.V.PlanView.states c.args.view.now) lists c.args.author action 1 c.in_err-names.field-0.0 of c.in_err-names.ensures.spent refl (omega arith) in
+    refusal_is lists (g.V.PlanView.opening c.args.view.now) c.args.author (Restore c.args.vertex c.args.place) c.from_residual-in_err-names.result c.in_err-names.field-0.0 c.from_residual-in_err-names.ensures.1
     (rows ∙ skip _ _ c.in_ok-wanted.ensures.fault ∙ skip _ _ sorted ∙ skip _ _ free ∙ skip _ _ apart ∙ skip _ _ loose ∙ stop (names_spent lists c.args.author action) [] c.in_err-names.field-0.0 spent)
 
 pub insert-requires : goal.insert-requires
-insert-requires c =
+insert-requires g c =
     let v = c.in_ok-at.at in
     let m = c.in_ok-at.moved in
     let author : 0 < c.in_ok-names.names.author = subst (λ n. 0 < n) (sym c.in_ok-names.ensures.author) c.requires.is_author in
@@ -136,29 +134,29 @@ insert-requires c =
     let e : Edge = record { name = c.name.result; source = v; position = c.args.place.position; target = m } in
     stands_well e name_author name_counter
     (record {
-      source = vertex_good (state_in c.args.view.now.store.now) c.requires.well_formed v c.in_ok-at.ensures.first.0.1;
-      target = vertex_good (state_in c.args.view.now.store.now) c.requires.well_formed m c.in_ok-at.ensures.second.0.1;
+      source = vertex_good (g.V.PlanView.states c.args.view.now) c.requires.well_formed v c.in_ok-at.ensures.first.0.1;
+      target = vertex_good (g.V.PlanView.states c.args.view.now) c.requires.well_formed m c.in_ok-at.ensures.second.0.1;
       sort = sort;
     })
 
 pub returns : goal.returns
-returns c lists of =
+returns g c lists of =
     let action = Restore c.args.vertex c.args.place in
     let v = c.in_ok-at.at in
     let m = c.in_ok-at.moved in
-    let only = only_from c.args.view.now.store.now lists of c.args.place.name v c.in_ok-at.ensures.first in
-    let other = only_from c.args.view.now.store.now lists of c.args.vertex m c.in_ok-at.ensures.second in
+    let only = only_from (g.V.PlanView.states c.args.view.now) lists of c.args.place.name v c.in_ok-at.ensures.first in
+    let other = only_from (g.V.PlanView.states c.args.view.now) lists of c.args.vertex m c.in_ok-at.ensures.second in
     let named = vertex_named_is lists c.args.vertex m other in
-    let rows = two_names_one c.args.view.now.store.now lists of c.args.place.name c.args.vertex v m only other (action_rows lists c.args.view.now.opening.now c.args.author action c.args.place v) ∙ rows_are lists c.args.view.now.opening.now c.args.author action c.args.place v refl only in
+    let rows = two_names_one (g.V.PlanView.states c.args.view.now) lists of c.args.place.name c.args.vertex v m only other (action_rows lists (g.V.PlanView.opening c.args.view.now) c.args.author action c.args.place v) ∙ rows_are lists (g.V.PlanView.opening c.args.view.now) c.args.author action c.args.place v refl only in
     let own = ap (option_map (λ (w : Vertex). sort_of_ctor w.ctor)) named in
     let sorted = ap (other_sort (sort_at_place v c.args.place)) own ∙ sort_told (sort_at_place v c.args.place) c.in_ok-wanted.wanted c.sort_of.result (sort_of_ctor m.ctor) None c.in_ok-wanted.ensures.sort c.sort_of.ensures c.in_ok-check_sort.ensures.fault in
-    let es = edges_are c.args.view.now.store.now lists (live c.args.view.now.children.now) c.edges_at.result.now v c.args.place of c.requires.live_children c.edges_at.ensures in
+    let es = edges_are (g.V.PlanView.states c.args.view.now) lists (g.V.PlanView.children c.args.view.now) v c.args.place of c.requires.live_children in
     let free = ap (λ (xs : List Edge). option_map Occupied (slice_get xs 0)) (sym es) ∙ c.in_ok-check_free.ensures in
-    let same = live_is c.args.view.now.store.now lists (live c.args.view.now.parents.now) of c.requires.live_parents in
+    let same = live_is (g.V.PlanView.states c.args.view.now) lists (g.V.ParentOf.live c.args.view.now) of c.requires.live_parents in
     let apart = ap (below_itself lists.live v) named ∙ ap (λ xs. below_itself xs v (Some m)) (sym same) ∙ c.in_ok-check_apart.ensures in
     let loose = ap (λ o. of_vertex o None (λ w. option_map NotLoose (slice_get (parents_of w lists.live) 0))) named ∙ ap (λ xs. option_map NotLoose (slice_get (parents_of m xs) 0)) (sym same) ∙ c.in_ok-check_loose.ensures in
-    let fits = names_fit c.args.view.now.store.now lists c.args.author action c.in_ok-names.names.greatest 1 of c.in_ok-names.ensures.greatest refl c.in_ok-names.ensures.fits in
-    let greatest = greatest_is (state_in c.args.view.now.store.now) lists of c.args.author c.in_ok-names.names.greatest c.in_ok-names.ensures.greatest in
+    let fits = names_fit (g.V.PlanView.states c.args.view.now) lists c.args.author action c.in_ok-names.names.greatest 1 of c.in_ok-names.ensures.greatest refl c.in_ok-names.ensures.fits in
+    let greatest = greatest_is (g.V.PlanView.states c.args.view.now) lists of c.args.author c.in_ok-names.names.greatest c.in_ok-names.ensures.greatest in
     let name = name_is c.name.result c.args.author (greatest_counter lists c.args.author) 1 (c.name.ensures.author ∙ c.in_ok-names.ensures.author) (c.name.ensures.counter ∙ ap (λ n. n + 1) (sym greatest)) in
     record {
       no_fault = rows ∙ skip _ _ c.in_ok-wanted.ensures.fault ∙ skip _ _ sorted ∙ skip _ _ free ∙ skip _ _ apart ∙ skip _ _ loose ∙ skip (names_spent lists c.args.author action) [] fits;
