@@ -14,7 +14,7 @@ use Rattle.grove_edits.specs.Graph.{is_same_edge}
 use Rattle.grove_edits.proofs.Orders.{one_edge, same_edge_laws}
 use Rattle.walks.specs.Live.{holds_edge}
 use Rattle.edge_lists.specs.Ordered.{put_before, without_edge}
-use Rattle.edge_lists.proofs.EdgeOrder.{holds-filter}
+use Rattle.edge_lists.proofs.Ordered.{holds-filter}
 use Rattle.edge_numbers.specs.Numbered.{Numbered, edges_of, edge_at, state_at, state_in, with_state, IsEdgeNumber, IsNumberOfVertex}
 use Rattle.edge_numbers.proofs.States.{state_numbered}
 use Rattle.edge_lists.specs.Lists.{Listed, listed_at, numbers_at, places_at, edges_at, holds_number, without_number, AreEdgeNumbers, HasVertex, HasFreePlace, KeepsOthers}

@@ -9,7 +9,7 @@ use Rattle.grove_edits.specs.Graph.{is_same_edge}
 use Rattle.grove_edits.proofs.Orders.{one_edge, same_edge_laws}
 use Rattle.walks.specs.Live.{IsInEdgeOrder, holds_edge}
 use Rattle.edge_lists.specs.Ordered.{with_edge}
-use Rattle.edge_lists.proofs.EdgeOrder.{holds-with_edge, in_order-with_edge}
+use Rattle.edge_lists.proofs.Ordered.{holds-with_edge, in_order-with_edge}
 use Rattle.edge_numbers.specs.Numbered.{Entries, edges_of, state_in, with_entry}
 use Rattle.live_graph.specs.Live.{is_live, live}
 
