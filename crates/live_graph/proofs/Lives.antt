@@ -3,11 +3,13 @@ use Rattle.std.proofs.Common.{◌≡◌, Bool, true, false, cond, [], ◌∷◌,
 use Rattle.std.specs.Prelude.{◌||◌, unwrap_or}
 use Rattle.std.specs.List.{AllByRecursion, IsDistinct, list_any}
 use Rattle.std.specs.Map.{lookup}
-use Rattle.edge_lattice.specs.declared.state.State.TheVariants.{Absent}
+use Rattle.edge_lattice.specs.declared.state.State.{State}
+use Rattle.edge_lattice.specs.declared.state.State.TheVariants.{Absent, Live, Deleted}
 use Rattle.grove_edits.specs.declared.edge.Edge.{Edge}
 use Rattle.grove_edits.specs.Graph.{is_same_edge}
 use Rattle.grove_edits.proofs.Orders.{one_edge, same_edge_laws}
 use Rattle.walks.specs.Live.{IsInEdgeOrder, holds_edge}
+use Rattle.walks.specs.Whole.{AreLive}
 use Rattle.edge_lists.specs.Ordered.{with_edge}
 use Rattle.edge_lists.proofs.Ordered.{holds-with_edge, in_order-with_edge}
 use Rattle.edge_numbers.specs.Numbered.{Entries, edges_of, state_in, with_entry}
@@ -57,3 +59,17 @@ live-entered e entries = by_test (list_any (is_same_edge e) (edges_of entries)) 
   by_test : (b : Bool) → live (cond b entries (entries ++ (e, Absent) ∷ [])) ≡ live entries
   by_test true = refl
   by_test false = live-push e entries
+
+-- ---- all that is live
+
+live_from_test : (s : State) → is_live s ≡ true → s ≡ Live
+live_from_test Absent h = absurd cc
+live_from_test Live h = refl
+live_from_test Deleted h = absurd cc
+
+pub are_live : (entries : Entries) → IsDistinct is_same_edge (edges_of entries) → AreLive (state_in entries) (live entries)
+are_live entries once = record {
+  in_order = in_order-live entries;
+  each = λ e is. holds-live entries e once ∙ ap is_live is;
+  no_other = λ e held. live_from_test (state_in entries e) (sym (holds-live entries e once) ∙ held);
+}

@@ -5,7 +5,7 @@ ghost use Rattle.grove_edits.specs.declared.edit.Edit.{Edit};
 ghost use Rattle.grove_edits.specs.Edit.{edit_edge, edit_kind};
 ghost use Rattle.grove_edits.specs.Graph.{IsSame, IsCanonical, graph, graph_join, state_of};
 ghost use Rattle.walks.specs.Live.{IsInEdgeOrder, children_of, parents_of};
-ghost use Rattle.walks.specs.Whole.{AreVertices};
+ghost use Rattle.walks.specs.Whole.{AreLive, AreVertices};
 ghost use Rattle.edge_numbers.specs.Numbered.{state_in, with_state, HasRoom, KeepsRoom};
 ghost use Rattle.live_graph.specs.Change.{IsChange};
 ghost use Rattle.live_graph.specs.Greatest.{IsGreatest, IsNameOf};
@@ -93,6 +93,14 @@ impl LiveGraph {
     /// The seed of its hashes, for what else is found by vertices or edges.
     pub fn seed(&self) -> HashSeed {
         self.edges.seed()
+    }
+
+    /// How many edges have numbers, which are those below. The live edges are those whose state is Live.
+    pub fn edge_count(&self) -> usize
+        ensures count { result ≡ length self.now }
+        ensures live { AreLive (state_in self.now) (live self.now) }
+    {
+        self.edges.edge_count()
     }
 
     /// The state of an edge.
