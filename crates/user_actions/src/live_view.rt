@@ -51,9 +51,10 @@ fn all_edges(alloc: Global, edges: &Edges<'_>) -> Result<Vec<Edge>, NoMemory>
 {
     let mut list = Vec::with_capacity(alloc, edges.len())?;
     for index in 0..edges.len() {
-        if let Some(edge) = edges.get(index) {
-            list.push(edge)?;
-        }
+        let Some(edge) = edges.get(index) else {
+            continue;
+        };
+        list.push(edge)?;
     }
     Ok(list)
 }
