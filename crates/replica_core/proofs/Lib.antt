@@ -3,13 +3,11 @@ pub mod AsEdits
 pub mod StoredLists
 pub mod ListsOf
 pub mod PlansTold
-pub mod LiveChanges
-pub mod Rooms
 pub mod Contents
 pub mod MarkingCosts
 pub mod OneRecord
-pub mod Standing
-pub mod Keeping
-pub mod MarksTaken
-pub mod Raising
 pub mod News
+pub mod Numbers
+pub mod Keeping
+pub mod Showing
+pub mod MarksSeen

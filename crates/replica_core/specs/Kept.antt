@@ -1,20 +1,19 @@
--- How a replica is kept.
+-- How the graph of a replica and its opening edges are kept.
 use Rattle.std.specs.Prelude.{List}
 use Rattle.grove_edits.specs.declared.edge.Edge.{Edge}
-use Rattle.grove_edits.specs.Graph.{graph}
+use Rattle.grove_edits.specs.Graph.{graph, IsSame}
 use Rattle.walks.specs.Live.{IsInEdgeOrder}
+use Rattle.graph_store.specs.Store.{Entries, state_in}
 use Rattle.user_actions.specs.Good.{AreOpening}
-use Rattle.replica_core.specs.declared.live_graph.LiveGraph.{LiveGraph}
 use Rattle.replica_core.specs.Content.{Content}
-use Rattle.replica_core.specs.Indexes.{StandsFor}
 use Rattle.replica_core.specs.Stored.{edits_in}
 
--- what contracts see of a kept graph and opening edges
-abbrev pub content_of : LiveGraph → List Edge → Content
-content_of kept opening = record { edits = edits_in kept.store; opening = opening }
+-- what contracts see of the entries of a graph and opening edges
+abbrev pub content_of : Entries → List Edge → Content
+content_of entries opening = record { edits = edits_in entries; opening = opening }
 
--- the kept graph is that of its canonical list, and the opening edges stand in order and are still not Absent in it
-pub record IsKept (kept : LiveGraph) (opening : List Edge) : Type 0 where
-  pub stands : StandsFor (graph (edits_in kept.store)) kept
+-- the entries have the graph of their canonical list, and the opening edges stand in order and are still not Absent in it
+pub record IsKept (entries : Entries) (opening : List Edge) : Type 0 where
+  pub same : IsSame (state_in entries) (graph (edits_in entries))
   pub opening_in_order : IsInEdgeOrder opening
-  pub opening_known : AreOpening (graph (edits_in kept.store)) opening
+  pub opening_known : AreOpening (graph (edits_in entries)) opening

@@ -7,5 +7,7 @@ pub mod Step
 pub mod Cost
 pub mod Calls
 pub mod MarkingCost
-pub mod Indexes
+pub mod Shown
+pub mod Taking
 pub mod Kept
+pub mod MarksKept

@@ -3,13 +3,15 @@
 //! For live editors there is a replica that keeps the marks of its graph from edit to edit.
 #![tactic(auto)]
 
+mod indexed_graph;
 mod laws;
-mod live_change;
-mod live_graph;
 mod machine;
 mod marked;
 mod no_memory;
+mod planning;
 mod replica;
+mod taking;
+mod texts;
 
 pub use laws::{
     a_journal_takes_its_edits, an_authors_step_is_the_plan, an_edit_costs_by_its_size,

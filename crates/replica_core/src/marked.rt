@@ -1,17 +1,24 @@
-ghost use Rattle.std.specs.Prelude.{◌≡◌, ◌+◌, ◌<◌, ◌≤◌, [], ◌∷◌, IfOk, OnOk, OnErr};
+ghost use Rattle.std.specs.Prelude.{◌≡◌, ◌+◌, ◌<◌, ◌≤◌, ℕ, [], ◌∷◌, ◌++◌, List, IfOk, OnOk, OnErr};
 ghost use Rattle.grove_edits.specs.declared.act_fault.ActFault.{ActFault};
 ghost use Rattle.grove_edits.specs.declared.answer.Answer.{Answer};
-ghost use Rattle.grove_edits.specs.Graph.{graph};
+ghost use Rattle.grove_edits.specs.Graph.{graph, IsCanonical};
+ghost use Rattle.graph_store.specs.Store.{state_in};
+ghost use Rattle.edge_index.specs.Lists.{live};
 ghost use Rattle.user_actions.specs.Plan.{IsPlan};
+ghost use Rattle.grove_answers.specs.Texts.{IsPrintText, IsCanonicalText};
 ghost use Rattle.mark_incremental.specs.Standing.{KeptMarks, StandFor, kept_in};
-ghost use Rattle.replica_core.specs.Content.{no_edits, with_taken, with_block};
+ghost use Rattle.replica_core.specs.Content.{IsContent, no_edits, with_taken, with_block};
 ghost use Rattle.replica_core.specs.Plain.{as_edits};
+ghost use Rattle.replica_core.specs.Shown.{Shows};
 ghost use Rattle.replica_core.specs.Step.{plan_of};
 ghost use Rattle.replica_core.specs.MarkingCost.{edit_marking_cost, edits_marking_cost};
 
+use crate::indexed_graph::IndexedGraph;
 use crate::no_memory::NoMemory;
-use crate::replica::Replica;
+use crate::planning::planned;
+use crate::texts::append_print_text;
 use ctx_table::CtxTable;
+use grove_answers::append_canonical_text;
 use grove_edits::{Action, Answer, Edit, EditList, Vertex};
 use mark_incremental::Marks;
 use mark_store::Record;
@@ -20,6 +27,7 @@ use std::alloc::Global;
 use std::marker::Model;
 use std::sync::ledger::Ledger;
 use type_core::TypeTable;
+use user_actions::{OpeningSet, View};
 use walks::Steps;
 
 /// A live replica with the marks of its graph, kept from edit to edit, for an editor that shows them as it goes. Contracts see it as the
@@ -27,20 +35,21 @@ use walks::Steps;
 /// marks that stand for one graph keep the same records. By which numbers they keep types and contexts is not seen.
 #[derive(Drop)]
 pub struct MarkedReplica {
-    replica: Replica,
+    graph: IndexedGraph,
+    opening: OpeningSet,
     marks: Marks,
 }
 
 impl Model for MarkedReplica {
-    ghost use Rattle.grove_edits.specs.Graph.{graph};
-    ghost use Rattle.mark_incremental.specs.Standing.{StandFor};
     ghost use Rattle.replica_core.specs.Content.{Content};
+    ghost use Rattle.replica_core.specs.Kept.{content_of};
+    ghost use Rattle.replica_core.specs.MarksKept.{AreMarksKept};
 
     ghost Value = { Content };
 
-    ghost view = { λ marked. marked.replica };
+    ghost view = { λ marked. content_of marked.graph.store marked.opening };
 
-    ghost invariant = { λ marked. StandFor (graph marked.replica.edits) marked.marks };
+    ghost invariant = { λ marked. AreMarksKept marked.graph marked.opening marked.marks };
 }
 
 impl MarkedReplica {
@@ -55,9 +64,14 @@ impl MarkedReplica {
     pub fn with_seed(alloc: Global, seed: HashSeed) -> Result<MarkedReplica, NoMemory>
         ensures empty { IfOk result (λ marked. marked ≡ no_edits) }
     {
-        let replica = Replica::with_seed(alloc, seed)?;
+        let graph = IndexedGraph::with_seed(alloc, seed);
+        let opening = OpeningSet::of_list(alloc, &EditList::new(alloc))?;
         let marks = Marks::with_seed(alloc, seed)?;
-        Ok(MarkedReplica { replica, marks })
+        Ok(MarkedReplica {
+            graph,
+            opening,
+            marks,
+        })
     }
 
     /// Opens a block: the opening edges are now those that are not Absent. The graph and its marks stay.
@@ -65,7 +79,9 @@ impl MarkedReplica {
         ensures opened { OnOk result (self.new ≡ with_block self.old) }
         ensures unchanged { OnErr result (self.new ≡ self.old) }
     {
-        self.replica.begin_block(alloc)
+        let edits = self.in_order(alloc)?;
+        self.opening = OpeningSet::of_list(alloc, &edits)?;
+        Ok(())
     }
 
     /// Takes an edit, and marks again what it concerns. What it asks is joined to the graph, so an edge that was deleted is not inserted
@@ -80,7 +96,7 @@ impl MarkedReplica {
         ensures unchanged { OnErr result (self.new ≡ self.old) }
         ensures bounded { steps.new ≤ steps.old + edit_marking_cost self.old edit.now }
     {
-        self.replica.take_marked(&[*edit], &mut self.marks, steps)
+        self.take(&[*edit], steps)
     }
 
     /// Takes edits, one after the other, all of them or none, and marks again what each concerns. Where memory runs out the graph and the
@@ -95,8 +111,7 @@ impl MarkedReplica {
         ensures unchanged { OnErr result (self.new ≡ self.old) }
         ensures bounded { steps.new ≤ steps.old + edits_marking_cost self.old edits.now }
     {
-        let edits = edits.as_slice();
-        self.replica.take_marked(edits, &mut self.marks, steps)
+        self.take(edits.as_slice(), steps)
     }
 
     /// Plans an author's action on the graph, and takes the edits of the plan. It answers them, and what the plan answers. An action that
@@ -117,16 +132,37 @@ impl MarkedReplica {
         ensures unchanged { OnErr result (self.new ≡ self.old) }
         ensures bounded { steps.new ≤ steps.old + edits_marking_cost self.old (as_edits (plan_of self.old author action.now).edits) }
     {
-        let (edits, answer) = self.replica().planned(alloc, author, action)?;
+        let (edits, answer) = planned(alloc, &self.view(), author, action)?;
         self.apply_all(alloc, &edits, steps)?;
         Ok((edits, answer))
     }
 
-    /// The replica without its marks, by which a caller prints.
-    pub fn replica(&self) -> &Replica
-        ensures { result.now ≡ self.now }
+    /// The canonical list of the graph.
+    pub fn in_order(&self, alloc: Global) -> Result<EditList, NoMemory>
+        ensures list { IfOk result (λ list. list ≡ self.now.edits) }
+        ensures canonical { IsCanonical (graph self.now.edits) self.now.edits }
+        ensures content { IsContent self.now }
     {
-        &self.replica
+        Ok(self.graph.store.in_order(alloc)?)
+    }
+
+    /// Appends the print text of the graph.
+    pub fn print(&self, alloc: Global, out: &mut Vec<u8>) -> Result<(), NoMemory>
+        ensures appended { OnOk result ((text : List ℕ) × IsPrintText (graph self.now.edits) text × (out.new.items ≡ out.old.items ++ text)) }
+        ensures unchanged { OnErr result (out.new.items ≡ out.old.items) }
+    {
+        let edits = self.in_order(alloc)?;
+        append_print_text(alloc, edits, self.graph.parents.seed(), out)
+    }
+
+    /// Appends the canonical text of the graph.
+    pub fn canonical(&self, alloc: Global, out: &mut Vec<u8>) -> Result<(), NoMemory>
+        ensures appended { OnOk result ((text : List ℕ) × IsCanonicalText (graph self.now.edits) text × (out.new.items ≡ out.old.items ++ text)) }
+        ensures unchanged { OnErr result (out.new.items ≡ out.old.items) }
+    {
+        let edits = self.in_order(alloc)?;
+        append_canonical_text(&edits, out)?;
+        Ok(())
     }
 
     /// The marks of the graph: the kept record of each vertex, by the numbers of their tables, is what marking the whole graph says of it,
@@ -157,5 +193,34 @@ impl MarkedReplica {
         ensures { (marks : KeptMarks) × StandFor (graph self.now.edits) marks × (result.now ≡ marks.contexts) }
     {
         self.marks.contexts()
+    }
+
+    /// What plans read.
+    pub(crate) fn view(&self) -> View<'_>
+        ensures { Shows (state_in result.store.now) (live result.children.now) (live result.parents.now) result.opening.now self.now }
+    {
+        View {
+            store: &self.graph.store,
+            opening: &self.opening,
+            children: &self.graph.children,
+            parents: &self.graph.parents,
+        }
+    }
+
+    // Takes edits, all of them or none, and marks again what each concerns.
+    fn take<L: Ledger>(&mut self, edits: &[Edit], steps: &mut Steps<L>) -> Result<(), NoMemory>
+        ensures taken { OnOk result (self.new ≡ with_taken edits.now self.old) }
+        ensures unchanged { OnErr result (self.new ≡ self.old) }
+        ensures bounded { steps.new ≤ steps.old + edits_marking_cost self.old edits.now }
+    {
+        let graph = &mut self.graph;
+        self.marks.apply_all(
+            edits,
+            &mut graph.store,
+            &mut graph.children,
+            &mut graph.parents,
+            steps,
+        )?;
+        Ok(())
     }
 }

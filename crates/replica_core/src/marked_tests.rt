@@ -201,7 +201,7 @@ fn text_once_sent(
 ) -> Result<(Answer, Vec<u8>), Fail> {
     let answer = sent_counting::<Brand>(alloc, &mut marked, edits, Blank::new(1))?;
     let mut text = Vec::new(alloc);
-    marked.replica().canonical(alloc, &mut text)?;
+    marked.canonical(alloc, &mut text)?;
     Ok((answer, text))
 }
 

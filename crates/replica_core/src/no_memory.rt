@@ -38,14 +38,8 @@ impl From<graph_store::NoMemory> for NoMemory {
     }
 }
 
-impl From<child_index::NoMemory> for NoMemory {
-    fn from(_error: child_index::NoMemory) -> NoMemory {
-        NoMemory
-    }
-}
-
-impl From<parent_index::NoMemory> for NoMemory {
-    fn from(_error: parent_index::NoMemory) -> NoMemory {
+impl From<live_graph::NoMemory> for NoMemory {
+    fn from(_error: live_graph::NoMemory) -> NoMemory {
         NoMemory
     }
 }

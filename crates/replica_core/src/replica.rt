@@ -1,26 +1,28 @@
-ghost use Rattle.std.specs.Prelude.{◌≡◌, ◌+◌, ◌<◌, ◌≤◌, ℕ, [], ◌∷◌, ◌++◌, List, map, IfOk, OnOk, OnErr};
+ghost use Rattle.std.specs.Prelude.{◌≡◌, ◌+◌, ◌<◌, ◌≤◌, ℕ, [], ◌∷◌, ◌++◌, List, IfOk, OnOk, OnErr};
 ghost use Rattle.grove_edits.specs.declared.act_fault.ActFault.{ActFault};
-ghost use Rattle.grove_edits.specs.Edit.{edit_edge};
 ghost use Rattle.grove_edits.specs.Graph.{graph, IsCanonical};
+ghost use Rattle.edge_numbers.specs.Numbered.{state_in};
+ghost use Rattle.live_graph.specs.Live.{live};
 ghost use Rattle.user_actions.specs.Plan.{IsPlan};
 ghost use Rattle.grove_answers.specs.Texts.{IsPrintText, IsCanonicalText};
-ghost use Rattle.mark_incremental.specs.Standing.{StandFor};
 ghost use Rattle.replica_core.specs.Content.{IsContent, no_edits, with_taken, with_block};
 ghost use Rattle.replica_core.specs.Plain.{as_edits};
+ghost use Rattle.replica_core.specs.Shown.{Shows};
 ghost use Rattle.replica_core.specs.Step.{plan_of};
 ghost use Rattle.replica_core.specs.Cost.{edit_cost, edits_cost};
-ghost use Rattle.replica_core.specs.MarkingCost.{edits_marking_cost};
 
-use crate::live_graph::LiveGraph;
 use crate::no_memory::NoMemory;
-use grove_answers::{append_canonical_text, print_text};
-use grove_edits::{Action, Answer, Edge, Edit, EditList};
-use mark_incremental::Marks;
+use crate::planning::planned;
+use crate::taking::take;
+use crate::texts::append_print_text;
+use grove_answers::append_canonical_text;
+use grove_edits::{Action, Answer, Edit, EditList};
+use live_graph::LiveGraph;
 use seeded_hash::HashSeed;
 use std::alloc::Global;
 use std::marker::Model;
 use std::sync::ledger::Ledger;
-use user_actions::{OpeningSet, Plan, PlanFault, View, plan};
+use user_actions::{LiveView, OpeningSet};
 use walks::Steps;
 
 /// A live replica. Contracts see it as its `Content`: the canonical list of its graph, and the edges that the block opened with.
@@ -55,7 +57,7 @@ impl Replica {
         ensures empty { IfOk result (λ replica. replica ≡ no_edits) }
     {
         let graph = LiveGraph::with_seed(alloc, seed);
-        let opening = OpeningSet::of(alloc, &graph.store)?;
+        let opening = OpeningSet::of_list(alloc, &EditList::new(alloc))?;
         Ok(Replica { graph, opening })
     }
 
@@ -64,7 +66,8 @@ impl Replica {
         ensures opened { OnOk result (self.new ≡ with_block self.old) }
         ensures unchanged { OnErr result (self.new ≡ self.old) }
     {
-        self.opening = OpeningSet::of(alloc, &self.graph.store)?;
+        let edits = self.in_order(alloc)?;
+        self.opening = OpeningSet::of_list(alloc, &edits)?;
         Ok(())
     }
 
@@ -81,7 +84,7 @@ impl Replica {
     {
         // Nothing is counted while no marks are kept.
         let _steps = steps;
-        self.graph.take(alloc, &[*edit])
+        take(alloc, &mut self.graph, &[*edit])
     }
 
     /// Takes edits, one after the other, all of them or none.
@@ -97,7 +100,7 @@ impl Replica {
     {
         // Nothing is counted while no marks are kept.
         let _steps = steps;
-        self.graph.take(alloc, edits.as_slice())
+        take(alloc, &mut self.graph, edits.as_slice())
     }
 
     /// Plans an author's action on the graph, and takes the edits of the plan. It answers them, and what the plan answers. An action that
@@ -118,7 +121,7 @@ impl Replica {
         ensures unchanged { OnErr result (self.new ≡ self.old) }
         ensures bounded { steps.new ≤ steps.old + edits_cost self.old (as_edits (plan_of self.old author action.now).edits) }
     {
-        let (edits, answer) = self.planned(alloc, author, action)?;
+        let (edits, answer) = planned(alloc, &self.view(), author, action)?;
         self.apply_all(alloc, &edits, steps)?;
         Ok((edits, answer))
     }
@@ -129,7 +132,7 @@ impl Replica {
         ensures canonical { IsCanonical (graph self.now.edits) self.now.edits }
         ensures content { IsContent self.now }
     {
-        Ok(self.graph.store.in_order(alloc)?)
+        Ok(self.graph.in_order(alloc)?)
     }
 
     /// Appends the print text of the graph.
@@ -138,9 +141,7 @@ impl Replica {
         ensures unchanged { OnErr result (out.new.items ≡ out.old.items) }
     {
         let edits = self.in_order(alloc)?;
-        let text = print_text(alloc, edits, self.graph.parents.seed())?;
-        out.extend_from_slice(&text)?;
-        Ok(())
+        append_print_text(alloc, edits, self.graph.seed(), out)
     }
 
     /// Appends the canonical text of the graph.
@@ -153,52 +154,15 @@ impl Replica {
         Ok(())
     }
 
-    /// The edits of an action and what is answered, before any of them is taken.
-    pub(crate) fn planned(
-        &self,
-        alloc: Global,
-        author: u32,
-        action: &Action,
-    ) -> Result<(EditList, Answer), NoMemory>
-        requires author { 0 < author }
-        ensures plan { IfOk result (λ made. IsPlan (graph self.now.edits) self.now.opening author action.now made.0 made.1) }
-        ensures edits { IfOk result (λ made. made.0 ≡ as_edits (plan_of self.now author action.now).edits) }
-        ensures answer { IfOk result (λ made. made.1 ≡ (plan_of self.now author action.now).answer) }
+    /// What plans read.
+    pub(crate) fn view(&self) -> LiveView<'_>
+        ensures { Shows (state_in result.graph.now) (live result.graph.now) (live result.graph.now) result.opening.now self.now }
     {
-        let view = View {
-            store: &self.graph.store,
+        // The live edges are those whose state is Live.
+        let _edges = self.graph.edge_count();
+        LiveView {
+            graph: &self.graph,
             opening: &self.opening,
-            children: &self.graph.children,
-            parents: &self.graph.parents,
-        };
-        match plan(alloc, &view, author, action) {
-            Ok(Plan { edits, answer }) => Ok((edits, answer)),
-            Err(PlanFault::Refused(fault)) => Ok((EditList::new(alloc), Answer::Refused(fault))),
-            Err(PlanFault::NoMemory) => Err(NoMemory),
         }
-    }
-
-    /// Takes edits, all of them or none, and renews marks that stand for the graph.
-    pub(crate) fn take_marked<L: Ledger>(
-        &mut self,
-        edits: &[Edit],
-        marks: &mut Marks,
-        steps: &mut Steps<L>,
-    ) -> Result<(), NoMemory>
-        requires { StandFor (graph self.old.edits) marks.old }
-        ensures taken { OnOk result (self.new ≡ with_taken edits.now self.old) }
-        ensures unchanged { OnErr result (self.new ≡ self.old) }
-        ensures stand { StandFor (graph self.new.edits) marks.new }
-        ensures bounded { steps.new ≤ steps.old + edits_marking_cost self.old edits.now }
-    {
-        let graph = &mut self.graph;
-        marks.apply_all(
-            edits,
-            &mut graph.store,
-            &mut graph.children,
-            &mut graph.parents,
-            steps,
-        )?;
-        Ok(())
     }
 }

@@ -35,7 +35,7 @@ pub(crate) fn state_text(
     vertices: &[Vertex],
 ) -> Result<Vec<u8>, Fault> {
     let mut text = Vec::new(alloc);
-    marked.replica().canonical(alloc, &mut text)?;
+    marked.canonical(alloc, &mut text)?;
     for vertex in vertices {
         append_kept(alloc, marked.marks(), vertex, &mut text)?;
     }

@@ -1,11 +1,18 @@
-use Rattle.std.proofs.Common.{ap, ◌∙◌}
-use Rattle.replica_core.specs.Content.{with_block}
+use Rattle.std.proofs.Common.{map, sym, ap, subst, ◌∙◌}
+use Rattle.grove_edits.specs.Edit.{edit_edge}
+use Rattle.grove_edits.specs.Graph.{Ascends}
 use Rattle.replica_core.proofs.Keeping.{seen_opened}
 use Rattle.replica_core.proofs.replica.Replica.begin_block.Goals as goal
 
+pub of_list-requires : goal.of_list-requires
+of_list-requires c = record { in_order = subst Ascends (sym c.in_ok-edits.ensures.list) c.in_ok-edits.ensures.canonical.in_order }
+
 pub invariant_of-self : goal.invariant_of-self
-invariant_of-self c = (seen_opened c.self.inside.graph c.self.inside.opening c.in_ok-self-inside.field-0 c.self.invariant c.in_ok-self-inside.ensures.opening).invariant
+invariant_of-self c =
+    (seen_opened c.self.inside.graph c.self.inside.opening c.args.self.now c.self.invariant c.self.view_is c.in_ok-self-inside.field-0
+    (c.in_ok-self-inside.ensures.edges ∙ ap (map edit_edge) c.in_ok-edits.ensures.list)).invariant
 
 pub returns-clause-opened : goal.returns-clause-opened
 returns-clause-opened c =
-    (seen_opened c.self.inside.graph c.self.inside.opening c.in_ok-self-inside.field-0 c.self.invariant c.in_ok-self-inside.ensures.opening).view ∙ ap with_block c.self.view_is
+    (seen_opened c.self.inside.graph c.self.inside.opening c.args.self.now c.self.invariant c.self.view_is c.in_ok-self-inside.field-0
+    (c.in_ok-self-inside.ensures.edges ∙ ap (map edit_edge) c.in_ok-edits.ensures.list)).view

@@ -1,0 +1,13 @@
+use Rattle.std.proofs.Common.{take}
+use Rattle.grove_edits.specs.Graph.{graph, graph_join, IsSame}
+use Rattle.edge_numbers.specs.Numbered.{state_in}
+use Rattle.replica_core.specs.Taking.{AreNumbered, edits_of}
+use Rattle.replica_core.proofs.taking.news_of.Given as goal
+
+-- the news so far ask what all edits so far ask, by the numbers of their edges
+abbrev pub invariant-loop-edit : goal.invariant-loop-edit
+invariant-loop-edit l = record {
+  numbered : AreNumbered l.kept l.news.items;
+  all : IsSame (graph_join (state_in l.fn.kept) (graph (edits_of l.news.items))) (graph_join (state_in l.fn.kept) (graph (take l.edit-index l.edits)));
+  unchanged : IsSame (state_in l.kept) (state_in l.fn.kept);
+}

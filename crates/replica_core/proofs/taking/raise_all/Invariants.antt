@@ -1,0 +1,12 @@
+use Rattle.std.proofs.Common.{take}
+use Rattle.grove_edits.specs.Graph.{graph, graph_join, IsSame}
+use Rattle.edge_numbers.specs.Numbered.{state_in}
+use Rattle.replica_core.specs.Taking.{AreNumbered, edits_of}
+use Rattle.replica_core.proofs.taking.raise_all.Given as goal
+
+-- the edits so far are joined, and all numbers are still those of the edges
+abbrev pub invariant-loop-one : goal.invariant-loop-one
+invariant-loop-one l = record {
+  numbered : AreNumbered l.kept l.news;
+  joined : IsSame (state_in l.kept) (graph_join (state_in l.fn.kept) (graph (edits_of (take l.one-index l.news))));
+}

@@ -1,0 +1,67 @@
+ghost use Rattle.std.specs.Prelude.{◌≡◌, OnOk, OnErr, IfOk};
+ghost use Rattle.grove_edits.specs.Graph.{graph, graph_join, state_of, IsSame};
+ghost use Rattle.edge_numbers.specs.Numbered.{state_in};
+ghost use Rattle.replica_core.specs.Taking.{AreNumbered, edits_of};
+
+use crate::no_memory::NoMemory;
+use edge_lattice::{State, leq};
+use grove_edits::{Edit, EditKind};
+use live_graph::LiveGraph;
+use std::alloc::Global;
+
+/// An edit that asks more of its edge than the graph has, with the number of the edge.
+#[derive(Clone, Copy)]
+pub(crate) struct News<'e> {
+    pub(crate) number: usize,
+    pub(crate) edit: &'e Edit,
+}
+
+/// Takes edits, all of them or none. Room for all is made before the first is raised, so that want of memory leaves none. One that the
+/// graph knows already, as most of what replicas send each other, is looked up and no more.
+pub(crate) fn take(alloc: Global, kept: &mut LiveGraph, edits: &[Edit]) -> Result<(), NoMemory>
+    ensures taken { OnOk result (IsSame (state_in kept.new) (graph_join (state_in kept.old) (graph edits.now))) }
+    ensures unchanged { OnErr result (IsSame (state_in kept.new) (state_in kept.old)) }
+{
+    let news = news_of(alloc, kept, edits)?;
+    raise_all(kept, &news);
+    Ok(())
+}
+
+// Those of some edits that ask more of their edges than the graph has. Then there is room for all.
+fn news_of<'e>(
+    alloc: Global,
+    kept: &mut LiveGraph,
+    edits: &'e [Edit],
+) -> Result<Vec<News<'e>>, NoMemory>
+    ensures numbered { IfOk result (λ news. AreNumbered kept.new news.items) }
+    ensures all { IfOk result (λ news. IsSame (graph_join (state_in kept.old) (graph (edits_of news.items))) (graph_join (state_in kept.old) (graph edits.now))) }
+    ensures unchanged { IsSame (state_in kept.new) (state_in kept.old) }
+{
+    let mut news = Vec::new(alloc);
+    for edit in edits {
+        let number = kept.make_room(edit.as_edge())?;
+        if !leq(asked_by(edit.kind()), kept.state_at(number)) {
+            news.push(News { number, edit })?;
+        }
+    }
+    Ok(news)
+}
+
+fn raise_all(kept: &mut LiveGraph, news: &[News<'_>])
+    requires { AreNumbered kept.old news.now }
+    ensures { IsSame (state_in kept.new) (graph_join (state_in kept.old) (graph (edits_of news.now))) }
+{
+    for one in news {
+        kept.raise_at(one.number, one.edit.kind());
+    }
+}
+
+// What an edit asks its edge to be at least.
+fn asked_by(kind: EditKind) -> State
+    ensures { result ≡ state_of kind }
+{
+    match kind {
+        EditKind::Insert => State::Live,
+        EditKind::Delete => State::Deleted,
+    }
+}
