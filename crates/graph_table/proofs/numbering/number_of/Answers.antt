@@ -20,3 +20,6 @@ returns-clause-vertices c = c.in_ok-index.ensures.keys ∙ inserted_is c.args.nu
 
 pub returns-clause-once : goal.returns-clause-once
 returns-clause-once c = once_from_set _ c.in_ok-index.ensures.unique
+
+pub returns-clause-homes : goal.returns-clause-homes
+returns-clause-homes c edits at are = ?
