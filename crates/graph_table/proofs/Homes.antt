@@ -1,5 +1,5 @@
 -- Where the vertices of some edits stand.
-use Rattle.std.proofs.Common.{◌≡◌, ℕ, zero, suc, ◌<◌, Bool, true, false, cond, List, [], ◌∷◌, ◌++◌, length, get_or, slice_get, map, Option, Some, None, refl, sym, ap, subst, ◌∙◌, arith}
+use Rattle.std.proofs.Common.{◌≡◌, ℕ, zero, suc, ◌<◌, Bool, true, false, cond, List, [], ◌∷◌, ◌++◌, length, get_or, slice_get, map, Option, Some, Vec, Global, refl, sym, ap, subst, ◌∙◌, arith}
 use Rattle.std.specs.Prelude.{not, option_map}
 use Rattle.std.proofs.lemmas.List.{map-append, length-map}
 use Rattle.grove_edits.specs.declared.vertex.Vertex.{Vertex}
@@ -15,6 +15,9 @@ use Rattle.graph_table.specs.Homes.{vertex_in, AreHomes, vertices_in}
 
 -- ---- homes are found
 
+pub items_of : {a b : Vec Home Global} → a ≡ b → a.items ≡ b.items
+items_of e = ap (λ (x : Vec Home Global). x.items) e
+
 pub homes_push : (edits : List Edit) (homes : List Home) (vs : List Vertex) (home : Home) (v : Vertex) → vertex_in edits home ≡ Some v → AreHomes edits homes vs → AreHomes edits (homes ++ home ∷ []) (vs ++ v ∷ [])
 homes_push edits homes vs home v is are =
     map-append (vertex_in edits) homes (home ∷ []) ∙ ap (λ o. map (vertex_in edits) homes ++ o ∷ []) is ∙ ap (λ os. os ++ Some v ∷ []) are
@@ -29,11 +32,14 @@ homed edits v home vs ws homes more new with_it is pushed at are =
       by_test true = are
       by_test false = homes_push edits homes vs home v at are
 
-pub source_home : (edits : List Edit) (i : ℕ) (edit : Edit) → slice_get edits i ≡ Some edit → vertex_in edits (Source i) ≡ Some (edit_edge edit).source
-source_home edits i edit at = ap (option_map (λ (x : Edit). (edit_edge x).source)) at
+-- the ends of an edit are at home there
+pub source_home : (edits : List Edit) (i n : ℕ) (edit : Edit) (edge : Edge) → n ≡ i → edge ≡ edit_edge edit → slice_get edits i ≡ Some edit → vertex_in edits (Source n) ≡ Some edge.source
+source_home edits i n edit edge same is at =
+    ap (λ k. option_map (λ (x : Edit). (edit_edge x).source) (slice_get edits k)) same ∙ ap (option_map (λ (x : Edit). (edit_edge x).source)) at ∙ ap (λ (e : Edge). Some e.source) (sym is)
 
-pub target_home : (edits : List Edit) (i : ℕ) (edit : Edit) → slice_get edits i ≡ Some edit → vertex_in edits (Target i) ≡ Some (edit_edge edit).target
-target_home edits i edit at = ap (option_map (λ (x : Edit). (edit_edge x).target)) at
+pub target_home : (edits : List Edit) (i n : ℕ) (edit : Edit) (edge : Edge) → n ≡ i → edge ≡ edit_edge edit → slice_get edits i ≡ Some edit → vertex_in edits (Target n) ≡ Some edge.target
+target_home edits i n edit edge same is at =
+    ap (λ k. option_map (λ (x : Edit). (edit_edge x).target) (slice_get edits k)) same ∙ ap (option_map (λ (x : Edit). (edit_edge x).target)) at ∙ ap (λ (e : Edge). Some e.target) (sym is)
 
 -- ---- homes are read
 

@@ -1,3 +1,5 @@
+use Rattle.std.proofs.Common.{◌≡◌, rules}
+use Rattle.graph_table.proofs.Homes.{source_home, target_home}
 use Rattle.graph_table.proofs.Numbers.{numbered_next}
 use Rattle.graph_table.proofs.numbering.Numbering.add.Goals as goal
 
@@ -10,4 +12,8 @@ returns-clause-numbered c edits are =
     c.as_edge-edge.ensures source.vertices source.number target.vertices target.number target.once c.in_ok-push.ensures.items c.in_ok-push-2.ensures.items are
 
 pub returns-clause-homes : goal.returns-clause-homes
-returns-clause-homes c edits at are = ?
+returns-clause-homes c edits at are =
+    let same : c.in-Ok.at ≡ c.args.index = search rules in
+    let edge = c.as_edge-edge.result.now in
+    c.in_ok-target.ensures.homes edits (target_home edits c.args.index c.in-Ok.at c.args.edit.now edge same c.as_edge-edge.ensures at)
+    (c.in_ok-source.ensures.homes edits (source_home edits c.args.index c.in-Ok.at c.args.edit.now edge same c.as_edge-edge.ensures at) are)
