@@ -35,12 +35,12 @@ numbers_found table v (Some n) is =
     let at = number_found table.vertices v n (sym is) in
     (slice_get_within table.vertices n v at, ap vertex_or_root at)
 
-pub target_read : (table : Table) (targets : List ℕ) → AreNumbersOf table.vertices targets (targets_of table.edits) → (i n : ℕ) → IsIndex table i → n ≡ get_or targets i n
-    → IsNumber table n × (vertex_at table n ≡ (edge_at table i).target)
-target_read table targets are i n within read =
+pub end_read : (end_of : Edge → Vertex) (table : Table) (numbers : List ℕ) → AreNumbersOf table.vertices numbers (map (λ edit. end_of (edit_edge edit)) table.edits) → (i n : ℕ) → IsIndex table i → n ≡ get_or numbers i n
+    → IsNumber table n × (vertex_at table n ≡ end_of (edge_at table i))
+end_read end_of table numbers are i n within read =
     let found = some_at table.edits i within in
-    let at = end_numbered (λ edit. (edit_edge edit).target) table.vertices targets table.edits are i n found.0 found.1 read in
-    (slice_get_within table.vertices n (edit_edge found.0).target at, ap vertex_or_root at ∙ sym (ap (λ o. (edge_or_none o).target) found.1))
+    let at = end_numbered (λ edit. end_of (edit_edge edit)) table.vertices numbers table.edits are i n found.0 found.1 read in
+    (slice_get_within table.vertices n (end_of (edit_edge found.0)) at, ap vertex_or_root at ∙ sym (ap (λ o. end_of (edge_or_none o)) found.1))
 
 around_read : (table : Table) (links : List Link) (around : List Ends) → AreAround links around (map (neighbours table.edits) table.vertices) → (n : ℕ) → IsNumber table n
     → (here : Ends) → here ≡ get_or around n here → IsAround links here (neighbours table.edits (vertex_at table n))
@@ -169,6 +169,6 @@ pub kept_in_view : (edits : List Edit) (vertices : List Vertex) (table : Table) 
     → AreAround links around (map (neighbours edits) vertices) → AreAround links around (map (neighbours table.edits) table.vertices)
 kept_in_view edits vertices table links around view kept = subst (λ (t : Table). AreAround links around (map (neighbours t.edits) t.vertices)) view kept
 
-pub targets_in_view : (edits : List Edit) (vertices : List Vertex) (table : Table) (targets : List ℕ) → record { edits = edits; vertices = vertices } ≡ table
-    → AreNumbersOf vertices targets (targets_of edits) → AreNumbersOf table.vertices targets (targets_of table.edits)
-targets_in_view edits vertices table targets view are = subst (λ (t : Table). AreNumbersOf t.vertices targets (targets_of t.edits)) view are
+pub ends_in_view : (ends_of : List Edit → List Vertex) (edits : List Edit) (vertices : List Vertex) (table : Table) (numbers : List ℕ) → record { edits = edits; vertices = vertices } ≡ table
+    → AreNumbersOf vertices numbers (ends_of edits) → AreNumbersOf table.vertices numbers (ends_of table.edits)
+ends_in_view ends_of edits vertices table numbers view are = subst (λ (t : Table). AreNumbersOf t.vertices numbers (ends_of t.edits)) view are

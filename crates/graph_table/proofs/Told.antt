@@ -42,7 +42,7 @@ any_where_some_edge table Zero = refl
 any_where_some_edge table (One i) = refl
 any_where_some_edge table (More i j) = refl
 
-module _ (table : Table) (targets : List ℕ) (links : List Link) (around : List Ends) (is : IsTable table.edits table.vertices targets links around) where
+module _ (table : Table) (sources targets : List ℕ) (links : List Link) (around : List Ends) (is : IsTable table.edits table.vertices sources targets links around) where
   pub live_in_order : IsInEdgeOrder (live table)
   live_in_order = in_order table.edits is.in_order
 

@@ -4,13 +4,14 @@ use Rattle.grove_edits.specs.declared.vertex.Vertex.{Vertex}
 use Rattle.grove_edits.specs.declared.edit.Edit.{Edit}
 use Rattle.grove_edits.specs.Graph.{Ascends}
 use Rattle.graph_table.specs.declared.link.Link.{Link}
-use Rattle.graph_table.specs.Numbering.{HaveNumbers, AreNumbersOf, targets_of}
+use Rattle.graph_table.specs.Numbering.{HaveNumbers, AreNumbersOf, sources_of, targets_of}
 use Rattle.graph_table.specs.Around.{Ends, neighbours}
 use Rattle.graph_table.specs.Chain.{AreAround}
 
 -- the parts of a table are those of some edits
-pub record IsTable (edits : List Edit) (vertices : List Vertex) (targets : List ℕ) (links : List Link) (around : List Ends) : Type 0 where
+pub record IsTable (edits : List Edit) (vertices : List Vertex) (sources targets : List ℕ) (links : List Link) (around : List Ends) : Type 0 where
   pub in_order : Ascends edits
   pub numbers : HaveNumbers edits vertices
+  pub source_numbers : AreNumbersOf vertices sources (sources_of edits)
   pub target_numbers : AreNumbersOf vertices targets (targets_of edits)
   pub kept : AreAround links around (map (neighbours edits) vertices)

@@ -33,6 +33,7 @@ use walks::{Few, ParentOf, Steps};
 pub struct GraphTable {
     edits: EditList,
     numbers: IndexSet<Vertex, HashSeed>,
+    sources: Vec<u32>,
     targets: Vec<u32>,
     links: Vec<Link>,
     around: Vec<Around>,
@@ -47,7 +48,7 @@ impl Model for GraphTable {
 
     ghost view = { λ table. record { edits = table.edits; vertices = table.numbers.keys } };
 
-    ghost invariant = { λ table. IsTable table.edits table.numbers.keys table.targets.items table.links.items table.around.items };
+    ghost invariant = { λ table. IsTable table.edits table.numbers.keys table.sources.items table.targets.items table.links.items table.around.items };
 }
 
 impl GraphTable {
@@ -70,12 +71,13 @@ impl GraphTable {
         let Gathered { around, links } = gather(alloc, edits.as_slice(), &numbering)?;
         let Numbering {
             numbers,
-            sources: _,
+            sources,
             targets,
         } = numbering;
         Ok(GraphTable {
             edits,
             numbers,
+            sources,
             targets,
             links,
             around,
@@ -135,6 +137,15 @@ impl GraphTable {
         ensures { result.now ≡ vertex_at self.now number }
     {
         &self.numbers.as_slice()[number]
+    }
+
+    /// The number of the vertex from which the edge at an index leads.
+    pub fn source(&self, index: usize) -> usize
+        requires { IsIndex self.now index }
+        ensures number { IsNumber self.now result }
+        ensures source { vertex_at self.now result ≡ (edge_at self.now index).source }
+    {
+        self.sources[index] as usize
     }
 
     /// The number of the vertex to which the edge at an index leads.

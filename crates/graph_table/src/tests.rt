@@ -74,6 +74,8 @@ fn live_edges_are_told_by_number(rt: HostRuntime) -> Result<(), Fail> {
     assert_eq!(rt; out.as_slice(), [1, 2].as_slice());
     assert_eq!(rt; table.parents(plus), Parents::One(0));
     assert_eq!(rt; table.parents(seven), Parents::More(1, 4));
+    assert_eq!(rt; table.source(1), plus);
+    assert_eq!(rt; table.target(1), seven);
     Ok(())
 }
 

@@ -1,6 +1,5 @@
 -- Vertices with their numbers, one after the other.
-use Rattle.std.proofs.Common.{◌≡◌, ℕ, zero, suc, ◌<◌, Bool, true, false, cond, List, [], ◌∷◌, ◌++◌, length, refl, sym, ap, subst, ◌∙◌, arith, append_assoc}
-use Rattle.std.specs.Prelude.{◌||◌, slice_get}
+use Rattle.std.proofs.Common.{◌≡◌, ℕ, Bool, true, false, cond, List, [], ◌∷◌, ◌++◌, map, refl, sym, ap, subst, ◌∙◌, append_assoc}
 use Rattle.std.specs.List.{AllByRecursion}
 use Rattle.grove_edits.specs.declared.vertex.Vertex.{Vertex}
 use Rattle.grove_edits.specs.declared.edge.Edge.{Edge}
@@ -8,13 +7,11 @@ use Rattle.walks.specs.declared.class.Class.{Class}
 use Rattle.walks.specs.declared.class.Class.TheVariants.{NoParent, Multi, Cycle, Inner}
 use Rattle.walks.specs.Few.{first_two}
 use Rattle.walks.specs.Live.{parents_of}
-use Rattle.grove_edits.specs.Vertex.{is_same_vertex, stands_in}
 use Rattle.walks.specs.Class.{class, is_same_class, of_class}
-use Rattle.grove_edits.proofs.Vertices.{same_vertex_itself}
 use Rattle.graph_table.specs.declared.numbered.Numbered.{Numbered}
 use Rattle.graph_table.specs.declared.parents.Parents.{Parents}
 use Rattle.graph_table.specs.declared.parents.Parents.TheVariants.{Zero, One, More}
-use Rattle.graph_table.specs.Table.{Table, live, vertex_or_root, vertex_at, few_at, IsNumbered}
+use Rattle.graph_table.specs.Table.{Table, live, vertex_at, few_at, IsNumber, IsNumbered}
 use Rattle.grove_decompose.specs.Trees.{vertices_of}
 use Rattle.grove_decompose.proofs.Mapped.{map_last, all_joined}
 use Rattle.grove_decompose.proofs.ByClass.{Tests, passed_by, put_down, tests_zero, tests_one, tests_more}
@@ -63,10 +60,10 @@ more_tells table v ps i j numbered least is = tests_more (live table) v.vertex (
 -- ---- candidates
 
 -- the least vertices of cycles among the candidates so far and among those that are left are those among all
-pub record AreCandidatesSoFar (table : Table) (all left : List Numbered) (found : List Vertex) : Type 0 where
-  pub cycle : of_class Cycle (live table) found ++ of_class Cycle (live table) (vertices_of left) ≡ of_class Cycle (live table) (vertices_of all)
-  pub stand : AllByRecursion (λ v. stands_in v table.vertices ≡ true) found
-  pub numbers : AllByRecursion (IsNumbered table) left
+pub record AreCandidatesSoFar (table : Table) (all left : List Numbered) (found : List ℕ) : Type 0 where
+  pub cycle : of_class Cycle (live table) (map (vertex_at table) found) ++ of_class Cycle (live table) (vertices_of left) ≡ of_class Cycle (live table) (vertices_of all)
+  pub numbers : AllByRecursion (IsNumber table) found
+  pub left_numbers : AllByRecursion (IsNumbered table) left
 
 other_class : (c : Class) → (c ≡ Cycle → ⊥) → is_same_class c Cycle ≡ false
 other_class NoParent other = refl
@@ -74,12 +71,12 @@ other_class Multi other = refl
 other_class Cycle other = absurd (other refl)
 other_class Inner other = refl
 
-pub no_candidate : (table : Table) (v : Numbered) (all left rest : List Numbered) (found : List Vertex) → left ≡ v ∷ rest → (class (live table) v.vertex ≡ Cycle → ⊥) → AreCandidatesSoFar table all left found
+pub no_candidate : (table : Table) (v : Numbered) (all left rest : List Numbered) (found : List ℕ) → left ≡ v ∷ rest → (class (live table) v.vertex ≡ Cycle → ⊥) → AreCandidatesSoFar table all left found
     → AreCandidatesSoFar table all rest found
 no_candidate table v all left rest found is other so_far = record {
-  cycle = passed_by Cycle (live table) v.vertex (of_class Cycle (live table) found) (vertices_of left) (vertices_of rest) _ (ap vertices_of is) (other_class (class (live table) v.vertex) other) so_far.cycle;
-  stand = so_far.stand;
-  numbers = (first_numbered table v left rest is so_far.numbers).1;
+  cycle = passed_by Cycle (live table) v.vertex (of_class Cycle (live table) (map (vertex_at table) found)) (vertices_of left) (vertices_of rest) _ (ap vertices_of is) (other_class (class (live table) v.vertex) other) so_far.cycle;
+  numbers = so_far.numbers;
+  left_numbers = (first_numbered table v left rest is so_far.left_numbers).1;
 }
 
 of_class-joined : (c : Class) (edges : List Edge) (xs ys : List Vertex) → of_class c edges (xs ++ ys) ≡ of_class c edges xs ++ of_class c edges ys
@@ -90,28 +87,20 @@ of_class-joined c edges (x ∷ xs) ys = by_test (is_same_class (class edges x) c
   by_test true rest = ap (λ (zs : List Vertex). x ∷ zs) rest
   by_test false rest = rest
 
-numbered_stands : (vs : List Vertex) (n : ℕ) (v : Vertex) → n < length vs → vertex_or_root (slice_get vs n) ≡ v → stands_in v vs ≡ true
-numbered_stands [] n v lt is = absurd (omega arith)
-numbered_stands (u ∷ vs) zero v lt is = ap (λ (w : Vertex). is_same_vertex w v || stands_in v vs) is ∙ ap (λ (b : Bool). b || stands_in v vs) (same_vertex_itself v)
-numbered_stands (u ∷ vs) (suc n) v lt is = behind (is_same_vertex u v) (numbered_stands vs n v (omega arith) is) where
-  behind : (b : Bool) → stands_in v vs ≡ true → (b || stands_in v vs) ≡ true
-  behind true later = refl
-  behind false later = later
-
-pub one_candidate : (table : Table) (v : Numbered) (all left rest : List Numbered) (found more : List Vertex) → left ≡ v ∷ rest → more ≡ found ++ v.vertex ∷ [] → AreCandidatesSoFar table all left found
+pub one_candidate : (table : Table) (v : Numbered) (all left rest : List Numbered) (found more : List ℕ) → left ≡ v ∷ rest → more ≡ found ++ v.number ∷ [] → AreCandidatesSoFar table all left found
     → AreCandidatesSoFar table all rest more
 one_candidate table v all left rest found more is pushed so_far =
-    let numbered = first_numbered table v left rest is so_far.numbers in
+    let numbered = first_numbered table v left rest is so_far.left_numbers in
     record {
       cycle =
-          ap (λ (vs : List Vertex). of_class Cycle (live table) vs ++ of_class Cycle (live table) (vertices_of rest)) pushed
-          ∙ ap (λ (vs : List Vertex). vs ++ of_class Cycle (live table) (vertices_of rest)) (of_class-joined Cycle (live table) found (v.vertex ∷ []))
-          ∙ append_assoc (of_class Cycle (live table) found) (of_class Cycle (live table) (v.vertex ∷ [])) (of_class Cycle (live table) (vertices_of rest))
-          ∙ ap (λ (vs : List Vertex). of_class Cycle (live table) found ++ vs) (sym (of_class-joined Cycle (live table) (v.vertex ∷ []) (vertices_of rest)) ∙ ap (of_class Cycle (live table)) (sym (ap vertices_of is)))
+          ap (λ (ns : List Vertex). of_class Cycle (live table) ns ++ of_class Cycle (live table) (vertices_of rest)) (map_last (vertex_at table) more found v.number pushed)
+          ∙ ap (λ (u : Vertex). of_class Cycle (live table) (map (vertex_at table) found ++ u ∷ []) ++ of_class Cycle (live table) (vertices_of rest)) numbered.0.1
+          ∙ ap (λ (vs : List Vertex). vs ++ of_class Cycle (live table) (vertices_of rest)) (of_class-joined Cycle (live table) (map (vertex_at table) found) (v.vertex ∷ []))
+          ∙ append_assoc (of_class Cycle (live table) (map (vertex_at table) found)) (of_class Cycle (live table) (v.vertex ∷ [])) (of_class Cycle (live table) (vertices_of rest))
+          ∙ ap (λ (vs : List Vertex). of_class Cycle (live table) (map (vertex_at table) found) ++ vs) (sym (of_class-joined Cycle (live table) (v.vertex ∷ []) (vertices_of rest)) ∙ ap (of_class Cycle (live table)) (sym (ap vertices_of is)))
           ∙ so_far.cycle;
-      stand = subst (AllByRecursion (λ u. stands_in u table.vertices ≡ true)) (sym pushed)
-          (all_joined (λ u. stands_in u table.vertices ≡ true) found (v.vertex ∷ []) so_far.stand (numbered_stands table.vertices v.number v.vertex numbered.0.0 numbered.0.1, tt));
-      numbers = numbered.1;
+      numbers = subst (AllByRecursion (IsNumber table)) (sym pushed) (all_joined (IsNumber table) found (v.number ∷ []) so_far.numbers (numbered.0.0, tt));
+      left_numbers = numbered.1;
     }
 
 -- what holds of some vertices holds of those of a class
@@ -121,25 +110,3 @@ all_of P c edges (v ∷ vs) all = by_test (is_same_class (class edges v) c) (all
   by_test : (b : Bool) → AllByRecursion P (of_class c edges vs) → AllByRecursion P (cond b (v ∷ of_class c edges vs) (of_class c edges vs))
   by_test true rest = (all.0, rest)
   by_test false rest = rest
-
--- ---- numbers
-
--- the vertices whose numbers were found, and those that are left, are all of them
-pub record AreNumberedSoFar (table : Table) (all left : List Vertex) (found : List Numbered) : Type 0 where
-  pub vertices : vertices_of found ++ left ≡ all
-  pub numbers : AllByRecursion (IsNumbered table) found
-  pub stand : AllByRecursion (λ v. stands_in v table.vertices ≡ true) left
-
-pub first_stands : (table : Table) (v : Vertex) (left rest : List Vertex) → left ≡ v ∷ rest → AllByRecursion (λ u. stands_in u table.vertices ≡ true) left
-    → (stands_in v table.vertices ≡ true) × AllByRecursion (λ u. stands_in u table.vertices ≡ true) rest
-first_stands table v left rest is all = let both : AllByRecursion (λ u. stands_in u table.vertices ≡ true) (v ∷ rest) = subst (AllByRecursion (λ u. stands_in u table.vertices ≡ true)) is all in (both.0, both.1)
-
-pub one_numbered : (table : Table) (v : Vertex) (n : Numbered) (all left rest : List Vertex) (found more : List Numbered) → left ≡ v ∷ rest → n.vertex ≡ v → IsNumbered table n → more ≡ found ++ n ∷ []
-    → AreNumberedSoFar table all left found → AreNumberedSoFar table all rest more
-one_numbered table v n all left rest found more is of_v numbered pushed so_far = record {
-  vertices =
-      ap (λ (vs : List Vertex). vs ++ rest) (map_last (λ (m : Numbered). m.vertex) more found n pushed) ∙ append_assoc (vertices_of found) (n.vertex ∷ []) rest
-      ∙ ap (λ (u : Vertex). vertices_of found ++ u ∷ rest) of_v ∙ ap (λ (vs : List Vertex). vertices_of found ++ vs) (sym is) ∙ so_far.vertices;
-  numbers = subst (AllByRecursion (IsNumbered table)) (sym pushed) (all_joined (IsNumbered table) found (n ∷ []) so_far.numbers (numbered, tt));
-  stand = (first_stands table v left rest is so_far.stand).1;
-}

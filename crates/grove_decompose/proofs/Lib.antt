@@ -11,3 +11,7 @@ pub mod ByNumber
 pub mod Inserted
 pub mod Vectors
 pub mod Held
+pub mod Marks
+pub mod Walking
+pub mod Rounds
+pub mod FoundRoots

@@ -2,14 +2,18 @@
 //! shows and marks groves stands on this crate.
 #![tactic(auto)]
 
+mod above;
 mod by_number;
 mod candidates;
 mod child;
+mod cycle;
+mod cycles;
 mod decomposition;
 mod descent;
 mod heads;
 mod live_graph;
 mod live_indexes;
+mod met;
 mod no_memory;
 mod place;
 mod seen;

@@ -1,4 +1,4 @@
-ghost use Rattle.std.specs.Prelude.{◌≡◌, ◌≢◌, ◌<◌, IfOk};
+ghost use Rattle.std.specs.Prelude.{◌≡◌, ◌≢◌, IfOk};
 ghost use Rattle.std.specs.List.{AllByRecursion};
 ghost use Rattle.walks.specs.declared.class.Class.TheVariants.{NoParent, Multi, Cycle, Inner};
 ghost use Rattle.walks.specs.Class.{class, of_class};
@@ -8,17 +8,14 @@ ghost use Rattle.grove_terms.specs.Sorted.{IsSortedTree};
 ghost use Rattle.grove_decompose.specs.Trees.{OnlyInner, vertices_of};
 
 use crate::by_number::{LiveTable, NoCounter};
-use crate::candidates::{candidates_of, with_numbers};
+use crate::candidates::candidates_of;
+use crate::cycles::cycle_roots;
 use crate::descent::tree_of;
 use crate::no_memory::NoMemory;
 use crate::seen::Seen;
 use graph_table::{GraphTable, Numbered, Parents};
 use grove_terms::Tree;
 use std::alloc::Global;
-use std::marker::Brand;
-use std::sync::ledger::{Blank, Ledger};
-use unicycle_roots::cycle_roots;
-use walks::Steps;
 
 /// Vertices that head trees and stand on no cycle, each list in vertex order.
 #[derive(Drop)]
@@ -90,26 +87,6 @@ pub fn cycle_heads(
     ensures cycle { IfOk result (λ heads. vertices_of heads.items ≡ of_class Cycle (live table.now) (vertices_of vertices.now)) }
     ensures numbers { IfOk result (λ heads. AllByRecursion (IsNumbered table.now) heads.items) }
 {
-    cycles_counting::<Brand>(alloc, table, vertices, seen, Blank::new(1))
-}
-
-fn cycles_counting<L: Ledger>(
-    alloc: Global,
-    table: &GraphTable,
-    vertices: &[Numbered],
-    seen: &Seen,
-    blank: Blank,
-) -> Result<Vec<Numbered>, NoMemory>
-    requires name { blank.name ≡ L.name }
-    requires parts { blank.parts ≡ L.parts }
-    requires some { 0 < blank.parts }
-    requires numbers { AllByRecursion (IsNumbered table.now) vertices.now }
-    requires seen { OnlyInner table.now seen.now }
-    ensures cycle { IfOk result (λ heads. vertices_of heads.items ≡ of_class Cycle (live table.now) (vertices_of vertices.now)) }
-    ensures numbers { IfOk result (λ heads. AllByRecursion (IsNumbered table.now) heads.items) }
-{
-    let mut steps = Steps::<L>::new(blank);
     let candidates = candidates_of(alloc, table, vertices, seen)?;
-    let roots = cycle_roots(alloc, table.seed(), &candidates, table, &mut steps)?;
-    with_numbers(alloc, table, &roots)
+    cycle_roots(alloc, table, &candidates)
 }

@@ -15,5 +15,5 @@ pub returns-in_ok-push-in-Ok : goal.returns-in_ok-push-in-Ok
 returns-in_ok-push-in-Ok c =
     rw (first_read c.args.version c.args.kept.now c.args.end.now c.args.rest.now c.push.new.self c.in-Ok.edit
     (subst (λ r. IfOk r (Spells c.args.version (c.args.kept.now ++ c.args.end.now))) c.in-Ok.is c.in_ok-fault.ensures.edit)
-    (c.in_ok-push-in-Ok.ensures.appended ∙ ap (λ (es : List Edit). es ++ c.in-Ok.edit ∷ []) c.new-edits.ensures.empty))
+    (c.in_ok-push-in-Ok.ensures.appended ∙ ap (λ (es : List Edit). es ++ c.in-Ok.edit ∷ []) (c.in_ok-reserve-in-Ok.ensures.unchanged ∙ c.new-edits.ensures.empty)))
     c.read_more_lines.ensures

@@ -21,9 +21,9 @@ returns-clause-edges c =
 pub returns-clause-indices : goal.returns-clause-indices
 returns-clause-indices c =
     let inside = c.self.inside in
-    let is : IsTable c.args.self.now.edits c.args.self.now.vertices inside.targets.items inside.links.items inside.around.items =
-    subst (λ (t : Table). IsTable t.edits t.vertices inside.targets.items inside.links.items inside.around.items) c.self.view_is c.self.invariant in
-    indices_kept c.args.self.now inside.targets.items inside.links.items inside.around.items is c.args.number c.index.result.now c.parents.result c.requires c.index.ensures c.parents.ensures
+    let is : IsTable c.args.self.now.edits c.args.self.now.vertices inside.sources.items inside.targets.items inside.links.items inside.around.items =
+    subst (λ (t : Table). IsTable t.edits t.vertices inside.sources.items inside.targets.items inside.links.items inside.around.items) c.self.view_is c.self.invariant in
+    indices_kept c.args.self.now inside.sources.items inside.targets.items inside.links.items inside.around.items is c.args.number c.index.result.now c.parents.result c.requires c.index.ensures c.parents.ensures
 
 pub returns-clause-live : goal.returns-clause-live
 returns-clause-live c = live_in_view c.self.inside.edits c.self.inside.numbers.keys c.args.self.now c.self.view_is c.self.invariant.in_order
