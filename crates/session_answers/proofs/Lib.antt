@@ -13,3 +13,5 @@ pub mod OneCourse
 pub mod GeneratedAlone
 pub mod OnBoards
 pub mod OneSize
+pub mod SameEdits
+pub mod PrintTexts

@@ -1,4 +1,4 @@
-ghost use Rattle.std.specs.Prelude.{◌≡◌, ◌<◌, ◌↔◌, length, count_by, IsTrue, IfOk};
+ghost use Rattle.std.specs.Prelude.{◌≡◌, ◌<◌, ◌↔◌, ℕ, true, List, length, count_by, IsTrue, IfOk};
 ghost use Rattle.grove_edits.specs.Graph.{graph};
 ghost use Rattle.grove_answers.specs.Texts.{IsPrintText};
 ghost use Rattle.session_script.specs.Session.{IsSession};
@@ -53,12 +53,13 @@ fn summary_of(
     let edits = first.in_order(alloc)?;
     let live = live_in(edits.as_slice()) as u64;
     let deleted = deleted_in(edits.as_slice()) as u64;
+    let equal = print_alike(alloc, first, edits.as_slice(), others)?;
     Ok(Summary {
         loads: loads_in(items) as u64,
         live,
         deleted,
         counts: grove_counts(alloc, edits, seed)?,
-        equal: print_alike(alloc, first, others)?,
+        equal,
     })
 }
 
@@ -95,17 +96,47 @@ fn deleted_in(edits: &[Edit]) -> usize
         .count()
 }
 
-// Whether all replicas print what the first prints.
-fn print_alike(alloc: Global, first: &Replica, others: &[Replica]) -> Result<bool, NoMemory>
+// Whether all replicas print what the first prints, whose canonical list this is.
+fn print_alike(
+    alloc: Global,
+    first: &Replica,
+    edits: &[Edit],
+    others: &[Replica],
+) -> Result<bool, NoMemory>
+    requires { edits.now ≡ first.now.edits }
     ensures { IfOk result (PrintAlike first.now others.now) }
 {
-    let text = printed(alloc, first)?;
     for other in others {
-        if !prints(alloc, other, &text)? {
+        if !prints_alike(alloc, first, edits, other)? {
             return Ok(false);
         }
     }
     Ok(true)
+}
+
+// Whether another replica prints what the first prints. It does if it has the same canonical list, so only where the lists differ the
+// texts are made.
+fn prints_alike(
+    alloc: Global,
+    first: &Replica,
+    edits: &[Edit],
+    other: &Replica,
+) -> Result<bool, NoMemory>
+    requires { edits.now ≡ first.now.edits }
+    ensures { (text : List ℕ) → IsPrintText (graph first.now.edits) text → IfOk result (λ alike. IsTrue alike ↔ IsPrintText (graph other.now.edits) text) }
+{
+    let own = other.in_order(alloc)?;
+    if are_same(own.as_slice(), edits) {
+        return Ok(true);
+    }
+    let text = printed(alloc, first)?;
+    prints(alloc, other, &text)
+}
+
+fn are_same(a: &[Edit], b: &[Edit]) -> bool
+    ensures { result ≡ true → a.now ≡ b.now }
+{
+    a == b
 }
 
 fn prints(alloc: Global, replica: &Replica, text: &[u8]) -> Result<bool, NoMemory>

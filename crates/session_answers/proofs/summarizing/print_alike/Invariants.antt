@@ -1,10 +1,9 @@
-use Rattle.std.proofs.Common.{drop}
+use Rattle.std.proofs.Common.{ℕ, List, take}
+use Rattle.grove_edits.specs.Graph.{graph}
+use Rattle.grove_answers.specs.Texts.{IsPrintText}
 use Rattle.session_answers.specs.Summarizing.{AllPrint}
 use Rattle.session_answers.proofs.summarizing.print_alike.Given as goal
 
--- the others print the text if those that are left do, and only then
+-- those so far print what the first prints
 abbrev pub invariant-loop-other : goal.invariant-loop-other
-invariant-loop-other l = record {
-  enough : AllPrint l.text.items (drop l.other-index l.others) → AllPrint l.text.items l.others;
-  needed : AllPrint l.text.items l.others → AllPrint l.text.items (drop l.other-index l.others);
-}
+invariant-loop-other l = (text : List ℕ) → IsPrintText (graph l.first.edits) text → AllPrint text (take l.other-index l.others)
