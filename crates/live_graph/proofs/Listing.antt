@@ -139,11 +139,11 @@ made_more edges numbers i edits more within so_far adds e =
 -- a number under a name is among all
 pub held_by_name : (names : Lists) (name : Name) (n : ℕ) → holds_number n (numbers_of names name) ≡ true → holds_number n (all_numbers names) ≡ true
 held_by_name [] name n held = absurd cc
-held_by_name (x ∷ xs) name n held = list_any-append (λ m. m == n) x.1 (all_numbers xs) ∙ by_test (is_at (name_cmp name) x.0) held (held_by_name xs name n) where
+held_by_name (x ∷ xs) name n held = list_any-append (λ m. m == n) (all_numbers xs) x.1 ∙ by_test (is_at (name_cmp name) x.0) held (held_by_name xs name n) where
   by_test : (b : Bool) → holds_number n (unwrap_or (cond b (Some x.1) (lookup (is_at (name_cmp name)) xs)) []) ≡ true
-      → (holds_number n (numbers_of xs name) ≡ true → holds_number n (all_numbers xs) ≡ true) → (holds_number n x.1 || holds_number n (all_numbers xs)) ≡ true
-  by_test true here _ = or_left (holds_number n x.1) (holds_number n (all_numbers xs)) here
-  by_test false later rest = or_right (holds_number n x.1) (holds_number n (all_numbers xs)) (rest later)
+      → (holds_number n (numbers_of xs name) ≡ true → holds_number n (all_numbers xs) ≡ true) → (holds_number n (all_numbers xs) || holds_number n x.1) ≡ true
+  by_test true here _ = or_right (holds_number n (all_numbers xs)) (holds_number n x.1) here
+  by_test false later rest = or_left (holds_number n (all_numbers xs)) (holds_number n x.1) (rest later)
 
 module _ (edges : Numbered) (once : IsDistinct is_same_edge (edges_of edges.entries)) (names : Lists) (has : HasEdgeNames edges names) where
   -- what a number says of an edge is nothing or its state

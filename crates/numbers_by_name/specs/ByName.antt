@@ -6,7 +6,7 @@ use Rattle.std.specs.BTreeMap.{is_at}
 use Rattle.grove_names.specs.declared.name.Name.{Name}
 use Rattle.grove_names.specs.Name.{name_cmp}
 
--- names in order, each with its numbers
+-- names, the greatest first, each with its numbers
 abbrev pub Lists : Type 0
 Lists = List (Name × List ℕ)
 
@@ -14,10 +14,10 @@ Lists = List (Name × List ℕ)
 abbrev pub numbers_of : Lists → Name → List ℕ
 numbers_of lists name = unwrap_or (lookup (is_at (name_cmp name)) lists) []
 
--- the numbers of each name, one after another
+-- the numbers of the least name, and then those of each greater one
 abbrev pub all_numbers : Lists → List ℕ
 all_numbers [] = []
-all_numbers (entry ∷ lists) = entry.1 ++ all_numbers lists
+all_numbers (entry ∷ lists) = all_numbers lists ++ entry.1
 
 abbrev pub is_same_name : Name → Name → Bool
 is_same_name a b = is_eq (name_cmp a b)

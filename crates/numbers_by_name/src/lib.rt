@@ -1,10 +1,10 @@
-//! Numbers, each under a name, in the order in which they were added. Its model is the list of the names in their order, each with its
-//! numbers. It is for what keeps a graph as lists of numbers, and finds the edges or the vertices with a name.
+//! Numbers, each under a name, in the order in which they were added. Its model is the list of the names, the greatest
+//! first, each with its numbers. It is for what keeps a graph as lists of numbers, and finds the edges or the vertices with a name.
 #![tactic(auto)]
 
-mod end;
 mod no_memory;
 mod numbers_by_name;
+mod start;
 
 pub use no_memory::NoMemory;
 pub use numbers_by_name::NumbersByName;

@@ -3,21 +3,23 @@ ghost use Rattle.std.specs.Option.{option_map};
 ghost use Rattle.grove_names.specs.declared.name.Name.{Name};
 ghost use Rattle.numbers_by_name.specs.ByName.{all_numbers, numbers_of, name_by, with_number, IsLastBefore, HasNoneBefore};
 
-use crate::end::end_of_names;
+use crate::start::start_of_names;
 use crate::no_memory::NoMemory;
 use grove_names::Name;
 use smallvec::SmallVec;
 use std::alloc::Global;
+use std::cmp::Reverse;
 use std::collections::BTreeMap;
 use std::marker::Model;
 use std::ops::Bound;
 
-/// Numbers, each under a name. Names are in order, and the numbers of a name in the order in which they were added.
+/// Numbers, each under a name. The greatest name comes first, and the numbers of a name stand in the order in which they were added.
 #[derive(Drop)]
 pub struct NumbersByName {
     alloc: Global,
-    // Most names have one number, which then needs no memory of its own.
-    lists: BTreeMap<Name, SmallVec<u32, 1>>,
+    // An author makes names by counting up, so a new one is mostly the greatest of its author. With the greatest first, a search for its
+    // place stops at the first names of each node. Most names have one number, which then needs no memory of its own.
+    lists: BTreeMap<Reverse<Name>, SmallVec<u32, 1>>,
 }
 
 impl Model for NumbersByName {
@@ -55,13 +57,15 @@ impl NumbersByName {
         ensures added { OnOk result ((n : Name) → numbers_of self.new n ≡ with_number name number (numbers_of self.old) n) }
         ensures unchanged { OnErr result (self.new ≡ self.old) }
     {
-        if let Some(list) = self.lists.get_mut(&name) {
-            list.push(number)?;
-            return Ok(());
-        }
         let mut list = SmallVec::new(self.alloc);
         list.push_reserved(number);
-        self.lists.insert(name, list)?;
+        // Most names are new, so they are looked up once. Of one that is not, what stood there is put back with the number behind it.
+        let Some(mut earlier) = self.lists.insert(Reverse(name), list)? else {
+            return Ok(());
+        };
+        let added = earlier.push(number);
+        self.lists.insert(Reverse(name), earlier)?;
+        added?;
         Ok(())
     }
 
@@ -69,7 +73,7 @@ impl NumbersByName {
     pub fn with_name(&self, name: Name) -> &[u32]
         ensures { result.now ≡ numbers_of self.now name }
     {
-        match self.lists.get(&name) {
+        match self.lists.get(&Reverse(name)) {
             Some(list) => list.as_slice(),
             None => &[],
         }
@@ -80,7 +84,7 @@ impl NumbersByName {
         ensures { IfOk result (λ numbers. numbers.items ≡ all_numbers self.now) }
     {
         let mut numbers = Vec::with_capacity(alloc, self.lists.len())?;
-        for list in self.lists.values() {
+        for list in self.lists.values().rev() {
             numbers.extend_from_slice(list.as_slice())?;
         }
         Ok(numbers)
@@ -94,11 +98,11 @@ impl NumbersByName {
         ensures none { IfNone result (HasNoneBefore self.now author before) }
         ensures only { (counter : ℕ) → IsLastBefore self.now author before counter → option_map (λ found. found.0) result ≡ Some counter }
     {
-        let up_to = (Bound::Unbounded, end_of_names(author, before));
-        let (name, list) = self.lists.range(up_to).next_back()?;
-        if author_of(name) != author {
+        let from = (start_of_names(author, before), Bound::Unbounded);
+        let (name, list) = self.lists.range(from).next()?;
+        if author_of(&name.0) != author {
             return None;
         }
-        Some((name.counter, list.as_slice()))
+        Some((name.0.counter, list.as_slice()))
     }
 }
