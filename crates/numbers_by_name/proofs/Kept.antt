@@ -44,10 +44,10 @@ numbers_of_found [] name = refl
 numbers_of_found (entry ∷ entries) name =
     ap (λ b. unwrap_or (cond b (Some entry.1.items) (lookup (is_at (name_cmp name)) (lists_of entries))) []) (same_either_way name entry.0.0)
     ∙ by_test (is_same_name entry.0.0 name) (numbers_of_found entries name) where
-    by_test : (b : Bool) → numbers_of (lists_of entries) name ≡ items_of (found entries (reversed name))
-        → unwrap_or (cond b (Some entry.1.items) (lookup (is_at (name_cmp name)) (lists_of entries))) [] ≡ items_of (cond b (Some entry.1) (found entries (reversed name)))
-    by_test true others = refl
-    by_test false others = others
+      by_test : (b : Bool) → numbers_of (lists_of entries) name ≡ items_of (found entries (reversed name))
+          → unwrap_or (cond b (Some entry.1.items) (lookup (is_at (name_cmp name)) (lists_of entries))) [] ≡ items_of (cond b (Some entry.1) (found entries (reversed name)))
+      by_test true others = refl
+      by_test false others = others
 
 pub more_is_some : (xs : List ℕ) (x : ℕ) → xs ++ x ∷ [] ≢ []
 more_is_some [] x h = absurd cc
@@ -67,9 +67,9 @@ module _ (old new : Entries) (name : Name) (list : SmallVec ℕ)
       numbers_of_found new n ∙ ap items_of (updates (reversed n))
       ∙ ap (λ b. items_of (cond b (Some list) (found old (reversed n)))) (same_either_way n name)
       ∙ by_test (is_same_name name n) where
-    by_test : (b : Bool) → items_of (cond b (Some list) (found old (reversed n))) ≡ cond b list.items (numbers_of (lists_of old) n)
-    by_test true = refl
-    by_test false = sym (numbers_of_found old n)
+        by_test : (b : Bool) → items_of (cond b (Some list) (found old (reversed n))) ≡ cond b list.items (numbers_of (lists_of old) n)
+        by_test true = refl
+        by_test false = sym (numbers_of_found old n)
 
 -- lists that have at a name what they had and one number more, and at others what they had
 pub with_number_behind : (old new : Entries) (name : Name) (number : ℕ) (items : List ℕ) → items ≡ items_of (found old (reversed name)) ++ number ∷ []

@@ -62,12 +62,12 @@ module _ (lists : BTreeMap (Reverse Name) (SmallVec ℕ)) (author : ℕ) (limit 
     pub none_by_author : name.author < author → HasNoneBefore (lists_of lists.entries) author limit
     none_by_author below c before =
         numbers_of_found lists.entries (name_by author c) ∙ by_found (found lists.entries (reversed (name_by author c))) refl where
-      greater : downward (reversed name) (reversed (name_by author c)) ≡ Greater
-      greater = ap (λ o. ordering_then o (nat_cmp c name.counter)) (greater_from_below name.author author below)
+          greater : downward (reversed name) (reversed (name_by author c)) ≡ Greater
+          greater = ap (λ o. ordering_then o (nat_cmp c name.counter)) (greater_from_below name.author author below)
 
-      by_found : (o : Option (SmallVec ℕ)) → found lists.entries (reversed (name_by author c)) ≡ o → items_of o ≡ []
-      by_found None is = refl
-      by_found (Some kept) is = absurd (true≢false (sym (ap is_gt greater) ∙ not_before c before (subst IsSome (sym is) refl)))
+          by_found : (o : Option (SmallVec ℕ)) → found lists.entries (reversed (name_by author c)) ≡ o → items_of o ≡ []
+          by_found None is = refl
+          by_found (Some kept) is = absurd (true≢false (sym (ap is_gt greater) ∙ not_before c before (subst IsSome (sym is) refl)))
 
     -- the first name is by the author
     module _ (by : name.author ≡ author) where

@@ -3,8 +3,8 @@ ghost use Rattle.std.specs.Option.{option_map};
 ghost use Rattle.grove_names.specs.declared.name.Name.{Name};
 ghost use Rattle.numbers_by_name.specs.ByName.{all_numbers, numbers_of, name_by, with_number, IsLastBefore, HasNoneBefore};
 
-use crate::start::start_of_names;
 use crate::no_memory::NoMemory;
+use crate::start::start_of_names;
 use grove_names::Name;
 use smallvec::SmallVec;
 use std::alloc::Global;

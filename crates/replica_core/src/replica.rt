@@ -66,9 +66,20 @@ impl Replica {
         ensures opened { OnOk result (self.new ≡ with_block self.old) }
         ensures unchanged { OnErr result (self.new ≡ self.old) }
     {
-        let edits = self.in_order(alloc)?;
-        self.opening = OpeningSet::of_list(alloc, &edits)?;
+        let _list = self.open_block(alloc)?;
         Ok(())
+    }
+
+    /// Opens a block as `begin_block` does, and answers the canonical list of the graph, which is what the block opens with.
+    pub fn open_block(&mut self, alloc: Global) -> Result<EditList, NoMemory>
+        ensures opened { OnOk result (self.new ≡ with_block self.old) }
+        ensures list { IfOk result (λ list. list ≡ self.old.edits) }
+        ensures canonical { IsCanonical (graph self.old.edits) self.old.edits }
+        ensures unchanged { OnErr result (self.new ≡ self.old) }
+    {
+        let list = self.in_order(alloc)?;
+        self.opening = OpeningSet::of_list(alloc, &list)?;
+        Ok(list)
     }
 
     /// Takes an edit. What it asks is joined to the graph, so an edge that was deleted is not inserted again.

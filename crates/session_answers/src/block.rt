@@ -2,12 +2,13 @@
 ghost use Rattle.std.specs.Prelude.{◌≡◌, ◌+◌, ◌<◌, ◌^◌, length, IfOk};
 ghost use Rattle.std.specs.List.{AllByRecursion, count_by};
 ghost use Rattle.session_script.specs.Session.{IsSession, is_send};
+ghost use Rattle.grove_edits.specs.Graph.{Ascends};
 ghost use Rattle.session_run.specs.Run.{CanRun};
-ghost use Rattle.session_answers.specs.Running.{HaveRun};
+ghost use Rattle.session_answers.specs.Running.{sources_of, HaveRun};
 
 use crate::boards::{boards_of, close_all, cuts_on, seats_of};
 use crate::no_memory::NoMemory;
-use crate::replicas::sources_of;
+use grove_edits::EditList;
 use grove_io::Gate;
 use replica_core::Replica;
 use session_run::run_block;
@@ -17,11 +18,12 @@ use std::alloc::Global;
 use std::sync::Wait;
 use std::thread::Threads;
 
-/// Runs a block on replicas that have opened it. Their boards last as long as the block.
+/// Runs a block on replicas that have opened it with these lists. Their boards last as long as the block.
 pub(crate) fn run_on_boards<R: Threads + Wait + Sync, G: Gate>(
     rt: &R,
     alloc: Global,
     replicas: Vec<Replica>,
+    sources: &[EditList],
     session: &Session,
     block: &Block,
     first_send: u32,
@@ -31,13 +33,13 @@ pub(crate) fn run_on_boards<R: Threads + Wait + Sync, G: Gate>(
     requires session { IsSession session.now }
     requires lines { AllByRecursion (CanRun session.now.authors (length session.now.replicas)) block.now.lines }
     requires replicas { length replicas.items ≡ length session.now.replicas }
+    requires sources { sources.now ≡ sources_of replicas.items }
+    requires ascend { AllByRecursion Ascends sources.now }
     requires sends { first_send + count_by is_send block.now.lines < 2 ^ 32 }
     requires first_calls { length first_calls.now ≡ length session.now.authors }
     requires calls { AllByRecursion (λ first. first + length block.now.lines < 2 ^ 64) first_calls.now }
     ensures { IfOk result (λ ran. HaveRun session.now block.now first_send replicas.items ran.1.items ran.0.items) }
 {
-    let lists = sources_of(alloc, &replicas)?;
-    let sources = lists.as_slice();
     let (boards, seats) = boards_of(alloc, sources, &session.authors, block.lines.as_slice())?;
     let mut cuts = cuts_on(alloc, sources, &boards, seats)?;
     let ran = run_block(

@@ -4,7 +4,7 @@ ghost use Rattle.std.specs.List.{AllByRecursion};
 ghost use Rattle.grove_edits.specs.Graph.{Ascends};
 ghost use Rattle.replica_core.specs.Content.{no_edits, with_taken, with_block};
 ghost use Rattle.session_answers.specs.BlockJournals.{block_journals};
-ghost use Rattle.session_answers.specs.Running.{sources_of as lists_of};
+ghost use Rattle.session_answers.specs.Running.{sources_of};
 
 use crate::no_memory::NoMemory;
 use grove_edits::{Edit, EditList};
@@ -55,31 +55,22 @@ fn apply_counting<L: Ledger>(
     Ok(())
 }
 
-/// Opens a block on each replica.
-pub(crate) fn begin_block_on_each(
+/// Opens a block on each replica, and lists what each opens with.
+pub(crate) fn open_block_on_each(
     alloc: Global,
     replicas: Vec<Replica>,
-) -> Result<Vec<Replica>, NoMemory>
-    ensures { IfOk result (λ opened. opened.items ≡ map with_block replicas.items) }
+) -> Result<(Vec<Replica>, Vec<EditList>), NoMemory>
+    ensures opened { IfOk result (λ opened. opened.0.items ≡ map with_block replicas.items) }
+    ensures lists { IfOk result (λ opened. opened.1.items ≡ sources_of replicas.items) }
+    ensures ascend { IfOk result (λ opened. AllByRecursion Ascends opened.1.items) }
 {
     let mut opened = Vec::with_capacity(alloc, replicas.len())?;
+    let mut lists = Vec::with_capacity(alloc, replicas.len())?;
     for mut replica in replicas {
-        replica.begin_block(alloc)?;
+        lists.push(replica.open_block(alloc)?)?;
         opened.push(replica)?;
     }
-    Ok(opened)
-}
-
-/// The canonical lists of replicas.
-pub(crate) fn sources_of(alloc: Global, replicas: &[Replica]) -> Result<Vec<EditList>, NoMemory>
-    ensures lists { IfOk result (λ sources. sources.items ≡ lists_of replicas.now) }
-    ensures ascend { IfOk result (λ sources. AllByRecursion Ascends sources.items) }
-{
-    let mut sources = Vec::new(alloc);
-    for replica in replicas {
-        sources.push(replica.in_order(alloc)?)?;
-    }
-    Ok(sources)
+    Ok((opened, lists))
 }
 
 /// Keeps the journals of a block, one for each replica.

@@ -7,7 +7,7 @@ ghost use Rattle.session_answers.specs.Running.{IsBehind, HasLoaded, HasRunBlock
 use crate::block::run_on_boards;
 use crate::counting::{can_number, count_lines, first_numbers};
 use crate::no_memory::NoMemory;
-use crate::replicas::{append_journals, apply, begin_block_on_each, empty_replicas};
+use crate::replicas::{append_journals, apply, empty_replicas, open_block_on_each};
 use crate::showing::append_sections;
 use grove_edits::Edit;
 use grove_io::Gate;
@@ -111,12 +111,13 @@ impl Running {
         if !can_number(&calls, block.lines.len()) {
             return Err(NoMemory);
         }
-        let replicas = begin_block_on_each(alloc, replicas)?;
+        let (replicas, sources) = open_block_on_each(alloc, replicas)?;
         let number = blocks + 1;
         let (replicas, made) = run_on_boards(
             rt,
             alloc,
             replicas,
+            &sources,
             session,
             block,
             sends + 1,

@@ -1,40 +1,38 @@
 use Rattle.std.proofs.Common.{List, map, refl, sym, ap, subst, ◌∙◌, arith}
 use Rattle.std.specs.Option.{option_map}
-use Rattle.std.specs.List.{AllByRecursion}
-use Rattle.grove_edits.specs.Graph.{Ascends}
 use Rattle.edge_board.specs.Seats.{first_board_seat}
 use Rattle.session_script.specs.declared.line.Line.{Line}
 use Rattle.session_run.proofs.OfSessions.{sends_counted}
 use Rattle.session_answers.specs.Boards.{AreBoards}
-use Rattle.session_answers.specs.Running.{sources_of, stage_of}
+use Rattle.session_answers.specs.Running.{stage_of}
 use Rattle.session_answers.proofs.OnBoards.{all_empty_without, can_cut, all_whole_among}
 use Rattle.session_answers.proofs.Steps.{have_run}
 use Rattle.session_answers.proofs.block.run_on_boards.Goals as goal
 
 pub cuts_on-requires-clause-boards : goal.cuts_on-requires-clause-boards
 cuts_on-requires-clause-boards g c =
-    all_empty_without c.args.session.now.authors c.as_slice.result.now c.as_slice-sources.result.now c.in_ok-boards.boards.items c.deref-2.result.now c.deref-2.ensures.value c.in_ok-boards.ensures.boards
+    all_empty_without c.args.session.now.authors c.as_slice.result.now c.args.sources.now c.in_ok-boards.boards.items c.deref.result.now c.deref.ensures.value c.in_ok-boards.ensures.boards
 
 pub cuts_on-requires-clause-seats : goal.cuts_on-requires-clause-seats
-cuts_on-requires-clause-seats g c = c.in_ok-boards.ensures.seats ∙ ap (map (option_map first_board_seat)) (sym c.deref-2.ensures.value)
+cuts_on-requires-clause-seats g c = c.in_ok-boards.ensures.seats ∙ ap (map (option_map first_board_seat)) (sym c.deref.ensures.value)
 
 pub run_block-requires-clause-numbers : goal.run_block-requires-clause-numbers
 run_block-requires-clause-numbers g c κs within = let few = c.requires.sends in let counted = sends_counted c.args.block.now.lines in omega arith
 
 pub run_block-requires-clause-boards : goal.run_block-requires-clause-boards
 run_block-requires-clause-boards g c κs within = λ replica own is.
-    can_cut (stage_of c.args.session.now c.args.block.now c.args.first_send c.as_slice-sources.result.now replica) c.in_ok-boards.boards.items c.in_ok-cuts.cuts.items
-    (subst (AllByRecursion Ascends) (sym c.as_slice-sources.ensures.value) c.in_ok-lists.ensures.ascend)
-    (subst (λ (lines : List Line). AreBoards c.args.session.now.authors lines c.as_slice-sources.result.now c.in_ok-boards.boards.items) c.as_slice.ensures c.in_ok-boards.ensures.boards)
-    c.in_ok-cuts.ensures.opening (c.in_ok-cuts.ensures.boards ∙ c.deref-2.ensures.value) (c.in_ok-cuts.ensures.seats ∙ c.in_ok-boards.ensures.seats) own is
+    can_cut (stage_of c.args.session.now c.args.block.now c.args.first_send c.args.sources.now replica) c.in_ok-boards.boards.items c.in_ok-cuts.cuts.items
+    c.requires.ascend
+    (subst (λ (lines : List Line). AreBoards c.args.session.now.authors lines c.args.sources.now c.in_ok-boards.boards.items) c.as_slice.ensures c.in_ok-boards.ensures.boards)
+    c.in_ok-cuts.ensures.opening (c.in_ok-cuts.ensures.boards ∙ c.deref.ensures.value) (c.in_ok-cuts.ensures.seats ∙ c.in_ok-boards.ensures.seats) own is
 
 pub close_all-requires : goal.close_all-requires
 close_all-requires g c =
-    let boards = c.in_ok-cuts.ensures.boards ∙ c.deref-2.ensures.value in
+    let boards = c.in_ok-cuts.ensures.boards ∙ c.deref.ensures.value in
     let firsts = c.in_ok-cuts.ensures.seats ∙ c.in_ok-boards.ensures.seats ∙ ap (map (option_map first_board_seat)) (sym boards) in
     all_whole_among c.in_ok-cuts.cuts.items c.run_block.new.cuts.items c.in_ok-boards.boards.items c.in_ok-whole.whole.items boards c.in_ok-whole.ensures firsts c.run_block.ensures.cuts c.run_block.ensures.seats
 
 pub returns : goal.returns
 returns g c =
-    have_run c.args.session.now c.args.block.now c.args.first_send c.args.replicas.items c.args.replicas.items c.in_ok-ran.ran.0.items c.in_ok-ran.ran.1.items c.as_slice-sources.result.now refl
-    (c.as_slice-sources.ensures.value ∙ c.in_ok-lists.ensures.lists ∙ ap sources_of c.deref.ensures.value) c.in_ok-ran.ensures.machines c.in_ok-ran.ensures.journals c.in_ok-ran.ensures.each
+    have_run c.args.session.now c.args.block.now c.args.first_send c.args.replicas.items c.args.replicas.items c.in_ok-ran.ran.0.items c.in_ok-ran.ran.1.items c.args.sources.now refl
+    c.requires.sources c.in_ok-ran.ensures.machines c.in_ok-ran.ensures.journals c.in_ok-ran.ensures.each

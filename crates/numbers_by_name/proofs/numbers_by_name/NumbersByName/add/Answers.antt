@@ -76,8 +76,8 @@ restored c =
     ∙ ap (λ es. insert_entry downward es key c.push-added.new.self) first
     ∙ ap (insert_entry downward (insert_entry downward entries key one) key) c.in_err-added.ensures.err
     ∙ put_back entries key one c.in-Some.earlier
-      (ap length (sym first) ∙ as_long c.in_ok-earlier.field-0 c.in-Some.earlier (length c.insert.new.self.entries) (length entries) c.in-Some.is c.in_ok-earlier.ensures.len)
-      (sym c.in_ok-earlier.ensures.old ∙ c.in-Some.is)
+    (ap length (sym first) ∙ as_long c.in_ok-earlier.field-0 c.in-Some.earlier (length c.insert.new.self.entries) (length entries) c.in-Some.is c.in_ok-earlier.ensures.len)
+    (sym c.in_ok-earlier.ensures.old ∙ c.in-Some.is)
 
 pub invariant_of-self-in_err-added : goal.invariant_of-self-in_err-added
 invariant_of-self-in_err-added c key = subst (λ (es : Entries). IfSome (found es key) (λ list. list.items ≢ [])) (sym (restored c)) (c.self.invariant key)

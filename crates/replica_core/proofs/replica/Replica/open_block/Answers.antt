@@ -2,17 +2,17 @@ use Rattle.std.proofs.Common.{map, sym, ap, subst, ◌∙◌}
 use Rattle.grove_edits.specs.Edit.{edit_edge}
 use Rattle.grove_edits.specs.Graph.{Ascends}
 use Rattle.replica_core.proofs.Keeping.{seen_opened}
-use Rattle.replica_core.proofs.replica.Replica.begin_block.Goals as goal
+use Rattle.replica_core.proofs.replica.Replica.open_block.Goals as goal
 
 pub of_list-requires : goal.of_list-requires
-of_list-requires c = record { in_order = subst Ascends (sym c.in_ok-edits.ensures.list) c.in_ok-edits.ensures.canonical.in_order }
+of_list-requires c = record { in_order = subst Ascends (sym c.in_ok-list.ensures.list) c.in_ok-list.ensures.canonical.in_order }
 
 pub invariant_of-self : goal.invariant_of-self
 invariant_of-self c =
     (seen_opened c.self.inside.graph c.self.inside.opening c.args.self.now c.self.invariant c.self.view_is c.in_ok-self-inside.field-0
-    (c.in_ok-self-inside.ensures.edges ∙ ap (map edit_edge) c.in_ok-edits.ensures.list)).invariant
+    (c.in_ok-self-inside.ensures.edges ∙ ap (map edit_edge) c.in_ok-list.ensures.list)).invariant
 
 pub returns-clause-opened : goal.returns-clause-opened
 returns-clause-opened c =
     (seen_opened c.self.inside.graph c.self.inside.opening c.args.self.now c.self.invariant c.self.view_is c.in_ok-self-inside.field-0
-    (c.in_ok-self-inside.ensures.edges ∙ ap (map edit_edge) c.in_ok-edits.ensures.list)).view
+    (c.in_ok-self-inside.ensures.edges ∙ ap (map edit_edge) c.in_ok-list.ensures.list)).view
