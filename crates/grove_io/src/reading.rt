@@ -5,7 +5,8 @@ ghost use Rattle.grove_io.specs.Outside.{Gave, HasRisen, IsAtEnd, moved};
 use crate::{Failed, InputFault, Source};
 use std::alloc::{AllocError, Global};
 
-const FIRST_ROOM: usize = 64 * 1024;
+/// How many bytes one read asks for, at most.
+const PIECE: usize = 64 * 1024;
 
 /// Reads a source to its end. It never takes more than `limit + 1` bytes.
 ///
@@ -36,10 +37,11 @@ pub fn read_all<S: Source>(
     ensures stays_sure { S.never_fails source.old → S.never_fails source.new }
     ensures no_fault { S.never_fails source.old → S.faults source.new ≡ S.faults source.old }
 {
+    let filler = filler(alloc)?;
     let mut text = Vec::new(alloc);
     let mut filled = 0;
     while filled <= limit {
-        make_room(&mut text, filled, limit + 1)?;
+        make_room(&mut text, filled, limit + 1, &filler)?;
         let count = read_behind(source, &mut text, filled)?;
         if count == 0 {
             text.truncate(filled);
@@ -50,13 +52,24 @@ pub fn read_all<S: Source>(
     Err(InputFault::TooLong)
 }
 
-/// Makes the text longer than `filled`, by zeros, and at most `most` long. It grows to twice its length, so that
-/// all the growths together take linear time.
-fn make_room(text: &mut Vec<u8>, filled: usize, most: usize) -> Result<(), AllocError>
+/// Bytes to put where a read is to write.
+fn filler(alloc: Global) -> Result<Vec<u8>, AllocError>
+    ensures { IfOk result (λ filler. 0 < vec_len filler) }
+{
+    vec![in alloc; 0; PIECE]
+}
+
+/// Makes the text longer than `filled`, by bytes of the filler, and at most `most` long.
+fn make_room(
+    text: &mut Vec<u8>,
+    filled: usize,
+    most: usize,
+    filler: &[u8],
+) -> Result<(), AllocError>
     requires filled { filled ≤ vec_len text.old }
     requires short { filled < most }
     requires within { vec_len text.old ≤ most }
-    requires small { most ≤ 2 ^ 32 }
+    requires some { 0 < length filler.now }
     ensures room { OnOk result (filled < vec_len text.new) }
     ensures within { vec_len text.new ≤ most }
     ensures front { take filled text.new.items ≡ take filled text.old.items }
@@ -64,8 +77,8 @@ fn make_room(text: &mut Vec<u8>, filled: usize, most: usize) -> Result<(), Alloc
     if filled < text.len() {
         return Ok(());
     }
-    let longer = (2 * text.len()).max(FIRST_ROOM).min(most);
-    text.resize(longer, 0)
+    let more = (most - text.len()).min(filler.len());
+    text.extend_from_slice(&filler[..more])
 }
 
 /// One read, to behind the first `filled` bytes of the text.
