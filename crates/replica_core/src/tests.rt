@@ -77,6 +77,20 @@ fn acted(
 }
 
 #[test]
+fn a_block_opens_with_the_list_of_the_graph(rt: HostRuntime) -> Result<(), Fail> {
+    let alloc = rt.alloc();
+    let lines = [
+        "+1.3 1.1 plus left 1.4 num:1",
+        "+1.2 0.0 root main 1.1 plus",
+    ];
+    let mut replica = opened(alloc, &lines)?;
+    let list = replica.open_block(alloc)?;
+    assert_eq!(rt; list.len(), 2);
+    assert_eq!(rt; list.as_slice(), replica.in_order(alloc)?.as_slice());
+    Ok(())
+}
+
+#[test]
 fn a_vertex_is_not_moved_below_itself(rt: HostRuntime) -> Result<(), Fail> {
     let first = Vertex {
         name: name(1, 1),
