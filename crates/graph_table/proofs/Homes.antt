@@ -6,17 +6,25 @@ use Rattle.grove_edits.specs.declared.vertex.Vertex.{Vertex}
 use Rattle.grove_edits.specs.declared.edge.Edge.{Edge}
 use Rattle.grove_edits.specs.declared.edit.Edit.{Edit}
 use Rattle.grove_edits.specs.Edit.{edit_edge}
+use Rattle.grove_edits.specs.Graph.{Ascends}
 use Rattle.grove_edits.specs.Vertex.{stands_in, root}
 use Rattle.graph_table.specs.declared.home.Home.{Home}
 use Rattle.graph_table.specs.declared.home.Home.TheVariants.{Root, Source, Target}
 use Rattle.graph_table.specs.Table.{Table, vertex_at, vertex_or_root, edge_or_none, IsNumber, IsIndex}
-use Rattle.graph_table.specs.Numbering.{with_vertex}
+use Rattle.graph_table.specs.declared.link.Link.{Link}
+use Rattle.graph_table.specs.Numbering.{with_vertex, AreNumbered, HaveNumbers, AreNumbersOf, sources_of, targets_of}
+use Rattle.graph_table.specs.Around.{Ends, neighbours}
+use Rattle.graph_table.specs.Chain.{AreAround}
+use Rattle.graph_table.specs.Parts.{IsTable}
 use Rattle.graph_table.specs.Homes.{vertex_in, AreHomes, vertices_in}
 
 -- ---- homes are found
 
 pub items_of : {a b : Vec Home Global} → a ≡ b → a.items ≡ b.items
 items_of e = ap (λ (x : Vec Home Global). x.items) e
+
+pub homes_none : (edits : List Edit) (homes : List Home) (vs : List Vertex) → homes ≡ [] → vs ≡ [] → AreHomes edits homes vs
+homes_none edits homes vs no_homes no_vertices = ap (map (vertex_in edits)) no_homes ∙ sym (ap (map (λ (v : Vertex). Some v)) no_vertices)
 
 pub homes_push : (edits : List Edit) (homes : List Home) (vs : List Vertex) (home : Home) (v : Vertex) → vertex_in edits home ≡ Some v → AreHomes edits homes vs → AreHomes edits (homes ++ home ∷ []) (vs ++ v ∷ [])
 homes_push edits homes vs home v is are =
@@ -69,6 +77,23 @@ end_told end_of (edit ∷ edits) zero v is = (omega arith, same_vertex is) where
   same_vertex : Some (end_of (edit_edge edit)) ≡ Some v → end_of (edit_edge edit) ≡ v
   same_vertex e = cc
 end_told end_of (edit ∷ edits) (suc i) v is = let rest = end_told end_of edits i v is in (omega (arith, rest.0), rest.1)
+
+-- the parts of a table
+pub table_of : (edits numbered gathered : List Edit) (homes : List Home) (vs : List Vertex) (sources targets : List ℕ) (links : List Link) (around : List Ends) → numbered ≡ edits → gathered ≡ edits → Ascends edits
+    → AreNumbered numbered vs sources targets → AreHomes numbered homes vs → AreAround links around (map (neighbours gathered) vs) → IsTable edits root homes sources targets links around
+table_of edits numbered gathered homes vs sources targets links around one two up numbers homes_are kept =
+    let are : AreHomes edits homes vs = subst (λ es. AreHomes es homes vs) one homes_are in
+    let told : AreNumbered edits vs sources targets = subst (λ es. AreNumbered es vs sources targets) one numbers in
+    let here : vs ≡ vertices_in edits homes = sym (vertices_are edits homes vs are) in
+    record {
+      in_order = up;
+      first_is = refl;
+      homes_are = subst (AreHomes edits homes) here are;
+      numbers = subst (HaveNumbers edits) here told.numbers;
+      source_numbers = subst (λ us. AreNumbersOf us sources (sources_of edits)) here told.source_numbers;
+      target_numbers = subst (λ us. AreNumbersOf us targets (targets_of edits)) here told.target_numbers;
+      kept = subst (λ us. AreAround links around (map (neighbours edits) us)) here (subst (λ es. AreAround links around (map (neighbours es) vs)) two kept);
+    }
 
 -- the parts of a table that its view shows
 module _ (edits : List Edit) (homes : List Home) (table : Table) (view : record { edits = edits; vertices = vertices_in edits homes } ≡ table) (are : AreHomes edits homes (vertices_in edits homes)) where

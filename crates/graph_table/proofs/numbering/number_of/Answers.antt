@@ -7,6 +7,9 @@ use Rattle.graph_table.proofs.numbering.number_of.Goals.{then-is_new+in_ok-push,
 pub returns-in_err-index-clause-once : goal.returns-in_err-index-clause-once
 returns-in_err-index-clause-once c = once_from_set _ c.in_err-index.ensures.unique
 
+pub returns-in_err-push-clause-once : goal.returns-in_err-push-clause-once
+returns-in_err-push-clause-once c = once_from_set _ c.in_ok-index.ensures.unique
+
 pub returns-in_default-clause-once : goal.returns-in_default-clause-once
 returns-in_default-clause-once c = once_from_set _ c.in_ok-index.ensures.unique
 
