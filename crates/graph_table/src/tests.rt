@@ -66,6 +66,7 @@ fn vertices_have_numbers_and_an_order(rt: HostRuntime) -> Result<(), Fail> {
 #[test]
 fn live_edges_are_told_by_number(rt: HostRuntime) -> Result<(), Fail> {
     let table = sum(rt.alloc())?;
+    assert_eq!(rt; table.number_count(), 5);
     // The sum, and the 7.
     let (plus, seven) = (1, 2);
     let mut out = Vec::new(rt.alloc());
@@ -108,6 +109,7 @@ fn vertices_of_one_name_are_in_vertex_order(rt: HostRuntime) -> Result<(), Fail>
 #[test]
 fn children_are_in_edge_order(rt: HostRuntime) -> Result<(), Fail> {
     let table = namesakes(rt.alloc())?;
+    assert_eq!(rt; table.number_count(), 4);
     let root = 0;
     let mut out = Vec::new(rt.alloc());
     table.children(root, Position::Main, &mut out)?;
