@@ -145,9 +145,6 @@ end_numbered f vs ns edits are i n edit here read =
     let within : i < length ns = omega (arith, count, slice_get_within edits i edit here) in
     ap (slice_get vs) read ∙ number_at vs ns (map f edits) are i n within ∙ slice_get-map f edits i ∙ ap (option_map f) here
 
-pub ends_counted : (f : Edit → Vertex) (vs : List Vertex) (ns : List ℕ) (edits : List Edit) → AreNumbersOf vs ns (map f edits) → length ns ≡ length edits
-ends_counted f vs ns edits are = number_count vs ns (map f edits) are ∙ length-map edits f
-
 -- ---- the ends of one more edit
 
 end_before : (edits more : List Edit) (v : Vertex) → IsEndIn edits v → IsEndIn (edits ++ more) v

@@ -15,7 +15,7 @@ use Rattle.grove_edits.specs.Vertex.{is_same_vertex}
 use Rattle.grove_sorts.specs.Position.{is_same_position}
 use Rattle.graph_table.specs.declared.link.Link.{Link}
 use Rattle.graph_table.specs.Table.{Table, inserted, live, is_insertion, edge_at, edge_or_none, vertex_at, vertex_or_root, few_at, IsNumber, IsIndex}
-use Rattle.graph_table.specs.Numbering.{AreNumbersOf, targets_of}
+use Rattle.graph_table.specs.Numbering.{AreNumbersOf}
 use Rattle.graph_table.specs.Chain.{IsChain, IsChained, IsAround, AreAround}
 use Rattle.graph_table.specs.Around.{Child, Ends, no_neighbours, first_indices, child, indices_at, leads_from, children_from, parents_from, neighbours}
 use Rattle.graph_table.specs.declared.parents.Parents.{Parents}

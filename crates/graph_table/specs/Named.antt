@@ -1,6 +1,5 @@
 -- Inner model, which no public contract cites: the vertices of a table, listed with their names and numbers.
 use Rattle.std.specs.Prelude.{◌≡◌, List, map}
-use Rattle.std.specs.List.{AllByRecursion}
 use Rattle.grove_edits.specs.declared.vertex.Vertex.{Vertex}
 use Rattle.graph_table.specs.declared.named_vertex.NamedVertex.{NamedVertex}
 use Rattle.graph_table.specs.Table.{Table, vertex_at, IsNumber}

@@ -102,15 +102,7 @@ impl GraphTable {
         in_vertex_order(alloc, self)
     }
 
-    /// The edge of the edit at an index.
-    pub fn edge(&self, index: usize) -> Edge
-        requires { IsIndex self.now index }
-        ensures { result ≡ edge_at self.now index }
-    {
-        self.edits.as_slice()[index].edge()
-    }
-
-    /// The same edge where it stands, for a caller that reads a part of it.
+    /// The edge of the edit at an index, where it stands.
     pub fn edge_ref(&self, index: usize) -> &Edge
         requires { IsIndex self.now index }
         ensures { result.now ≡ edge_at self.now index }

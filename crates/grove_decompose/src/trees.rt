@@ -50,8 +50,8 @@ pub fn heads_of(
     Ok(NumberedHeads { none, multi })
 }
 
-/// The tree of a vertex that heads one, by its number. The vertices that stand in it under another one are then seen, also where memory runs out in
-/// the midst of it.
+/// The tree of a vertex that heads one, by its number. The vertices that stand in it under another one are then seen, also where
+/// memory runs out in the midst of it.
 pub fn tree_by_number<'g>(
     alloc: Global,
     table: &'g GraphTable,

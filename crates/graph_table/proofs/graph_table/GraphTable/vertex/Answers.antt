@@ -1,6 +1,5 @@
 use Rattle.std.proofs.Common.{arith, ap, ◌∙◌}
 use Rattle.grove_edits.specs.declared.edge.Edge.{Edge}
-use Rattle.graph_table.specs.Homes.{vertices_in}
 use Rattle.graph_table.proofs.Homes.{homes_counted, root_told, source_told, target_told}
 use Rattle.graph_table.proofs.graph_table.GraphTable.vertex.Goals as goal
 

@@ -1,4 +1,3 @@
-use Rattle.std.proofs.Common.{◌∙◌, sym}
 use Rattle.graph_table.proofs.Lives.{are_live}
 use Rattle.graph_table.proofs.Homes.{table_of}
 use Rattle.graph_table.proofs.graph_table.GraphTable.with_seed.Goals as goal
