@@ -13,7 +13,7 @@ use Rattle.grove_edits.specs.declared.edge.Edge.{Edge}
 use Rattle.grove_edits.specs.declared.edit.Edit.{Edit}
 use Rattle.grove_edits.specs.Edit.{edit_edge}
 use Rattle.grove_edits.specs.contracts.vertex.VertexPartialEq.TheImpl as vertex_eq
-use Rattle.grove_edits.specs.Vertex.{is_same_vertex, stands_in, root}
+use Rattle.grove_edits.specs.Vertex.{is_same_vertex, stands_in}
 use Rattle.grove_edits.proofs.Vertices.{same_vertex_laws, same_vertex_exact, same_vertex_itself, eq_is_same_vertex}
 use Rattle.graph_table.specs.Table.{IsEndIn}
 use Rattle.graph_table.specs.Numbering.{with_vertex, sources_of, targets_of, AreNumbersOf, AreNumbered}
@@ -218,22 +218,3 @@ module _ (edits : List Edit) (edit : Edit) (edge : Edge) (vs ws us : List Vertex
       (subst (λ ns. AreNumbered (edits ++ edit ∷ []) (after edits edit vs) ns new_ts) (sym sources_are)
       (subst (AreNumbered (edits ++ edit ∷ []) (after edits edit vs) (ss ++ s ∷ [])) (sym targets_are)
       (numbered_after edits edit vs ss ts s t (subst (IsDistinct is_same_vertex) two once) from to are)))
-
--- ---- no edits
-
-pub numbered_none : IsDistinct is_same_vertex (root ∷ []) → AreNumbered [] (root ∷ []) [] []
-numbered_none once = record {
-  numbers = record { once = once; each = each; no_other = no_other };
-  source_numbers = refl;
-  target_numbers = refl;
-}
-  where
-    each : (v : Vertex) → IsEndIn [] v → stands_in v (root ∷ []) ≡ true
-    each v (inl is) = subst (λ w. stands_in w (root ∷ []) ≡ true) (sym is) (stands_last root [])
-    each v (inr end) = absurd (omega (arith, end.1.1))
-
-    no_other : (v : Vertex) → stands_in v (root ∷ []) ≡ true → IsEndIn [] v
-    no_other v stands = by_last (stands_or_last v root [] stands) where
-      by_last : (stands_in v [] ≡ true) ⊎ (root ≡ v) → IsEndIn [] v
-      by_last (inl none) = absurd cc
-      by_last (inr is) = inl (sym is)
