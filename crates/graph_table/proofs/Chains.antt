@@ -1,5 +1,5 @@
 -- Chains of links, and what is kept of the vertices beside them.
-use Rattle.std.proofs.Common.{◌≡◌, ℕ, zero, suc, ◌+◌, ◌-◌, ◌<◌, ◌≤◌, Bool, true, false, cond, List, [], ◌∷◌, ◌++◌, length, get_or, set, slice_get, map, reverse, Some, replicate, refl, sym, ap, subst, ◌∙◌, arith, append_assoc}
+use Rattle.std.proofs.Common.{◌≡◌, ℕ, zero, suc, ◌+◌, ◌-◌, ◌<◌, ◌≤◌, Bool, true, false, cond, List, [], ◌∷◌, ◌++◌, length, get_or, set, slice_get, reverse, Some, replicate, refl, sym, ap, subst, ◌∙◌, arith, append_assoc}
 use Rattle.std.proofs.lemmas.List.{append-nil, reverse-append, reverse-reverse}
 use Rattle.std.proofs.lemmas.Option.{slice_get_within}
 use Rattle.grove_sorts.specs.declared.position.Position.{Position}
@@ -65,12 +65,6 @@ around_count links [] [] are = refl
 around_count links [] (y ∷ ns) are = absurd are
 around_count links (x ∷ es) [] are = absurd are
 around_count links (x ∷ es) (y ∷ ns) are = ap suc (around_count links es ns are.1)
-
-pub same_parents : (links : List Link) (es : List Ends) (ns : List Neighbours) → AreAround links es ns → map (λ (e : Ends). e.parents) es ≡ map (λ (n : Neighbours). n.parents) ns
-same_parents links [] [] are = refl
-same_parents links [] (y ∷ ns) are = absurd are
-same_parents links (x ∷ es) [] are = absurd are
-same_parents links (x ∷ es) (y ∷ ns) are = λ j. are.0.1 j ∷ same_parents links es ns are.1 j
 
 pub nothing_around : (links : List Link) (n : ℕ) → AreAround links (replicate n no_ends) (replicate n no_neighbours)
 nothing_around links zero = tt

@@ -1,11 +1,10 @@
 pub mod Lives
 pub mod Ends
 pub mod Numbers
+pub mod Homes
 pub mod Gathered
 pub mod Chains
 pub mod Positions
 pub mod Readings
 pub mod VertexOrder
-pub mod Targets
 pub mod ParentIndices
-pub mod Told

@@ -1,11 +1,10 @@
 -- What a set of vertices says of their numbers.
 use Rattle.std.proofs.Common.{◌≡◌, ℕ, zero, suc, ◌<◌, Bool, true, false, cond, List, [], ◌∷◌, ◌++◌, length, get_or, slice_get, map, Some, ◌⊎◌, inl, inr, refl, sym, ap, subst, ◌∙◌, arith}
-use Rattle.std.specs.Prelude.{◌||◌}
-use Rattle.std.specs.List.{IsDistinct, Contains, list_any, position}
+use Rattle.std.specs.Prelude.{◌||◌, not}
+use Rattle.std.specs.List.{IsDistinct, Contains, list_any}
 use Rattle.std.specs.Option.{option_map}
 use Rattle.std.proofs.lemmas.List.{map-append, length-map}
-use Rattle.std.proofs.lemmas.Option.{slice_get-map, slice_get_within, slice_get-get_or}
-use Rattle.std.proofs.lemmas.List.Quantifiers.{position-Some}
+use Rattle.std.proofs.lemmas.Option.{slice_get-map, slice_get_within}
 use Rattle.std.proofs.lemmas.List.Elements.{Contains-append_left, Contains-push, Contains-push_cases}
 use Rattle.std.proofs.lemmas.Map.Keys.{apart_from_distinct, IsDistinct-from_apart}
 use Rattle.indexmap.specs.IndexSet.{insert_key}
@@ -14,7 +13,7 @@ use Rattle.grove_edits.specs.declared.edge.Edge.{Edge}
 use Rattle.grove_edits.specs.declared.edit.Edit.{Edit}
 use Rattle.grove_edits.specs.Edit.{edit_edge}
 use Rattle.grove_edits.specs.contracts.vertex.VertexPartialEq.TheImpl as vertex_eq
-use Rattle.grove_edits.specs.Vertex.{is_same_vertex, stands_in, root}
+use Rattle.grove_edits.specs.Vertex.{is_same_vertex, stands_in}
 use Rattle.grove_edits.proofs.Vertices.{same_vertex_laws, same_vertex_exact, same_vertex_itself, eq_is_same_vertex}
 use Rattle.graph_table.specs.Table.{IsEndIn}
 use Rattle.graph_table.specs.Numbering.{with_vertex, sources_of, targets_of, AreNumbersOf, AreNumbered}
@@ -30,6 +29,10 @@ any_is_stands_in (k ∷ ks) v =
     let here : eq v k ≡ is_same_vertex k v = eq_is_same_vertex v k ∙ same_vertex_laws.symm v k in
     ap (λ b. b || list_any (eq v) ks) here ∙ ap (λ b. is_same_vertex k v || b) (any_is_stands_in ks v)
 
+-- the set says that a vertex is new where it did not stand among its vertices
+pub new_where_none : (keys : List Vertex) (v : Vertex) (new : Bool) → new ≡ not (list_any (eq v) keys) → new ≡ not (stands_in v keys)
+new_where_none keys v new is = is ∙ ap not (any_is_stands_in keys v)
+
 pub inserted_is : (keys : List Vertex) (v : Vertex) → insert_key eq keys v ≡ with_vertex v keys
 inserted_is keys v = ap (λ b. cond b keys (keys ++ v ∷ [])) (any_is_stands_in keys v)
 
@@ -40,12 +43,6 @@ once_from_set keys once =
 -- a vertex that the set finds equal is the vertex
 pub number_from_set : (keys : List Vertex) (n : ℕ) (v k : Vertex) → slice_get keys n ≡ Some k → eq v k ≡ true → slice_get keys n ≡ Some v
 number_from_set keys n v k is same = is ∙ ap Some (sym (same_vertex_exact v k (sym (eq_is_same_vertex v k) ∙ same)))
-
--- the index of a vertex is its number
-pub number_found : (keys : List Vertex) (v : Vertex) (i : ℕ) → position (eq v) keys ≡ Some i → slice_get keys i ≡ Some v
-number_found keys v i is =
-    let found = position-Some (eq v) keys i v is in
-    number_from_set keys i v (get_or keys i v) (slice_get-get_or keys i v found.0) found.1
 
 -- ---- one more vertex
 
@@ -148,9 +145,6 @@ end_numbered f vs ns edits are i n edit here read =
     let within : i < length ns = omega (arith, count, slice_get_within edits i edit here) in
     ap (slice_get vs) read ∙ number_at vs ns (map f edits) are i n within ∙ slice_get-map f edits i ∙ ap (option_map f) here
 
-pub ends_counted : (f : Edit → Vertex) (vs : List Vertex) (ns : List ℕ) (edits : List Edit) → AreNumbersOf vs ns (map f edits) → length ns ≡ length edits
-ends_counted f vs ns edits are = number_count vs ns (map f edits) are ∙ length-map edits f
-
 -- ---- the ends of one more edit
 
 end_before : (edits more : List Edit) (v : Vertex) → IsEndIn edits v → IsEndIn (edits ++ more) v
@@ -224,22 +218,3 @@ module _ (edits : List Edit) (edit : Edit) (edge : Edge) (vs ws us : List Vertex
       (subst (λ ns. AreNumbered (edits ++ edit ∷ []) (after edits edit vs) ns new_ts) (sym sources_are)
       (subst (AreNumbered (edits ++ edit ∷ []) (after edits edit vs) (ss ++ s ∷ [])) (sym targets_are)
       (numbered_after edits edit vs ss ts s t (subst (IsDistinct is_same_vertex) two once) from to are)))
-
--- ---- no edits
-
-pub numbered_none : IsDistinct is_same_vertex (root ∷ []) → AreNumbered [] (root ∷ []) [] []
-numbered_none once = record {
-  numbers = record { once = once; each = each; no_other = no_other };
-  source_numbers = refl;
-  target_numbers = refl;
-}
-  where
-    each : (v : Vertex) → IsEndIn [] v → stands_in v (root ∷ []) ≡ true
-    each v (inl is) = subst (λ w. stands_in w (root ∷ []) ≡ true) (sym is) (stands_last root [])
-    each v (inr end) = absurd (omega (arith, end.1.1))
-
-    no_other : (v : Vertex) → stands_in v (root ∷ []) ≡ true → IsEndIn [] v
-    no_other v stands = by_last (stands_or_last v root [] stands) where
-      by_last : (stands_in v [] ≡ true) ⊎ (root ≡ v) → IsEndIn [] v
-      by_last (inl none) = absurd cc
-      by_last (inr is) = inl (sym is)

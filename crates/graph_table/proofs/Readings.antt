@@ -1,7 +1,7 @@
 -- What a table that is read tells of the live edges.
-use Rattle.std.proofs.Common.{◌≡◌, ℕ, zero, suc, ◌+◌, ◌<◌, Bool, true, false, cond, List, [], ◌∷◌, length, get_or, slice_get, map, reverse, Option, Some, None, refl, sym, ap, subst, ◌∙◌, arith}
-use Rattle.std.specs.Prelude.{◌&&◌, IfSome}
-use Rattle.std.specs.List.{AllByRecursion, position}
+use Rattle.std.proofs.Common.{◌≡◌, ℕ, zero, suc, ◌+◌, ◌<◌, Bool, true, false, cond, List, [], ◌∷◌, length, get_or, slice_get, map, reverse, Some, refl, sym, ap, subst, ◌∙◌, arith}
+use Rattle.std.specs.Prelude.{◌&&◌}
+use Rattle.std.specs.List.{AllByRecursion}
 use Rattle.std.proofs.lemmas.List.{length-map}
 use Rattle.std.proofs.lemmas.Option.{slice_get_within}
 use Rattle.grove_sorts.specs.declared.position.Position.{Position}
@@ -14,11 +14,14 @@ use Rattle.walks.specs.Live.{parents_of, children_of}
 use Rattle.grove_edits.specs.Vertex.{is_same_vertex}
 use Rattle.grove_sorts.specs.Position.{is_same_position}
 use Rattle.graph_table.specs.declared.link.Link.{Link}
-use Rattle.graph_table.specs.Table.{Table, inserted, live, is_insertion, edge_at, edge_or_none, vertex_at, vertex_or_root, few_at, IsNumber, IsNumbered, IsIndex}
-use Rattle.graph_table.specs.Numbering.{AreNumbersOf, targets_of}
+use Rattle.graph_table.specs.Table.{Table, inserted, live, is_insertion, edge_at, edge_or_none, vertex_at, vertex_or_root, few_at, IsNumber, IsIndex}
+use Rattle.graph_table.specs.Numbering.{AreNumbersOf}
 use Rattle.graph_table.specs.Chain.{IsChain, IsChained, IsAround, AreAround}
 use Rattle.graph_table.specs.Around.{Child, Ends, no_neighbours, first_indices, child, indices_at, leads_from, children_from, parents_from, neighbours}
-use Rattle.graph_table.proofs.Numbers.{eq, number_found, end_numbered}
+use Rattle.graph_table.specs.declared.parents.Parents.{Parents}
+use Rattle.graph_table.specs.ParentIndices.{AreIndices}
+use Rattle.graph_table.proofs.ParentIndices.{are_indices}
+use Rattle.graph_table.proofs.Numbers.{end_numbered}
 use Rattle.graph_table.proofs.Gathered.{read_number}
 use Rattle.graph_table.proofs.Chains.{around_at, around_count, indices_back}
 
@@ -27,13 +30,7 @@ some_at [] i within = absurd (omega (arith, within))
 some_at (x ∷ xs) zero within = (x, refl)
 some_at (x ∷ xs) (suc i) within = some_at xs i (omega (arith, within))
 
--- ---- vertices by number
-
-pub numbers_found : (table : Table) (v : Vertex) (found : Option ℕ) → found ≡ position (eq v) table.vertices → IfSome found (λ n. IsNumbered table (record { vertex = v; number = n }))
-numbers_found table v None is = tt
-numbers_found table v (Some n) is =
-    let at = number_found table.vertices v n (sym is) in
-    (slice_get_within table.vertices n v at, ap vertex_or_root at)
+-- ---- ends by number
 
 pub end_read : (end_of : Edge → Vertex) (table : Table) (numbers : List ℕ) → AreNumbersOf table.vertices numbers (map (λ edit. end_of (edit_edge edit)) table.edits) → (i n : ℕ) → IsIndex table i → n ≡ get_or numbers i n
     → IsNumber table n × (vertex_at table n ≡ end_of (edge_at table i))
@@ -159,6 +156,11 @@ module _ (table : Table) (links : List Link) (around : List Ends) (kept : AreAro
 
   pub children_indexed : (p : Position) (out : List ℕ) → ((children : List Child) → IsChain links here.last children → out ≡ reverse (indices_at p children)) → AllByRecursion (IsIndex table) out
   children_indexed p out told = subst (AllByRecursion (IsIndex table)) (sym (indices_told p out told)) (children_within table (vertex_at table n) p)
+
+pub indices_kept : (table : Table) (links : List Link) (around : List Ends) → AreAround links around (map (neighbours table.edits) table.vertices) → (n : ℕ) (x : Ends) (p : Parents) → IsNumber table n
+    → x ≡ get_or around n x → p ≡ x.parents → AreIndices table p
+indices_kept table links around kept n x p within at told =
+    subst (AreIndices table) (sym (told ∙ (is_around table links around kept n within x at).1)) (are_indices table (vertex_at table n))
 
 pub number_inside : (table : Table) (links : List Link) (around : List Ends) → AreAround links around (map (neighbours table.edits) table.vertices) → (n : ℕ) → IsNumber table n → n < length around
 number_inside table links around kept n within =

@@ -1,93 +1,48 @@
--- Numbered vertices and their order.
-use Rattle.std.proofs.Common.{◌≡◌, ℕ, zero, suc, ◌+◌, ◌<◌, ◌||◌, false, List, [], ◌∷◌, ◌++◌, length, get_or, take, map, slice_get, Some, Ordering, Less, Equal, Greater, is_eq, is_lt, refl, sym, ap, subst, ◌∙◌, arith}
+-- The vertices of a table and their order.
+use Rattle.std.proofs.Common.{◌≡◌, ℕ, zero, suc, ◌+◌, ◌<◌, ◌||◌, true, false, List, [], ◌∷◌, ◌++◌, length, get_or, take, map, slice_get, Ordering, Less, Equal, Greater, is_eq, is_lt, refl, sym, ap, subst, ◌∙◌, arith}
 use Rattle.std.specs.Ordering.{ordering_reverse, ordering_then, nat_cmp}
+use Rattle.std.specs.Option.{option_map}
 use Rattle.std.specs.List.{AllByRecursion, IsDistinct, list_any}
 use Rattle.std.specs.List.Sorted.{IsPermutation, IsSorted}
-use Rattle.std.proofs.Math.ListN.{get_or-map}
 use Rattle.std.proofs.lemmas.List.{length-map, map-append, take_more}
 use Rattle.std.proofs.lemmas.List.Elements.{recursion_from_All, All-from_recursion, All-push}
 use Rattle.std.proofs.lemmas.List.MinMax.{ranks_by}
 use Rattle.std.proofs.lemmas.List.Sorted.{sorted_far, list_any-IsPermutation, IsPermutation-map, All-permutation}
-use Rattle.std.proofs.lemmas.Option.{slice_get_read}
+use Rattle.std.proofs.lemmas.Option.{slice_get-map, slice_get-get_or, get_or_from_slice_get}
 use Rattle.std.proofs.lemmas.Map.Keys.{IsDistinct-head, IsDistinct-tail, IsDistinct-IsPermutation}
 use Rattle.grove_edits.specs.declared.vertex.Vertex.{Vertex}
 use Rattle.grove_edits.specs.Vertex.{vertex_cmp, is_same_vertex, stands_in}
+use Rattle.grove_edits.specs.Graph.{graph}
 use Rattle.grove_edits.specs.contracts.vertex.VertexOrd.TheImpl as vertex_impl
 use Rattle.grove_edits.proofs.Orders.{vertex_cmp_total, cmp_is_vertex_cmp}
-use Rattle.walks.specs.Whole.{IsInVertexOrder}
 use Rattle.grove_edits.proofs.Vertices.{same_vertex_laws}
 use Rattle.grove_names.specs.declared.name.Name.{Name}
-use Rattle.graph_table.specs.declared.named_number.NamedNumber.{NamedNumber}
-use Rattle.graph_table.specs.declared.numbered.Numbered.{Numbered}
-use Rattle.graph_table.specs.Named.{vertex_of, numbered, AreWithin}
-use Rattle.graph_table.specs.contracts.numbered.NumberedOrd.TheImpl as impl
+use Rattle.grove_names.specs.contracts.name.NameOrd.TheImpl as name_impl
+use Rattle.walks.specs.Whole.{IsInVertexOrder, IsVertexOf, AreVertices}
+use Rattle.graph_table.specs.declared.named_vertex.NamedVertex.{NamedVertex}
+use Rattle.graph_table.specs.contracts.named_vertex.NamedVertexOrd.TheImpl as impl
+use Rattle.graph_table.specs.Table.{Table, vertex_at, vertex_or_root, IsNumber}
+use Rattle.graph_table.specs.Named.{vertices_of, IsNamed}
 
-abbrev pub vertices_of : List Numbered → List Vertex
-vertices_of list = map (λ n. n.vertex) list
+-- ---- the vertices with their names
 
--- ---- the keys
+vertex_at_index : (vertices : List Vertex) (i : ℕ) (d : Vertex) → i < length vertices → vertex_or_root (slice_get vertices i) ≡ get_or vertices i d
+vertex_at_index [] i d lt = absurd (omega (arith, lt))
+vertex_at_index (v ∷ vertices) zero d lt = refl
+vertex_at_index (v ∷ vertices) (suc i) d lt = vertex_at_index vertices i d (omega (arith, lt))
 
-abbrev pub IsAt : List Vertex → Numbered → Type 0
-IsAt vertices n = slice_get vertices n.number ≡ Some n.vertex
+-- one more vertex
+pub vertices-pushed : (table : Table) (xs ys : List NamedVertex) (i : ℕ) (n : NamedVertex) → IsNumber table i → n.vertex.now ≡ vertex_at table i → ys ≡ xs ++ n ∷ []
+    → vertices_of xs ≡ take i table.vertices → vertices_of ys ≡ take (i + 1) table.vertices
+vertices-pushed table xs ys i n within of is so_far =
+    ap vertices_of is ∙ map-append (λ (m : NamedVertex). m.vertex.now) xs (n ∷ [])
+    ∙ ap (λ (l : List Vertex). l ++ n.vertex.now ∷ []) so_far
+    ∙ ap (λ (x : Vertex). take i table.vertices ++ x ∷ []) (of ∙ vertex_at_index table.vertices i n.vertex.now within) ∙ sym (take_more table.vertices i n.vertex.now within)
 
-vertex_at_index : (vertices : List Vertex) (name : Name) (i : ℕ) (d : Vertex) → i < length vertices → vertex_of vertices (record { name = name; number = i }) ≡ get_or vertices i d
-vertex_at_index [] name i d lt = absurd (omega (arith, lt))
-vertex_at_index (v ∷ vertices) name zero d lt = refl
-vertex_at_index (v ∷ vertices) name (suc i) d lt = vertex_at_index vertices name i d (omega (arith, lt))
-
-pub names-pushed : (xs ys : List NamedNumber) (vertices : List Vertex) (i : ℕ) (name : Name) (d : Vertex) → i < length vertices → ys ≡ xs ++ record { name = name; number = i } ∷ []
-    → map (vertex_of vertices) xs ≡ take i vertices → map (vertex_of vertices) ys ≡ take (i + 1) vertices
-names-pushed xs ys vertices i name d lt is so_far =
-    let last : NamedNumber = record { name = name; number = i } in
-    ap (map (vertex_of vertices)) is ∙ map-append (vertex_of vertices) xs (last ∷ [])
-    ∙ ap (λ (l : List Vertex). l ++ vertex_of vertices last ∷ []) so_far
-    ∙ ap (λ (x : Vertex). take i vertices ++ x ∷ []) (vertex_at_index vertices name i d lt) ∙ sym (take_more vertices i d lt)
-
-pub within-pushed : (xs ys : List NamedNumber) (vertices : List Vertex) (i : ℕ) (name : Name) → i < length vertices → ys ≡ xs ++ record { name = name; number = i } ∷ []
-    → AreWithin vertices xs → AreWithin vertices ys
-within-pushed xs ys vertices i name lt is all =
-    let last : NamedNumber = record { name = name; number = i } in
-    let Within : NamedNumber → Type 0 = λ (key : NamedNumber). key.number < length vertices in
-    subst (AreWithin vertices) (sym is)
-    (recursion_from_All Within (xs ++ last ∷ []) (All-push Within xs last (All-from_recursion Within xs all) lt))
-
-pub key_within : (keys : List NamedNumber) (vertices : List Vertex) (i : ℕ) (d : NamedNumber) → AreWithin vertices keys → i < length keys → (get_or keys i d).number < length vertices
-key_within keys vertices i d all lt = All-from_recursion (λ (key : NamedNumber). key.number < length vertices) keys all i d lt
-
--- one more key with its vertex
-pub keys-pushed : (keys : List NamedNumber) (xs ys : List Numbered) (vertices : List Vertex) (i : ℕ) (d : NamedNumber) (v : Vertex) → AreWithin vertices keys → i < length keys
-    → v ≡ get_or vertices (get_or keys i d).number v → ys ≡ xs ++ record { vertex = v; number = (get_or keys i d).number } ∷ []
-    → xs ≡ map (numbered vertices) (take i keys) → ys ≡ map (numbered vertices) (take (i + 1) keys)
-keys-pushed keys xs ys vertices i d v all lt at is so_far =
-    let key = get_or keys i d in
-    let here : v ≡ vertex_of vertices key = at ∙ sym (vertex_at_index vertices key.name key.number v (key_within keys vertices i d all lt)) in
-    is ∙ ap (λ (l : List Numbered). l ++ record { vertex = v; number = key.number } ∷ []) so_far
-    ∙ ap (λ (w : Vertex). map (numbered vertices) (take i keys) ++ record { vertex = w; number = key.number } ∷ []) here
-    ∙ sym (ap (map (numbered vertices)) (take_more keys i d lt) ∙ map-append (numbered vertices) (take i keys) (key ∷ []))
-
-all_at : (keys : List NamedNumber) (vertices : List Vertex) → AreWithin vertices keys → AllByRecursion (IsAt vertices) (map (numbered vertices) keys)
-all_at [] vertices all = tt
-all_at (key ∷ keys) vertices all =
-    (slice_get_read vertices (length vertices) key.number (vertex_of vertices key) refl all.0 (vertex_at_index vertices key.name key.number (vertex_of vertices key) all.0), all_at keys vertices all.1)
-
-vertices_numbered : (keys : List NamedNumber) (vertices : List Vertex) → vertices_of (map (numbered vertices) keys) ≡ map (vertex_of vertices) keys
-vertices_numbered [] vertices = refl
-vertices_numbered (key ∷ keys) vertices = ap (λ vs. vertex_of vertices key ∷ vs) (vertices_numbered keys vertices)
-
-pub sorted_within : (keys sorted : List NamedNumber) (vertices : List Vertex) → IsPermutation keys sorted → AreWithin vertices keys → AreWithin vertices sorted
-sorted_within keys sorted vertices moved all =
-    let Within : NamedNumber → Type 0 = λ (key : NamedNumber). key.number < length vertices in
-    recursion_from_All Within sorted (All-permutation Within keys sorted moved (All-from_recursion Within keys all))
-
--- the keys in another order, with their vertices
-module _ (keys sorted : List NamedNumber) (vertices : List Vertex) (list : List Numbered) (moved : IsPermutation keys sorted) (is : list ≡ map (numbered vertices) sorted) where
-  pub vertices_by_name : map (vertex_of vertices) keys ≡ vertices → IsPermutation vertices (vertices_of list)
-  vertices_by_name all =
-      subst (λ vs. IsPermutation vs (vertices_of list)) all
-      (subst (IsPermutation (map (vertex_of vertices) keys)) (sym (ap vertices_of is ∙ vertices_numbered sorted vertices)) (IsPermutation-map (vertex_of vertices) keys sorted moved))
-
-  pub all_by_name : AreWithin vertices keys → AllByRecursion (IsAt vertices) list
-  all_by_name within = subst (AllByRecursion (IsAt vertices)) (sym is) (all_at sorted vertices (sorted_within keys sorted vertices moved within))
+pub named-pushed : (table : Table) (xs ys : List NamedVertex) (n : NamedVertex) → IsNamed table n → ys ≡ xs ++ n ∷ [] → AllByRecursion (IsNamed table) xs → AllByRecursion (IsNamed table) ys
+named-pushed table xs ys n named is all =
+    subst (AllByRecursion (IsNamed table)) (sym is)
+    (recursion_from_All (IsNamed table) (xs ++ n ∷ []) (All-push (IsNamed table) xs n (All-from_recursion (IsNamed table) xs all) named))
 
 -- ---- a list that has changed places
 
@@ -97,12 +52,6 @@ stands-any v (x ∷ xs) = ap (λ b. is_same_vertex x v || b) (stands-any v xs)
 
 stands-permutation : (xs ys : List Vertex) → IsPermutation xs ys → (v : Vertex) → stands_in v ys ≡ stands_in v xs
 stands-permutation xs ys moved v = stands-any v ys ∙ sym (list_any-IsPermutation (λ x. is_same_vertex x v) xs ys moved) ∙ sym (stands-any v xs)
-
-pub stands-sorted : (xs ys : List Numbered) (vertices : List Vertex) → IsPermutation vertices (vertices_of xs) → IsPermutation xs ys → (v : Vertex) → stands_in v (vertices_of ys) ≡ stands_in v vertices
-stands-sorted xs ys vertices is moved v = stands-permutation (vertices_of xs) (vertices_of ys) (IsPermutation-map (λ n. n.vertex) xs ys moved) v ∙ stands-permutation vertices (vertices_of xs) is v
-
-pub all-sorted : (P : Numbered → Type 0) (xs ys : List Numbered) → IsPermutation xs ys → AllByRecursion P xs → AllByRecursion P ys
-all-sorted P xs ys moved all = recursion_from_All P ys (All-permutation P xs ys moved (All-from_recursion P xs all))
 
 -- ---- vertices in order
 
@@ -116,16 +65,34 @@ first_not_less Less p h = h
 first_not_less Equal p h = refl
 first_not_less Greater p h = refl
 
-vertices_sorted : (xs : List Numbered) → IsSorted impl.ghosts.cmp xs → IsSorted vertex_cmp (vertices_of xs)
-vertices_sorted xs up k d low high =
-    let blank : Numbered = record { vertex = d; number = zero } in
-    let within : k + 1 < length xs = omega (arith, length-map xs (λ (n : Numbered). n.vertex)) in
-    let a = get_or xs (k + 1) blank in
-    let b = get_or xs k blank in
-    let test : is_lt (vertex_impl.ghosts.cmp a.vertex b.vertex) ≡ false = first_not_less (vertex_impl.ghosts.cmp a.vertex b.vertex) (nat_cmp a.number b.number) (up k blank low within) in
-    ap (λ (v : Vertex). is_lt (vertex_cmp v (get_or (vertices_of xs) k d))) (get_or-map (λ (n : Numbered). n.vertex) xs (k + 1) blank)
-    ∙ ap (λ (v : Vertex). is_lt (vertex_cmp a.vertex v)) (get_or-map (λ (n : Numbered). n.vertex) xs k blank)
-    ∙ ap is_lt (sym (cmp_is_vertex_cmp a.vertex b.vertex)) ∙ test
+-- where neither the name nor the vertex is less, the vertex is not
+vertex_not_less : (name ctor number : Ordering) → is_lt (ordering_then name (ordering_then (ordering_then name ctor) number)) ≡ false → is_lt (ordering_then name ctor) ≡ false
+vertex_not_less Less ctor number h = h
+vertex_not_less Equal ctor number h = first_not_less ctor number h
+vertex_not_less Greater ctor number h = refl
+
+get_mapped : (xs : List NamedVertex) (k : ℕ) (n : NamedVertex) (d : Vertex) → k < length xs → get_or (vertices_of xs) k d ≡ (get_or xs k n).vertex.now
+get_mapped xs k n d lt =
+    get_or_from_slice_get (vertices_of xs) k (get_or xs k n).vertex.now d
+    (slice_get-map (λ (m : NamedVertex). m.vertex.now) xs k ∙ ap (option_map (λ (m : NamedVertex). m.vertex.now)) (slice_get-get_or xs k n lt))
+
+not_less : (table : Table) (a b : NamedVertex) → IsNamed table a → IsNamed table b → is_lt (impl.ghosts.cmp a b) ≡ false → is_lt (vertex_cmp a.vertex.now b.vertex.now) ≡ false
+not_less table a b named_a named_b h =
+    ap is_lt (sym (cmp_is_vertex_cmp a.vertex.now b.vertex.now)) ∙ vertex_not_less (name_impl.ghosts.cmp a.vertex.now.name b.vertex.now.name) _ (nat_cmp a.number b.number)
+    (ap (λ (x : Name). is_lt (ordering_then (name_impl.ghosts.cmp x b.vertex.now.name) (ordering_then (vertex_impl.ghosts.cmp a.vertex.now b.vertex.now) (nat_cmp a.number b.number)))) (sym named_a.name)
+    ∙ ap (λ (y : Name). is_lt (ordering_then (name_impl.ghosts.cmp a.name y) (ordering_then (vertex_impl.ghosts.cmp a.vertex.now b.vertex.now) (nat_cmp a.number b.number)))) (sym named_b.name) ∙ h)
+
+vertices_sorted : (table : Table) (xs : List NamedVertex) → AllByRecursion (IsNamed table) xs → IsSorted impl.ghosts.cmp xs → IsSorted vertex_cmp (vertices_of xs)
+vertices_sorted table [] all up k d low high = absurd (omega arith)
+vertices_sorted table (n ∷ ns) all up k d low high =
+    let xs = n ∷ ns in
+    let within : k + 1 < length xs = omega (arith, length-map xs (λ (m : NamedVertex). m.vertex.now)) in
+    let a = get_or xs (k + 1) n in
+    let b = get_or xs k n in
+    let named = All-from_recursion (IsNamed table) xs all in
+    ap (λ (v : Vertex). is_lt (vertex_cmp v (get_or (vertices_of xs) k d))) (get_mapped xs (k + 1) n d within)
+    ∙ ap (λ (v : Vertex). is_lt (vertex_cmp a.vertex.now v)) (get_mapped xs k n d (omega arith))
+    ∙ not_less table a b (named (k + 1) n within) (named k n (omega arith)) (up k n low within)
 
 tail_sorted : (x : Vertex) (xs : List Vertex) → IsSorted vertex_cmp (x ∷ xs) → IsSorted vertex_cmp xs
 tail_sorted x xs up k d low high =
@@ -144,8 +111,35 @@ in_order_when_distinct (x ∷ xs) up distinct =
         let other = All-from_recursion (λ y. is_same_vertex x y ≡ false) xs (IsDistinct-head is_same_vertex x xs distinct) k d lt in
         less_of_tests (vertex_cmp x (get_or xs k d)) (ap is_lt (sym (vertex_cmp_total.antisymm (get_or xs k d) x)) ∙ up_to) other
 
-pub in_order-sorted : (xs ys : List Numbered) (vertices : List Vertex) → IsDistinct is_same_vertex vertices → IsPermutation vertices (vertices_of xs) → IsPermutation xs ys → IsSorted impl.ghosts.cmp ys → IsInVertexOrder (vertices_of ys)
-in_order-sorted xs ys vertices distinct is moved up =
-    in_order_when_distinct (vertices_of ys) (vertices_sorted ys up)
-    (IsDistinct-IsPermutation is_same_vertex same_vertex_laws.symm (vertices_of xs) (vertices_of ys) (IsPermutation-map (λ n. n.vertex) xs ys moved)
-    (IsDistinct-IsPermutation is_same_vertex same_vertex_laws.symm vertices (vertices_of xs) is distinct))
+-- ---- the numbers of a list in order
+
+numbers_told : (table : Table) (xs : List NamedVertex) → AllByRecursion (IsNamed table) xs → map (vertex_at table) (map (λ n. n.number) xs) ≡ vertices_of xs
+numbers_told table [] all = refl
+numbers_told table (n ∷ xs) all = ap (λ v. v ∷ map (vertex_at table) (map (λ m. m.number) xs)) all.0.vertex ∙ ap (λ vs. n.vertex.now ∷ vs) (numbers_told table xs all.1)
+
+numbers_within : (table : Table) (xs : List NamedVertex) → AllByRecursion (IsNamed table) xs → AllByRecursion (IsNumber table) (map (λ n. n.number) xs)
+numbers_within table [] all = tt
+numbers_within table (n ∷ xs) all = (all.0.number, numbers_within table xs all.1)
+
+-- what the table says of its vertices
+module _ (table : Table) (once : IsDistinct is_same_vertex table.vertices) (each : (v : Vertex) → IsVertexOf (graph table.edits) v → stands_in v table.vertices ≡ true)
+    (no_other : (v : Vertex) → stands_in v table.vertices ≡ true → IsVertexOf (graph table.edits) v) (xs ys : List NamedVertex) (whole : vertices_of xs ≡ table.vertices) (all : AllByRecursion (IsNamed table) xs)
+    (moved : IsPermutation xs ys) (up : IsSorted impl.ghosts.cmp ys) where
+  moved_vertices : IsPermutation table.vertices (vertices_of ys)
+  moved_vertices = subst (λ vs. IsPermutation vs (vertices_of ys)) whole (IsPermutation-map (λ n. n.vertex.now) xs ys moved)
+
+  all_moved : AllByRecursion (IsNamed table) ys
+  all_moved = recursion_from_All (IsNamed table) ys (All-permutation (IsNamed table) xs ys moved (All-from_recursion (IsNamed table) xs all))
+
+  sorted_vertices : AreVertices (graph table.edits) (vertices_of ys)
+  sorted_vertices = record {
+    in_order = in_order_when_distinct (vertices_of ys) (vertices_sorted table ys all_moved up) (IsDistinct-IsPermutation is_same_vertex same_vertex_laws.symm table.vertices (vertices_of ys) moved_vertices once);
+    each = λ v of. stands-permutation table.vertices (vertices_of ys) moved_vertices v ∙ each v of;
+    no_other = λ v there. no_other v (sym (stands-permutation table.vertices (vertices_of ys) moved_vertices v) ∙ there);
+  }
+
+  pub numbers_in_order : (numbers : List ℕ) → numbers ≡ map (λ n. n.number) ys → AreVertices (graph table.edits) (map (vertex_at table) numbers)
+  numbers_in_order numbers is = subst (AreVertices (graph table.edits)) (sym (ap (map (vertex_at table)) is ∙ numbers_told table ys all_moved)) sorted_vertices
+
+  pub numbers_of_table : (numbers : List ℕ) → numbers ≡ map (λ n. n.number) ys → AllByRecursion (IsNumber table) numbers
+  numbers_of_table numbers is = subst (AllByRecursion (IsNumber table)) (sym is) (numbers_within table ys all_moved)

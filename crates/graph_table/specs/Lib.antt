@@ -1,5 +1,6 @@
 pub mod Table
 pub mod Named
+pub mod Homes
 pub mod Numbering
 pub mod Around
 pub mod Chain

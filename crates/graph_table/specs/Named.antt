@@ -1,18 +1,14 @@
--- Inner model, which no public contract cites: numbers of vertices, listed with the names of their vertices.
-use Rattle.std.specs.Prelude.{◌<◌, List, length, slice_get}
-use Rattle.std.specs.List.{AllByRecursion}
+-- Inner model, which no public contract cites: the vertices of a table, listed with their names and numbers.
+use Rattle.std.specs.Prelude.{◌≡◌, List, map}
 use Rattle.grove_edits.specs.declared.vertex.Vertex.{Vertex}
-use Rattle.graph_table.specs.declared.named_number.NamedNumber.{NamedNumber}
-use Rattle.graph_table.specs.declared.numbered.Numbered.{Numbered}
-use Rattle.graph_table.specs.Table.{vertex_or_root}
+use Rattle.graph_table.specs.declared.named_vertex.NamedVertex.{NamedVertex}
+use Rattle.graph_table.specs.Table.{Table, vertex_at, IsNumber}
 
--- the vertex of a listed number
-abbrev pub vertex_of : List Vertex → NamedNumber → Vertex
-vertex_of vertices key = vertex_or_root (slice_get vertices key.number)
+abbrev pub vertices_of : List NamedVertex → List Vertex
+vertices_of list = map (λ n. n.vertex.now) list
 
-abbrev pub numbered : List Vertex → NamedNumber → Numbered
-numbered vertices key = record { vertex = vertex_of vertices key; number = key.number }
-
--- they are numbers of vertices
-abbrev pub AreWithin : List Vertex → List NamedNumber → Type 0
-AreWithin vertices keys = AllByRecursion (λ key. key.number < length vertices) keys
+-- a vertex of the table, with its name and its number
+pub record IsNamed (table : Table) (n : NamedVertex) : Type 0 where
+  pub name : n.name ≡ n.vertex.now.name
+  pub number : IsNumber table n.number
+  pub vertex : vertex_at table n.number ≡ n.vertex.now

@@ -1,14 +1,7 @@
 -- The indices that are told of the parents of a vertex.
-use Rattle.std.specs.Prelude.{Bool, true, false}
 use Rattle.graph_table.specs.declared.parents.Parents.{Parents}
 use Rattle.graph_table.specs.declared.parents.Parents.TheVariants.{Zero, One, More}
 use Rattle.graph_table.specs.Table.{Table, IsIndex}
-
--- there is one
-abbrev pub has_any : Parents → Bool
-has_any Zero = false
-has_any (One _) = true
-has_any (More _ _) = true
 
 -- they are those of edits
 abbrev pub AreIndices : Table → Parents → Type 0

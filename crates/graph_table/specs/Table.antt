@@ -11,7 +11,6 @@ use Rattle.grove_sorts.specs.declared.position.Position.TheVariants.{Main}
 use Rattle.walks.specs.declared.few.Few.{Few}
 use Rattle.walks.specs.declared.few.Few.TheVariants as few
 use Rattle.grove_edits.specs.Vertex.{root}
-use Rattle.graph_table.specs.declared.numbered.Numbered.{Numbered}
 use Rattle.graph_table.specs.declared.parents.Parents.{Parents}
 use Rattle.graph_table.specs.declared.parents.Parents.TheVariants.{Zero, One, More}
 
@@ -48,10 +47,6 @@ vertex_at table number = vertex_or_root (slice_get table.vertices number)
 -- the number is that of a vertex
 abbrev pub IsNumber : Table → ℕ → Type 0
 IsNumber table number = number < length table.vertices
-
--- the vertex has the number
-abbrev pub IsNumbered : Table → Numbered → Type 0
-IsNumbered table n = IsNumber table n.number × (vertex_at table n.number ≡ n.vertex)
 
 -- no edge of any graph
 abbrev pub no_edge : Edge

@@ -1,38 +1,35 @@
-ghost use Rattle.std.specs.Prelude.{◌≡◌, ◌<◌, true, [], length, map, IfOk, OnOk, OnErr, IfSome, IsSome};
+ghost use Rattle.std.specs.Prelude.{◌≡◌, ◌<◌, true, [], length, map, IfOk, OnOk, OnErr};
 ghost use Rattle.std.specs.List.{AllByRecursion, IsDistinct};
 ghost use Rattle.grove_edits.specs.declared.vertex.Vertex.{Vertex};
 ghost use Rattle.grove_edits.specs.Graph.{graph, Ascends};
 ghost use Rattle.walks.specs.Few.{first_two};
-ghost use Rattle.walks.specs.Live.{parents_of, children_of, IsInEdgeOrder};
+ghost use Rattle.walks.specs.Live.{parents_of, children_of};
 ghost use Rattle.grove_edits.specs.Vertex.{stands_in, is_same_vertex};
 ghost use Rattle.walks.specs.Whole.{AreVertices, AreLive, IsVertexOf};
 ghost use Rattle.graph_table.specs.ParentIndices.{AreIndices};
-ghost use Rattle.graph_table.specs.Table.{live, vertex_at, edge_at, few_at, IsNumber, IsIndex, IsNumbered};
+ghost use Rattle.graph_table.specs.Table.{live, vertex_at, edge_at, few_at, IsNumber, IsIndex};
 
 use crate::around::Around;
 use crate::following::children_at;
 use crate::gathering::{Gathered, gather};
+use crate::home::Home;
 use crate::link::Link;
 use crate::no_memory::NoMemory;
-use crate::numbered::Numbered;
 use crate::numbering::Numbering;
 use crate::ordering::in_vertex_order;
-use crate::parent_count::count_with_parents;
 use crate::parents::Parents;
 use grove_edits::{Edge, EditList, Vertex};
 use grove_sorts::Position;
-use indexmap::IndexSet;
 use seeded_hash::HashSeed;
 use std::alloc::Global;
 use std::marker::Model;
-use std::sync::ledger::Ledger;
-use walks::{Few, ParentOf, Steps};
 
 /// A graph by numbers. Contracts see its edits and its vertices, in the order of their numbers.
 #[derive(Drop)]
 pub struct GraphTable {
     edits: EditList,
-    numbers: IndexSet<Vertex, HashSeed>,
+    root: Vertex,
+    homes: Vec<Home>,
     sources: Vec<u32>,
     targets: Vec<u32>,
     links: Vec<Link>,
@@ -45,10 +42,11 @@ impl Model for GraphTable {
     ghost Value = { Table };
 
     ghost use Rattle.graph_table.specs.Parts.{IsTable};
+    ghost use Rattle.graph_table.specs.Homes.{vertices_in};
 
-    ghost view = { λ table. record { edits = table.edits; vertices = table.numbers.keys } };
+    ghost view = { λ table. record { edits = table.edits; vertices = vertices_in table.edits table.homes.items } };
 
-    ghost invariant = { λ table. IsTable table.edits table.numbers.keys table.sources.items table.targets.items table.links.items table.around.items };
+    ghost invariant = { λ table. IsTable table.edits table.root table.homes.items table.sources.items table.targets.items table.links.items table.around.items };
 }
 
 impl GraphTable {
@@ -61,7 +59,7 @@ impl GraphTable {
         GraphTable::with_seed(alloc, edits, HashSeed::FIXED)
     }
 
-    /// The table of a canonical list, which finds its vertices by their hash under a seed.
+    /// The table of a canonical list, which tells its vertices apart by their hash under a seed.
     pub fn with_seed(alloc: Global, edits: EditList, seed: HashSeed) -> Result<GraphTable, NoMemory>
         requires { Ascends edits }
         ensures edits { IfOk result (λ table. table.edits ≡ edits) }
@@ -70,23 +68,20 @@ impl GraphTable {
         let numbering = Numbering::of(alloc, edits.as_slice(), seed)?;
         let Gathered { around, links } = gather(alloc, edits.as_slice(), &numbering)?;
         let Numbering {
-            numbers,
+            numbers: _,
+            homes,
             sources,
             targets,
         } = numbering;
         Ok(GraphTable {
             edits,
-            numbers,
+            root: Vertex::ROOT,
+            homes,
             sources,
             targets,
             links,
             around,
         })
-    }
-
-    /// The seed of its hashes, for what else is found by vertices.
-    pub fn seed(&self) -> HashSeed {
-        *self.numbers.hasher()
     }
 
     /// How many vertices the graph has; their numbers are those below, and no vertex has two.
@@ -96,34 +91,18 @@ impl GraphTable {
         ensures each { (v : Vertex) → IsVertexOf (graph self.now.edits) v → stands_in v self.now.vertices ≡ true }
         ensures no_other { (v : Vertex) → stands_in v self.now.vertices ≡ true → IsVertexOf (graph self.now.edits) v }
     {
-        self.numbers.len()
+        self.homes.len()
     }
 
-    /// All vertices of the graph, in vertex order.
-    pub fn in_order(&self, alloc: Global) -> Result<Vec<Numbered>, NoMemory>
-        ensures vertices { IfOk result (λ list. AreVertices (graph self.now.edits) (map (λ n. n.vertex) list.items)) }
-        ensures numbers { IfOk result (λ list. AllByRecursion (IsNumbered self.now) list.items) }
+    /// The numbers of all vertices of the graph, in vertex order.
+    pub fn in_order(&self, alloc: Global) -> Result<Vec<u32>, NoMemory>
+        ensures vertices { IfOk result (λ list. AreVertices (graph self.now.edits) (map (vertex_at self.now) list.items)) }
+        ensures numbers { IfOk result (λ list. AllByRecursion (IsNumber self.now) list.items) }
     {
-        in_vertex_order(alloc, self.numbers.as_slice())
+        in_vertex_order(alloc, self)
     }
 
-    /// The number of a vertex, or None where it is no vertex of the graph.
-    pub fn number(&self, vertex: &Vertex) -> Option<usize>
-        ensures number { IfSome result (λ n. IsNumbered self.now (record { vertex = vertex.now; number = n })) }
-        ensures found { stands_in vertex.now self.now.vertices ≡ true → IsSome result }
-    {
-        self.numbers.get_index_of(vertex)
-    }
-
-    /// The edge of the edit at an index.
-    pub fn edge(&self, index: usize) -> Edge
-        requires { IsIndex self.now index }
-        ensures { result ≡ edge_at self.now index }
-    {
-        self.edits.as_slice()[index].edge()
-    }
-
-    /// The same edge where it stands, for a caller that reads a part of it.
+    /// The edge of the edit at an index, where it stands.
     pub fn edge_ref(&self, index: usize) -> &Edge
         requires { IsIndex self.now index }
         ensures { result.now ≡ edge_at self.now index }
@@ -131,12 +110,16 @@ impl GraphTable {
         self.edits.as_slice()[index].as_edge()
     }
 
-    /// The vertex with a number.
+    /// The vertex with a number, where it stands.
     pub fn vertex(&self, number: usize) -> &Vertex
         requires { IsNumber self.now number }
         ensures { result.now ≡ vertex_at self.now number }
     {
-        &self.numbers.as_slice()[number]
+        match self.homes[number] {
+            Home::Root => &self.root,
+            Home::Source(index) => &self.edge_ref(index as usize).source,
+            Home::Target(index) => &self.edge_ref(index as usize).target,
+        }
     }
 
     /// The number of the vertex from which the edge at an index leads.
@@ -182,47 +165,5 @@ impl GraphTable {
         ensures live { AreLive (graph self.now.edits) (live self.now) }
     {
         children_at(&self.links, self.around[number].last(), position, out)
-    }
-
-    fn parents_to(&self, vertex: &Vertex) -> Parents
-        ensures edges { few_at self.now result ≡ first_two (parents_of vertex.now (live self.now)) }
-        ensures indices { AreIndices self.now result }
-        ensures in_order { IsInEdgeOrder (live self.now) }
-    {
-        let around = &self.around;
-        match self.number(vertex) {
-            Some(number) => around[number].parents(),
-            // Each target of an edge is a vertex of the graph.
-            None => Parents::Zero,
-        }
-    }
-}
-
-impl ParentOf for GraphTable {
-    ghost use Rattle.graph_table.specs.Table.{live as live_edges};
-
-    ghost live = { λ table. live_edges table };
-
-    // Inlined, so that a caller copies no more of the edges than it reads.
-    #[inline(always)]
-    fn few<L: Ledger>(&self, vertex: &Vertex, steps: &mut Steps<L>) -> Few {
-        let parents = self.parents_to(vertex);
-        steps.tick();
-        match parents {
-            Parents::Zero => Few::Zero,
-            Parents::One(first) => {
-                steps.tick();
-                Few::One(self.edge(first))
-            }
-            Parents::More(first, second) => {
-                steps.tick();
-                steps.tick();
-                Few::More(self.edge(first), self.edge(second))
-            }
-        }
-    }
-
-    fn vertex_count(&self) -> u64 {
-        count_with_parents(&self.around) as u64
     }
 }

@@ -6,19 +6,17 @@ mod around;
 mod following;
 mod gathering;
 mod graph_table;
+mod home;
 mod link;
-mod named_number;
+mod named_vertex;
 mod narrow_parents;
 mod no_memory;
-mod numbered;
 mod numbering;
 mod ordering;
-mod parent_count;
 mod parents;
 
 pub use graph_table::GraphTable;
 pub use no_memory::NoMemory;
-pub use numbered::Numbered;
 pub use parents::Parents;
 
 #[cfg(test)]

@@ -1,68 +1,56 @@
-ghost use Rattle.std.specs.Prelude.{◌≡◌, Some, map, slice_get, IfOk};
-ghost use Rattle.std.specs.List.{AllByRecursion, IsDistinct};
-ghost use Rattle.std.specs.List.Sorted.{IsPermutation};
-ghost use Rattle.grove_edits.specs.declared.vertex.Vertex.{Vertex};
-ghost use Rattle.grove_edits.specs.Vertex.{is_same_vertex, stands_in};
-ghost use Rattle.graph_table.specs.Named.{vertex_of, numbered, AreWithin};
-ghost use Rattle.walks.specs.Whole.{IsInVertexOrder};
+ghost use Rattle.std.specs.Prelude.{◌≡◌, length, map, IfOk};
+ghost use Rattle.std.specs.List.{AllByRecursion};
+ghost use Rattle.grove_edits.specs.Graph.{graph};
+ghost use Rattle.walks.specs.Whole.{AreVertices};
+ghost use Rattle.graph_table.specs.Table.{vertex_at, IsNumber};
+ghost use Rattle.graph_table.specs.Named.{vertices_of, IsNamed};
 
-use crate::named_number::NamedNumber;
+use crate::graph_table::GraphTable;
+use crate::named_vertex::NamedVertex;
 use crate::no_memory::NoMemory;
-use crate::numbered::Numbered;
-use grove_edits::Vertex;
 use std::alloc::Global;
 
-// The vertices with their indices, in vertex order.
-pub(crate) fn in_vertex_order(alloc: Global, vertices: &[Vertex]) -> Result<Vec<Numbered>, NoMemory>
-    requires { IsDistinct is_same_vertex vertices.now }
-    ensures order { IfOk result (λ list. IsInVertexOrder (map (λ n. n.vertex) list.items)) }
-    ensures same { IfOk result (λ list. (v : Vertex) → stands_in v (map (λ n. n.vertex) list.items) ≡ stands_in v vertices.now) }
-    ensures numbers { IfOk result (λ list. AllByRecursion (λ n. slice_get vertices.now n.number ≡ Some n.vertex) list.items) }
+// The numbers of a table's vertices, in vertex order.
+pub(crate) fn in_vertex_order(alloc: Global, table: &GraphTable) -> Result<Vec<u32>, NoMemory>
+    ensures vertices { IfOk result (λ list. AreVertices (graph table.now.edits) (map (vertex_at table.now) list.items)) }
+    ensures numbers { IfOk result (λ list. AllByRecursion (IsNumber table.now) list.items) }
 {
-    let mut list = by_name(alloc, vertices)?;
-    // Only vertices that share a name may still change places: where none do, this is one pass.
+    let count = table.number_count();
+    let mut list = named_vertices(alloc, table, count)?;
     list.sort_unstable();
-    Ok(list)
+    numbers_of(alloc, &list)
 }
 
-// The vertices with their indices, in the order of their names. The names are sorted apart from the rest, which is wide.
-fn by_name(alloc: Global, vertices: &[Vertex]) -> Result<Vec<Numbered>, NoMemory>
-    ensures vertices { IfOk result (λ list. IsPermutation vertices.now (map (λ n. n.vertex) list.items)) }
-    ensures numbers { IfOk result (λ list. AllByRecursion (λ n. slice_get vertices.now n.number ≡ Some n.vertex) list.items) }
+fn named_vertices<'t>(
+    alloc: Global,
+    table: &'t GraphTable,
+    count: usize,
+) -> Result<Vec<NamedVertex<'t>>, NoMemory>
+    requires { count ≡ length table.now.vertices }
+    ensures vertices { IfOk result (λ list. vertices_of list.items ≡ table.now.vertices) }
+    ensures named { IfOk result (λ list. AllByRecursion (IsNamed table.now) list.items) }
 {
-    let mut keys = names_of(alloc, vertices)?;
-    keys.sort_unstable();
-    with_vertices(alloc, vertices, &keys)
-}
-
-fn names_of(alloc: Global, vertices: &[Vertex]) -> Result<Vec<NamedNumber>, NoMemory>
-    ensures vertices { IfOk result (λ keys. map (vertex_of vertices.now) keys.items ≡ vertices.now) }
-    ensures within { IfOk result (λ keys. AreWithin vertices.now keys.items) }
-{
-    let mut keys = Vec::with_capacity(alloc, vertices.len())?;
-    for number in 0..vertices.len() {
-        keys.push(NamedNumber {
-            name: vertices[number].name,
+    let mut list = Vec::with_capacity(alloc, count)?;
+    for index in 0..count {
+        let Ok(number) = u32::try_from(index) else {
+            return Err(NoMemory);
+        };
+        let vertex = table.vertex(index);
+        list.push(NamedVertex {
+            name: vertex.name,
+            vertex,
             number,
         })?;
     }
-    Ok(keys)
+    Ok(list)
 }
 
-fn with_vertices(
-    alloc: Global,
-    vertices: &[Vertex],
-    keys: &[NamedNumber],
-) -> Result<Vec<Numbered>, NoMemory>
-    requires { AreWithin vertices.now keys.now }
-    ensures { IfOk result (λ list. list.items ≡ map (numbered vertices.now) keys.now) }
+fn numbers_of(alloc: Global, list: &[NamedVertex]) -> Result<Vec<u32>, NoMemory>
+    ensures { IfOk result (λ numbers. numbers.items ≡ map (λ n. n.number) list.now) }
 {
-    let mut list = Vec::with_capacity(alloc, keys.len())?;
-    for key in keys {
-        list.push(Numbered {
-            vertex: vertices[key.number],
-            number: key.number,
-        })?;
+    let mut numbers = Vec::with_capacity(alloc, list.len())?;
+    for named in list {
+        numbers.push(named.number)?;
     }
-    Ok(list)
+    Ok(numbers)
 }

@@ -3,7 +3,7 @@ ghost use Rattle.grove_edits.specs.Graph.{Ascends};
 ghost use Rattle.grove_answers.specs.Program.{IsProgram};
 
 use crate::no_memory::NoMemory;
-use graph_table::{GraphTable, Numbered};
+use graph_table::GraphTable;
 use grove_decompose::{NumberedHeads, heads_of};
 use grove_edits::EditList;
 use seeded_hash::HashSeed;
@@ -13,8 +13,10 @@ use std::alloc::Global;
 #[derive(Drop)]
 pub(crate) struct Program {
     pub(crate) table: GraphTable,
-    /// All vertices, in vertex order.
-    pub(crate) vertices: Vec<Numbered>,
+    /// The seed of what is found by hashes.
+    pub(crate) seed: HashSeed,
+    /// The numbers of all vertices, in vertex order.
+    pub(crate) vertices: Vec<u32>,
     pub(crate) heads: NumberedHeads,
 }
 
@@ -30,6 +32,7 @@ impl Program {
         let heads = heads_of(alloc, &table, &vertices)?;
         Ok(Program {
             table,
+            seed,
             vertices,
             heads,
         })

@@ -11,7 +11,7 @@ use crate::no_memory::NoMemory;
 use crate::program::Program;
 use crate::report::Report;
 use crate::walk::Walk;
-use graph_table::{GraphTable, Numbered};
+use graph_table::GraphTable;
 use grove_decompose::cycle_heads;
 use grove_printer::Section;
 use std::alloc::Global;
@@ -27,7 +27,7 @@ pub(crate) fn report_program<R: Report>(
 {
     let table = &program.table;
     let heads = &program.heads;
-    let mut walk = Walk::new(alloc, table)?;
+    let mut walk = Walk::new(alloc, table, program.seed)?;
     report_section(
         alloc,
         Section::NoParent,
@@ -53,14 +53,14 @@ fn report_section<R: Report>(
     alloc: Global,
     section: Section,
     table: &GraphTable,
-    heads: &[Numbered],
+    heads: &[u32],
     walk: &mut Walk,
     report: &mut R,
 ) -> Result<(), NoMemory>
     requires whole { AreLive (graph table.now.edits) (live table.now) }
     requires heads { AllByRecursion (IsHead table.now) heads.now }
     requires seen { OnlyInner table.now walk.old.seen }
-    ensures reported { OnOk result (AreReported (TakesSection R.begins R.takes section) (live table.now) (vertices_of heads.now) report.old report.new) }
+    ensures reported { OnOk result (AreReported (TakesSection R.begins R.takes section) (live table.now) (vertices_of table.now heads.now) report.old report.new) }
     ensures seen { OnOk result (OnlyInner table.now walk.new.seen) }
 {
     report.begin(section, heads.len())?;
@@ -70,18 +70,18 @@ fn report_section<R: Report>(
 fn report_trees<R: Report>(
     alloc: Global,
     table: &GraphTable,
-    heads: &[Numbered],
+    heads: &[u32],
     walk: &mut Walk,
     report: &mut R,
 ) -> Result<(), NoMemory>
     requires whole { AreLive (graph table.now.edits) (live table.now) }
     requires heads { AllByRecursion (IsHead table.now) heads.now }
     requires seen { OnlyInner table.now walk.old.seen }
-    ensures reported { OnOk result (AreReported R.takes (live table.now) (vertices_of heads.now) report.old report.new) }
+    ensures reported { OnOk result (AreReported R.takes (live table.now) (vertices_of table.now heads.now) report.old report.new) }
     ensures seen { OnOk result (OnlyInner table.now walk.new.seen) }
 {
     for head in heads {
-        let tree = walk.tree(alloc, table, head)?;
+        let tree = walk.tree(alloc, table, *head)?;
         let marked = walk.marking(alloc, &tree)?;
         report.take(&marked, &walk.types)?;
     }

@@ -1,5 +1,5 @@
 ghost use Rattle.std.specs.Prelude.{◌≡◌, IfOk};
-ghost use Rattle.graph_table.specs.Table.{live};
+ghost use Rattle.graph_table.specs.Table.{live, vertex_at};
 ghost use Rattle.grove_terms.specs.Grove.{IsTreeOf};
 ghost use Rattle.grove_decompose.specs.Trees.{OnlyInner};
 ghost use Rattle.marking.specs.Grove.{IsMarkedTree};
@@ -10,11 +10,12 @@ ghost use Rattle.grove_answers.specs.Program.{IsHead};
 
 use crate::no_memory::NoMemory;
 use ctx_table::CtxTable;
-use graph_table::{GraphTable, Numbered};
+use graph_table::GraphTable;
 use grove_decompose::{Seen, tree_by_number};
 use grove_terms::Tree;
 use mark_rules::mark_tree;
 use marking::MarkedTree;
+use seeded_hash::HashSeed;
 use std::alloc::Global;
 use type_core::TypeTable;
 
@@ -27,14 +28,14 @@ pub(crate) struct Walk {
 }
 
 impl Walk {
-    /// Before the first tree.
-    pub(crate) fn new(alloc: Global, table: &GraphTable) -> Result<Walk, NoMemory>
+    /// Before the first tree. Types and contexts are found by their hashes under a seed.
+    pub(crate) fn new(alloc: Global, table: &GraphTable, seed: HashSeed) -> Result<Walk, NoMemory>
         ensures { IfOk result (λ walk. OnlyInner table.now walk.seen) }
     {
         Ok(Walk {
             seen: Seen::none_of(alloc, table)?,
-            types: TypeTable::with_seed(alloc, table.seed())?,
-            contexts: CtxTable::with_seed(alloc, table.seed())?,
+            types: TypeTable::with_seed(alloc, seed)?,
+            contexts: CtxTable::with_seed(alloc, seed)?,
         })
     }
 
@@ -43,11 +44,11 @@ impl Walk {
         &mut self,
         alloc: Global,
         table: &'g GraphTable,
-        head: &Numbered,
+        head: u32,
     ) -> Result<Tree<'g>, NoMemory>
-        requires head { IsHead table.now head.now }
+        requires head { IsHead table.now head }
         requires seen { OnlyInner table.now self.old.seen }
-        ensures tree { IfOk result (λ tree. IsTreeOf (live table.now) head.now.vertex tree) }
+        ensures tree { IfOk result (λ tree. IsTreeOf (live table.now) (vertex_at table.now head) tree) }
         ensures sorted { IfOk result IsSortedTree }
         ensures seen { OnlyInner table.now self.new.seen }
     {

@@ -1,5 +1,5 @@
 -- The roots that the walks up from the first of some numbers have found.
-use Rattle.std.proofs.Common.{◌≡◌, ℕ, zero, suc, ◌+◌, ◌<◌, ◌≤◌, Bool, true, false, List, [], ◌∷◌, ◌++◌, length, get_or, map, Some, None, IsSome, refl, sym, ap, subst, ◌∙◌, arith}
+use Rattle.std.proofs.Common.{◌≡◌, ℕ, zero, suc, ◌+◌, ◌<◌, ◌≤◌, Bool, true, false, List, [], ◌∷◌, length, get_or, map, Some, None, IsSome, refl, sym, ap, subst, ◌∙◌, arith}
 use Rattle.std.specs.Prelude.{◌||◌, slice_set, replicate}
 use Rattle.std.specs.List.{AllByRecursion, IsDistinct, slice_index_or}
 use Rattle.std.proofs.lemmas.List.{length-map}
@@ -7,16 +7,12 @@ use Rattle.grove_edits.specs.declared.vertex.Vertex.{Vertex}
 use Rattle.grove_edits.specs.Vertex.{is_same_vertex, stands_in}
 use Rattle.grove_edits.proofs.Vertices.{same_vertex_itself}
 use Rattle.walks.specs.declared.class.Class.TheVariants.{Cycle}
-use Rattle.walks.specs.Class.{class, is_cycle_root, is_same_class, of_class}
+use Rattle.walks.specs.Class.{class, is_cycle_root, is_same_class}
 use Rattle.unicycle_roots.specs.Met.{leads_to, met_by, KeepsMet, HasEnded}
 use Rattle.unicycle_roots.proofs.Cycles.{or_true, class_is_cycle}
 use Rattle.unicycle_roots.proofs.Found.{AreFound, found_none, found_one, all_found}
-use Rattle.graph_table.specs.declared.numbered.Numbered.{Numbered}
-use Rattle.graph_table.specs.Table.{Table, live, vertex_at, IsNumber, IsNumbered}
+use Rattle.graph_table.specs.Table.{Table, live, vertex_at, IsNumber}
 use Rattle.grove_decompose.specs.Met.{met_of, marked}
-use Rattle.grove_decompose.specs.Trees.{vertices_of}
-use Rattle.grove_decompose.proofs.ByClass.{passed_by, put_down}
-use Rattle.grove_decompose.proofs.Mapped.{map_last, all_joined}
 use Rattle.grove_decompose.proofs.Marks.{none_at_first, none_marked_first, marked_at, marked_more}
 use Rattle.grove_decompose.proofs.Walking.{vertex_read}
 
@@ -88,28 +84,7 @@ pub all_walked : (table : Table) (starts : List ℕ) (roots : List Bool) (met : 
 all_walked table starts roots met i so_far all v stands =
     all_found (live table) (map (vertex_at table) starts) (marked table.vertices roots) (met_of table.vertices met) i so_far.found (omega (arith, length-map starts (vertex_at table), all)) v stands
 
--- ---- the roots are listed
-
--- the roots that were listed so far, and those among the numbers that are left, are those of all
-pub record AreListedSoFar (table : Table) (all left : List ℕ) (found : List Numbered) : Type 0 where
-  pub cycle : vertices_of found ++ of_class Cycle (live table) (map (vertex_at table) left) ≡ of_class Cycle (live table) (map (vertex_at table) all)
-  pub numbers : AllByRecursion (IsNumbered table) found
-
-pub no_root : (table : Table) (n : ℕ) (all left rest : List ℕ) (found same : List Numbered) → left ≡ n ∷ rest → is_same_class (class (live table) (vertex_at table n)) Cycle ≡ false → same ≡ found
-    → AreListedSoFar table all left found → AreListedSoFar table all rest same
-no_root table n all left rest found same is other kept so_far =
-    subst (AreListedSoFar table all rest) (sym kept) (record {
-      cycle = passed_by Cycle (live table) (vertex_at table n) (vertices_of found) (map (vertex_at table) left) (map (vertex_at table) rest) _ (ap (map (vertex_at table)) is) other so_far.cycle;
-      numbers = so_far.numbers;
-    })
-
-pub one_root_more : (table : Table) (n : ℕ) (v : Numbered) (all left rest : List ℕ) (found more : List Numbered) → left ≡ n ∷ rest → is_same_class (class (live table) (vertex_at table n)) Cycle ≡ true
-    → v.vertex ≡ vertex_at table n → IsNumbered table v → more ≡ found ++ v ∷ [] → AreListedSoFar table all left found → AreListedSoFar table all rest more
-one_root_more table n v all left rest found more is same of_n numbered pushed so_far = record {
-  cycle = put_down Cycle (live table) (vertex_at table n) (vertices_of found) (vertices_of more) (map (vertex_at table) left) (map (vertex_at table) rest) _ (ap (map (vertex_at table)) is) same
-      (map_last (λ (m : Numbered). m.vertex) more found v pushed ∙ ap (λ (u : Vertex). vertices_of found ++ u ∷ []) of_n) so_far.cycle;
-  numbers = subst (AllByRecursion (IsNumbered table)) (sym pushed) (all_joined (IsNumbered table) found (v ∷ []) so_far.numbers (numbered, tt));
-}
+-- ---- the roots among some numbers
 
 stands_mapped : (f : ℕ → Vertex) (xs : List ℕ) (i : ℕ) → i < length xs → stands_in (f (get_or xs i 0)) (map f xs) ≡ true
 stands_mapped f [] i lt = absurd (omega arith)

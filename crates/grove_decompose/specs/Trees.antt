@@ -3,11 +3,11 @@ use Rattle.std.specs.Prelude.{◌≡◌, ℕ, Bool, true, List, Some, map, slice
 use Rattle.grove_edits.specs.declared.vertex.Vertex.{Vertex}
 use Rattle.walks.specs.declared.class.Class.TheVariants.{Inner}
 use Rattle.walks.specs.Class.{class}
-use Rattle.graph_table.specs.declared.numbered.Numbered.{Numbered}
 use Rattle.graph_table.specs.Table.{Table, live, vertex_at}
 
-abbrev pub vertices_of : List Numbered → List Vertex
-vertices_of ns = map (λ n. n.vertex) ns
+-- the vertices of some numbers, in order
+abbrev pub vertices_of : Table → List ℕ → List Vertex
+vertices_of table numbers = map (vertex_at table) numbers
 
 -- each number that was met is that of a vertex which stands in the tree of another one
 abbrev pub OnlyInner : Table → List Bool → Type 0

@@ -1,43 +1,43 @@
-ghost use Rattle.std.specs.Prelude.{◌≡◌, ◌≢◌, false, map, IfOk};
+ghost use Rattle.std.specs.Prelude.{◌≡◌, ◌≢◌, false, IfOk};
 ghost use Rattle.std.specs.List.{AllByRecursion};
 ghost use Rattle.walks.specs.declared.class.Class.TheVariants.{Cycle};
 ghost use Rattle.walks.specs.Class.{class, of_class};
-ghost use Rattle.graph_table.specs.Table.{live, vertex_at, IsNumber, IsNumbered};
+ghost use Rattle.graph_table.specs.Table.{live, vertex_at, IsNumber};
 ghost use Rattle.grove_decompose.specs.Trees.{OnlyInner, vertices_of};
 
 use crate::no_memory::NoMemory;
 use crate::seen::Seen;
-use graph_table::{GraphTable, Numbered, Parents};
+use graph_table::{GraphTable, Parents};
 use std::alloc::Global;
 
 // Whether a vertex was not seen and has one parent. No other one is the least of a cycle.
-fn may_be_root(table: &GraphTable, vertex: &Numbered, seen: &Seen) -> bool
-    requires number { IsNumbered table.now vertex.now }
+fn may_be_root(table: &GraphTable, number: usize, seen: &Seen) -> bool
+    requires number { IsNumber table.now number }
     requires seen { OnlyInner table.now seen.now }
-    ensures { result ≡ false → class (live table.now) vertex.now.vertex ≢ Cycle }
+    ensures { result ≡ false → class (live table.now) (vertex_at table.now number) ≢ Cycle }
 {
-    if seen.is_noted(vertex.number) {
+    if seen.is_noted(number) {
         return false;
     }
-    matches!(table.parents(vertex.number), Parents::One(_))
+    matches!(table.parents(number), Parents::One(_))
 }
 
 /// Those of some vertices that may be the least of a cycle, by their numbers.
 pub(crate) fn candidates_of(
     alloc: Global,
     table: &GraphTable,
-    vertices: &[Numbered],
+    vertices: &[u32],
     seen: &Seen,
-) -> Result<Vec<usize>, NoMemory>
-    requires numbers { AllByRecursion (IsNumbered table.now) vertices.now }
+) -> Result<Vec<u32>, NoMemory>
+    requires numbers { AllByRecursion (IsNumber table.now) vertices.now }
     requires seen { OnlyInner table.now seen.now }
-    ensures cycle { IfOk result (λ some. of_class Cycle (live table.now) (map (vertex_at table.now) some.items) ≡ of_class Cycle (live table.now) (vertices_of vertices.now)) }
+    ensures cycle { IfOk result (λ some. of_class Cycle (live table.now) (vertices_of table.now some.items) ≡ of_class Cycle (live table.now) (vertices_of table.now vertices.now)) }
     ensures numbers { IfOk result (λ some. AllByRecursion (IsNumber table.now) some.items) }
 {
     let mut candidates = Vec::new(alloc);
-    for vertex in vertices {
-        if may_be_root(table, vertex, seen) {
-            candidates.push(vertex.number)?;
+    for number in vertices {
+        if may_be_root(table, *number as usize, seen) {
+            candidates.push(*number)?;
         }
     }
     Ok(candidates)

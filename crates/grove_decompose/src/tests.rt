@@ -5,14 +5,14 @@ ghost use Rattle.walks.specs.Class.{class};
 ghost use Rattle.walks.specs.Whole.{AreLive};
 ghost use Rattle.edge_index.specs.Lists.{live as live_edges};
 ghost use Rattle.graph_store.specs.Store.{state_in};
-ghost use Rattle.graph_table.specs.Table.{live, IsNumbered};
+ghost use Rattle.graph_table.specs.Table.{live, IsNumber};
 ghost use Rattle.grove_decompose.specs.Trees.{OnlyInner, vertices_of};
 
 use super::*;
 use child_index::ChildIndex;
 use edge_lattice::State;
 use graph_store::GraphStore;
-use graph_table::{GraphTable, Numbered};
+use graph_table::GraphTable;
 use grove_edits::{Edge, Edit, EditList, Vertex};
 use grove_names::Name;
 use grove_sorts::{Ctor, Position};
@@ -88,17 +88,17 @@ fn a_shared_part_heads_its_own_tree(rt: HostRuntime) -> Result<(), Fail> {
 fn first_tree<'g>(
     alloc: Global,
     table: &'g GraphTable,
-    roots: &[Numbered],
+    roots: &[u32],
     seen: &mut Seen,
 ) -> Result<Tree<'g>, NoMemory>
-    requires numbers { AllByRecursion (IsNumbered table.now) roots.now }
-    requires outer { AllByRecursion (λ v. class (live table.now) v ≢ Inner) (vertices_of roots.now) }
+    requires numbers { AllByRecursion (IsNumber table.now) roots.now }
+    requires outer { AllByRecursion (λ v. class (live table.now) v ≢ Inner) (vertices_of table.now roots.now) }
     requires seen { OnlyInner table.now seen.old }
     ensures seen { OnlyInner table.now seen.new }
 {
     match roots {
         [] => Ok(Tree::new(alloc)),
-        [root, ..] => tree_by_number(alloc, table, root, seen),
+        [root, ..] => tree_by_number(alloc, table, *root, seen),
     }
 }
 

@@ -2,7 +2,7 @@ ghost use Rattle.std.specs.Prelude.{◌≡◌, ◌≢◌, IfOk};
 ghost use Rattle.std.specs.List.{AllByRecursion};
 ghost use Rattle.walks.specs.declared.class.Class.TheVariants.{NoParent, Multi, Cycle, Inner};
 ghost use Rattle.walks.specs.Class.{class, of_class};
-ghost use Rattle.graph_table.specs.Table.{live, IsNumbered};
+ghost use Rattle.graph_table.specs.Table.{live, vertex_at, IsNumber};
 ghost use Rattle.grove_terms.specs.Grove.{IsTreeOf};
 ghost use Rattle.grove_terms.specs.Sorted.{IsSortedTree};
 ghost use Rattle.grove_decompose.specs.Trees.{OnlyInner, vertices_of};
@@ -13,62 +13,63 @@ use crate::cycles::cycle_roots;
 use crate::descent::tree_of;
 use crate::no_memory::NoMemory;
 use crate::seen::Seen;
-use graph_table::{GraphTable, Numbered, Parents};
+use graph_table::{GraphTable, Parents};
 use grove_terms::Tree;
 use std::alloc::Global;
 
-/// Vertices that head trees and stand on no cycle, each list in vertex order.
+/// The numbers of vertices that head trees and stand on no cycle, each list in vertex order.
 #[derive(Drop)]
 pub struct NumberedHeads {
     /// Those without a live parent edge.
-    pub none: Vec<Numbered>,
+    pub none: Vec<u32>,
     /// Those with two or more.
-    pub multi: Vec<Numbered>,
+    pub multi: Vec<u32>,
 }
 
 /// Those of some vertices that have no live parent edge, and those that have two or more.
 pub fn heads_of(
     alloc: Global,
     table: &GraphTable,
-    vertices: &[Numbered],
+    vertices: &[u32],
 ) -> Result<NumberedHeads, NoMemory>
-    requires { AllByRecursion (IsNumbered table.now) vertices.now }
-    ensures none { IfOk result (λ heads. vertices_of heads.none.items ≡ of_class NoParent (live table.now) (vertices_of vertices.now)) }
-    ensures multi { IfOk result (λ heads. vertices_of heads.multi.items ≡ of_class Multi (live table.now) (vertices_of vertices.now)) }
-    ensures none_numbers { IfOk result (λ heads. AllByRecursion (IsNumbered table.now) heads.none.items) }
-    ensures multi_numbers { IfOk result (λ heads. AllByRecursion (IsNumbered table.now) heads.multi.items) }
+    requires { AllByRecursion (IsNumber table.now) vertices.now }
+    ensures none { IfOk result (λ heads. vertices_of table.now heads.none.items ≡ of_class NoParent (live table.now) (vertices_of table.now vertices.now)) }
+    ensures multi { IfOk result (λ heads. vertices_of table.now heads.multi.items ≡ of_class Multi (live table.now) (vertices_of table.now vertices.now)) }
+    ensures none_numbers { IfOk result (λ heads. AllByRecursion (IsNumber table.now) heads.none.items) }
+    ensures multi_numbers { IfOk result (λ heads. AllByRecursion (IsNumber table.now) heads.multi.items) }
 {
     let mut none = Vec::new(alloc);
     let mut multi = Vec::new(alloc);
-    for vertex in vertices {
-        match table.parents(vertex.number) {
-            Parents::Zero => none.push(*vertex)?,
+    for number in vertices {
+        match table.parents(*number as usize) {
+            Parents::Zero => none.push(*number)?,
             Parents::One(_) => {}
-            Parents::More(_, _) => multi.push(*vertex)?,
+            Parents::More(_, _) => multi.push(*number)?,
         }
     }
     Ok(NumberedHeads { none, multi })
 }
 
-/// The tree of a vertex that heads one. The vertices that stand in it under another one are then seen, also where memory runs out in
-/// the midst of it.
+/// The tree of a vertex that heads one, by its number. The vertices that stand in it under another one are then seen, also where
+/// memory runs out in the midst of it.
 pub fn tree_by_number<'g>(
     alloc: Global,
     table: &'g GraphTable,
-    root: &Numbered,
+    root: u32,
     seen: &mut Seen,
 ) -> Result<Tree<'g>, NoMemory>
-    requires number { IsNumbered table.now root.now }
-    requires outer { class (live table.now) root.now.vertex ≢ Inner }
+    requires number { IsNumber table.now root }
+    requires outer { class (live table.now) (vertex_at table.now root) ≢ Inner }
     requires seen { OnlyInner table.now seen.old }
-    ensures tree { IfOk result (λ tree. IsTreeOf (live table.now) root.now.vertex tree) }
+    ensures tree { IfOk result (λ tree. IsTreeOf (live table.now) (vertex_at table.now root) tree) }
     ensures sorted { IfOk result IsSortedTree }
     ensures seen { OnlyInner table.now seen.new }
 {
+    let root = root as usize;
     tree_of(
         alloc,
-        &root.number,
-        table.vertex(root.number),
+        &root,
+        table.vertex(root),
         &LiveTable { table },
         seen,
         &mut NoCounter,
@@ -79,13 +80,13 @@ pub fn tree_by_number<'g>(
 pub fn cycle_heads(
     alloc: Global,
     table: &GraphTable,
-    vertices: &[Numbered],
+    vertices: &[u32],
     seen: &Seen,
-) -> Result<Vec<Numbered>, NoMemory>
-    requires numbers { AllByRecursion (IsNumbered table.now) vertices.now }
+) -> Result<Vec<u32>, NoMemory>
+    requires numbers { AllByRecursion (IsNumber table.now) vertices.now }
     requires seen { OnlyInner table.now seen.now }
-    ensures cycle { IfOk result (λ heads. vertices_of heads.items ≡ of_class Cycle (live table.now) (vertices_of vertices.now)) }
-    ensures numbers { IfOk result (λ heads. AllByRecursion (IsNumbered table.now) heads.items) }
+    ensures cycle { IfOk result (λ heads. vertices_of table.now heads.items ≡ of_class Cycle (live table.now) (vertices_of table.now vertices.now)) }
+    ensures numbers { IfOk result (λ heads. AllByRecursion (IsNumber table.now) heads.items) }
 {
     let candidates = candidates_of(alloc, table, vertices, seen)?;
     cycle_roots(alloc, table, &candidates)

@@ -1,9 +1,10 @@
 use Rattle.std.proofs.lemmas.Grind.{common_steps}
-use Rattle.std.proofs.Common.{◌≡◌, ℕ, ◌+◌, ◌<◌, List, ◌∷◌, drop, length, get_or, sym, ◌∙◌, arith}
-use Rattle.graph_table.specs.declared.numbered.Numbered.{Numbered}
+use Rattle.std.proofs.Common.{◌≡◌, ℕ, ◌+◌, ◌<◌, List, ◌∷◌, drop, length, get_or, ◌∙◌, arith}
+use Rattle.walks.specs.declared.class.Class.TheVariants.{Cycle}
 use Rattle.graph_table.specs.Table.{IsNumber}
 use Rattle.grove_decompose.proofs.Vectors.{items_of}
-use Rattle.grove_decompose.proofs.FoundRoots.{number_at, no_root, one_root_more, root_by_mark, mark_read}
+use Rattle.grove_decompose.proofs.ByNumber.{other_passed, one_put_down}
+use Rattle.grove_decompose.proofs.FoundRoots.{number_at, root_by_mark, mark_read}
 use Rattle.grove_decompose.proofs.cycles.cycle_roots.Goals as goal
 use Rattle.grove_decompose.proofs.cycles.cycle_roots.Goals.{then-index+in_ok-push, else-index}
 
@@ -22,9 +23,7 @@ loop-start-preserved c =
     ∙ mark_read c.in_ok-roots.roots.items n c.index.result.now within c.index.ensures in
     elim c.if-index.branch [
       | then-index+in_ok-push w ↦
-          let v : Numbered = record { vertex = w.vertex.result.now; number = n } in
-          one_root_more table n v all (drop i all) rest c.loop-start.found.items c.if-index.found.items left (mark ∙ w.if-index.true) w.vertex.ensures (number, sym w.vertex.ensures)
-          (items_of w.found-is ∙ w.in_ok-push.ensures.items) c.loop-start.invariant
+          one_put_down Cycle table n all (drop i all) rest c.loop-start.found.items c.if-index.found.items left number (mark ∙ w.if-index.true) (items_of w.found-is ∙ w.in_ok-push.ensures.items) c.loop-start.invariant
       | else-index w ↦
-          no_root table n all (drop i all) rest c.loop-start.found.items c.if-index.found.items left (mark ∙ w.if-index.false) (items_of w.found-is) c.loop-start.invariant
+          other_passed Cycle table n all (drop i all) rest c.loop-start.found.items c.if-index.found.items left (mark ∙ w.if-index.false) (items_of w.found-is) c.loop-start.invariant
     ]

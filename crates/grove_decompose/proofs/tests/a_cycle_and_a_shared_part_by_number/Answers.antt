@@ -7,8 +7,8 @@ use Rattle.grove_decompose.proofs.tests.a_cycle_and_a_shared_part_by_number.Goal
 
 pub first_tree-requires-clause-outer : goal.first_tree-requires-clause-outer
 first_tree-requires-clause-outer g c =
-    outer_of_class Multi (live c.in_ok-table.table) (vertices_of c.deref.result.now) (vertices_of c.deref-2.result.now) (λ e. cc) (ap vertices_of c.deref-2.ensures.value ∙ c.in_ok-heads.ensures.multi)
+    outer_of_class Multi (live c.in_ok-table.table) (vertices_of c.in_ok-table.table c.deref.result.now) (vertices_of c.in_ok-table.table c.deref-2.result.now) (λ e. cc) (ap (vertices_of c.in_ok-table.table) c.deref-2.ensures.value ∙ c.in_ok-heads.ensures.multi)
 
 pub first_tree-requires-2-clause-outer : goal.first_tree-requires-2-clause-outer
 first_tree-requires-2-clause-outer g c =
-    outer_of_class Cycle (live c.in_ok-table.table) (vertices_of c.deref-3.result.now) (vertices_of c.deref-4.result.now) (λ e. cc) (ap vertices_of c.deref-4.ensures.value ∙ c.in_ok-cycles.ensures.cycle)
+    outer_of_class Cycle (live c.in_ok-table.table) (vertices_of c.in_ok-table.table c.deref-3.result.now) (vertices_of c.in_ok-table.table c.deref-4.result.now) (λ e. cc) (ap (vertices_of c.in_ok-table.table) c.deref-4.ensures.value ∙ c.in_ok-cycles.ensures.cycle)

@@ -1,6 +1,10 @@
 use Rattle.std.proofs.Common.{take}
 use Rattle.graph_table.specs.Numbering.{AreNumbered}
+use Rattle.graph_table.specs.Homes.{AreHomes}
 use Rattle.graph_table.proofs.numbering.Numbering.of.Given as goal
 
-abbrev pub invariant-loop-edit : goal.invariant-loop-edit
-invariant-loop-edit l = AreNumbered (take l.edit-index l.edits) l.numbering.numbers.keys l.numbering.sources.items l.numbering.targets.items
+abbrev pub invariant-loop-index : goal.invariant-loop-index
+invariant-loop-index l = record {
+  numbered : AreNumbered (take l.index l.edits) l.numbering.numbers.keys l.numbering.sources.items l.numbering.targets.items;
+  homes : AreHomes l.edits l.numbering.homes.items l.numbering.numbers.keys;
+}
