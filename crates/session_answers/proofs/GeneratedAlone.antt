@@ -5,7 +5,6 @@ use Rattle.std.specs.List.{AllByRecursion, Contains}
 use Rattle.grove_edits.specs.declared.edit.Edit.{Edit}
 use Rattle.grove_edits.specs.declared.actor.Actor.TheVariants.{Host, Author, Send}
 use Rattle.session_script.specs.declared.author.Declared.{Declared}
-use Rattle.session_script.specs.declared.item.Block.{Block}
 use Rattle.session_script.specs.declared.item.Item.{Item}
 use Rattle.session_script.specs.declared.item.Item.TheVariants as item
 use Rattle.session_script.specs.declared.line.Line.{Line}

@@ -1,12 +1,12 @@
 -- One step more of what goes over all replicas.
-use Rattle.std.proofs.Common.{◌≡◌, ◌⊎◌, ℕ, suc, ◌+◌, List, [], ◌∷◌, ◌++◌, length, slice_get, Some, refl, sym, ap, subst, ◌∙◌, arith, append_assoc, append-nil}
+use Rattle.std.proofs.Common.{◌≡◌, ◌⊎◌, ℕ, suc, ◌+◌, List, [], ◌∷◌, ◌++◌, map, length, slice_get, Some, refl, sym, ap, subst, ◌∙◌, arith, append_assoc, append-nil}
 use Rattle.std.specs.List.{zip}
 use Rattle.grove_sorts.specs.declared.ident.Ident.{Ident}
 use Rattle.grove_edits.specs.declared.edit.Edit.{Edit}
 use Rattle.session_script.specs.declared.item.Block.{Block}
 use Rattle.session_script.specs.declared.session.Session.{Session}
 use Rattle.session_run.specs.Run.{HasRun}
-use Rattle.replica_core.specs.Content.{Content}
+use Rattle.replica_core.specs.Content.{Content, with_block}
 use Rattle.replica_core.specs.Step.{effect, reply, after}
 use Rattle.session_report.specs.Journal.{Entries}
 use Rattle.session_report.specs.Taken.{Journals}
@@ -45,6 +45,11 @@ pub all_shown : (whole : List (Ident × Content)) (xs : List Ident) (ys : List C
     → ((rest : List ℕ) → AreShown (zip xs ys) rest → AreShown whole (sections ++ rest)) → AreShown whole sections
 all_shown whole xs ys sections none so_far =
     subst (AreShown whole) (append-nil sections) (so_far [] (subst (λ of. AreShown of []) (sym (zip_none xs ys none)) refl))
+
+-- opening a block changes no list
+pub opened_sources : (replicas : List Content) → sources_of replicas ≡ sources_of (map with_block replicas)
+opened_sources [] = refl
+opened_sources (replica ∷ replicas) = ap (λ lists. replica.edits ∷ lists) (opened_sources replicas)
 
 -- the replicas ran a block, told by lists that are the same
 pub have_run : (session : Session) (block : Block) (first_send : ℕ) (firsts machines lasts : List Content) (made : List (Entries Content)) (sources : List (List Edit)) → machines ≡ firsts → sources ≡ sources_of machines

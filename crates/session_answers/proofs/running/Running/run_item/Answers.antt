@@ -1,6 +1,5 @@
 use Rattle.std.proofs.Common.{◌+◌, take, Some, ap, ◌∙◌}
 use Rattle.session_script.specs.declared.item.Item.{Item}
-use Rattle.session_script.specs.declared.item.Item.TheVariants as item
 use Rattle.session_answers.specs.Running.{IsBehind, HasLoaded, HasRunBlock, HasShown}
 use Rattle.session_answers.proofs.Items.{if_ok, load_within, block_within, show_within, lines_can_run, few_sends, after_load, after_block, after_show}
 use Rattle.session_answers.proofs.running.Running.run_item.Goals as goal
