@@ -9,7 +9,7 @@ use Rattle.graph_store.specs.Store.{state_in}
 use Rattle.child_index.specs.Origin.{room_at_origin}
 use Rattle.parent_index.specs.Target.{room_at_vertex}
 use Rattle.user_actions.proofs.OneMore.{one_more}
-use Rattle.user_actions.proofs.tests.insert.Goals as goal
+use Rattle.user_actions.proofs.tests.graphs.insert.Goals as goal
 
 pub add-requires-clause-room : goal.add-requires-clause-room
 add-requires-clause-room c =

@@ -1,4 +1,4 @@
-use Rattle.user_actions.proofs.tests.insert_each.Goals as goal
+use Rattle.user_actions.proofs.tests.graphs.insert_each.Goals as goal
 
 pub loop-edge-preserved : goal.loop-edge-preserved
 loop-edge-preserved c = record {

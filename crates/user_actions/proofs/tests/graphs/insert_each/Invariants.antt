@@ -5,7 +5,7 @@ use Rattle.walks.specs.Whole.{AreLive}
 use Rattle.edge_index.specs.Lists.{live}
 use Rattle.graph_store.specs.Store.{state_in}
 use Rattle.user_actions.specs.Good.{AreWellFormed}
-use Rattle.user_actions.proofs.tests.insert_each.Given as goal
+use Rattle.user_actions.proofs.tests.graphs.insert_each.Given as goal
 
 abbrev pub invariant-loop-edge : goal.invariant-loop-edge
 invariant-loop-edge l = record {

@@ -1,6 +1,6 @@
 use Rattle.graph_store.specs.Store.{state_in}
 use Rattle.user_actions.proofs.SomePlan.{opening_of}
-use Rattle.user_actions.proofs.tests.planned_in_block.Goals as goal
+use Rattle.user_actions.proofs.tests.graphs.planned_in_block.Goals as goal
 
 pub planned_on-requires-clause-opening : goal.planned_on-requires-clause-opening
 planned_on-requires-clause-opening c e held =
