@@ -13,6 +13,7 @@ pub mod Once
 pub mod Ends
 pub mod Targets
 pub mod Names
+pub mod OneEdge
 pub mod Counts
 pub mod LeastTwo
 pub mod VertexNames

@@ -1,6 +1,8 @@
-ghost use Rattle.std.specs.Prelude.{◌≡◌, ◌||◌, true, length, IfOk, OnOk};
+ghost use Rattle.std.specs.Prelude.{◌≡◌, ◌&&◌, ◌||◌, true, length, IsTrue, IfOk, IfSome, OnOk};
+ghost use Rattle.edge_numbers.specs.Numbered.{edge_at, IsEdgeNumber, IsNumberOfEdge};
 ghost use Rattle.std.specs.List.{list_any};
 ghost use Rattle.grove_edits.specs.declared.edge.Edge.{Edge};
+ghost use Rattle.grove_edits.specs.Vertex.{is_same_vertex};
 ghost use Rattle.walks.specs.Live.{IsInEdgeOrder, holds_edge};
 ghost use Rattle.edge_lists.specs.Lists.{holds_number};
 ghost use Rattle.numbers_by_name.specs.ByName.{numbers_of, is_same_name};
@@ -9,7 +11,7 @@ ghost use Rattle.live_graph.specs.ByName.{is_named, is_named_edge, KeepsNames};
 use crate::no_memory::NoMemory;
 use crate::whole::is_present;
 use edge_numbers::EdgeNumbers;
-use grove_edits::Edge;
+use grove_edits::{Edge, is_same_vertex};
 use grove_names::Name;
 use numbers_by_name::NumbersByName;
 use std::alloc::Global;
@@ -47,6 +49,49 @@ pub(crate) fn is_same_name(a: Name, b: Name) -> bool
     ensures { result ≡ is_same_name a b }
 {
     a.cmp(&b) == Ordering::Equal
+}
+
+fn has_ends(edges: &EdgeNumbers, number: usize, edge: &Edge) -> bool
+    requires { IsEdgeNumber edges.now number }
+    ensures { result ≡ (is_same_vertex (edge_at edges.now number).source edge.now.source && is_same_vertex (edge_at edges.now number).target edge.now.target) }
+{
+    is_same_vertex(edges.vertex(edges.source(number)), &edge.source)
+        && is_same_vertex(edges.vertex(edges.target(number)), &edge.target)
+}
+
+// Whether the edge with a number is this edge.
+fn is_edge(edges: &EdgeNumbers, number: usize, edge: &Edge) -> bool
+    requires { IsEdgeNumber edges.now number }
+    ensures { IsTrue result → edge_at edges.now number ≡ edge.now }
+{
+    if edges.position(number) == edge.position {
+        is_same_name(edges.name(number), edge.name) && has_ends(edges, number, edge)
+    } else {
+        false
+    }
+}
+
+// The edge that is sought, where it has the number.
+fn at_number(edges: &EdgeNumbers, number: usize, edge: &Edge) -> Option<usize>
+    ensures { IfSome result (IsNumberOfEdge edges.now edge.now) }
+{
+    if number < edges.edge_count() && is_edge(edges, number, edge) {
+        Some(number)
+    } else {
+        edges.number(edge)
+    }
+}
+
+/// The number of an edge that has one. Nearly every name is that of one edge, so it is mostly found by its name, and no hash is taken:
+/// edges come in the order of names, so what is read is near to what was read before.
+pub(crate) fn find(edges: &EdgeNumbers, names: &NumbersByName, edge: &Edge) -> Option<usize>
+    ensures { IfSome result (IsNumberOfEdge edges.now edge.now) }
+{
+    match names.with_name(edge.name) {
+        [] => None,
+        [number] => at_number(edges, *number as usize, edge),
+        _ => edges.number(edge),
+    }
 }
 
 /// Whether a number is that of an edge with a name that is not Absent.

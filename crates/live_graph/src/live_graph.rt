@@ -1,4 +1,4 @@
-ghost use Rattle.std.specs.Prelude.{◌≡◌, ◌+◌, ◌<◌, [], ◌∷◌, length, OnOk, IfOk};
+ghost use Rattle.std.specs.Prelude.{◌≡◌, ◌+◌, ◌<◌, ℕ, [], ◌∷◌, length, Some, OnOk, IfOk, IfSome};
 ghost use Rattle.edge_lattice.specs.State.{state_join};
 ghost use Rattle.grove_edits.specs.declared.edge.Edge.{Edge};
 ghost use Rattle.grove_edits.specs.declared.edit.Edit.{Edit};
@@ -15,7 +15,7 @@ ghost use Rattle.live_graph.specs.NumberOf.{IsNumberOf, KeepsNumbersOf};
 ghost use Rattle.live_graph.specs.Store.{well_formed};
 ghost use Rattle.live_graph.specs.Vertices.{AreLeastTwo, IsVertexNamed};
 
-use crate::by_name::{name_next_edge, sort_edges, with_name};
+use crate::by_name::{find, name_next_edge, sort_edges, with_name};
 use crate::change::Change;
 use crate::edges::Edges;
 use crate::greatest::{greatest_of_edges, greatest_of_vertices};
@@ -103,6 +103,14 @@ impl LiveGraph {
         self.edges.edge_count()
     }
 
+    /// The number of an edge, or None where it has none.
+    pub fn number(&self, edge: &Edge) -> Option<usize>
+        ensures number { IfSome result (IsNumberOf self.now edge.now) }
+        ensures only { (n : ℕ) → IsNumberOf self.now edge.now n → result ≡ Some n }
+    {
+        self.edges.number(edge)
+    }
+
     /// The state of an edge.
     pub fn state(&self, edge: &Edge) -> State
         ensures { result ≡ state_in self.now edge.now }
@@ -129,7 +137,7 @@ impl LiveGraph {
         ensures unchanged { IsSame (state_in self.new) (state_in self.old) }
         ensures live_stays { live self.new ≡ live self.old }
     {
-        if let Some(number) = self.edges.number(edge) {
+        if let Some(number) = find(&self.edges, &self.edge_names, edge) {
             return Ok(number);
         }
         // The name comes first, so that each edge with a number has one. A number under a name may still be that of no edge, or of another.
