@@ -4,3 +4,4 @@ pub mod Sort
 pub mod Ctor
 pub mod Position
 pub mod Version
+pub mod Branch

@@ -2,6 +2,7 @@
 //! The table of constructors and positions is the one definition that every other crate cites.
 #![tactic(auto)]
 
+mod branch;
 mod ctor;
 mod ident;
 mod laws;
@@ -13,11 +14,12 @@ mod table;
 mod version;
 mod write;
 
+pub use branch::Branch;
 pub use ctor::Ctor;
 pub use ident::{Ident, IdentFault};
 pub use laws::{
-    constructors_are_ordered, constructors_are_their_texts, identifiers_are_ordered,
-    positions_are_ordered, positions_are_their_words, rows_are_in_order,
+    branches_are_their_constructors, constructors_are_ordered, constructors_are_their_texts,
+    identifiers_are_ordered, positions_are_ordered, positions_are_their_words, rows_are_in_order,
 };
 pub use no_memory::NoMemory;
 pub use position::Position;
