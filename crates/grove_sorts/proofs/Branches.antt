@@ -13,6 +13,20 @@ use Rattle.grove_sorts.specs.Branch.{branch_ctor, branch_of}
 -- the comparison of the code is that of the constructors
 pub cmp_is_branch_cmp : (a b : Branch) → branch_impl.ghosts.cmp a b ≡ ctor_cmp (branch_ctor a) (branch_ctor b)
 cmp_is_branch_cmp Root Root = refl
+cmp_is_branch_cmp Lam Lam = refl
+cmp_is_branch_cmp Ap Ap = refl
+cmp_is_branch_cmp Plus Plus = refl
+cmp_is_branch_cmp Choose Choose = refl
+cmp_is_branch_cmp Pair Pair = refl
+cmp_is_branch_cmp Fst Fst = refl
+cmp_is_branch_cmp Snd Snd = refl
+cmp_is_branch_cmp TArrow TArrow = refl
+cmp_is_branch_cmp TProd TProd = refl
+cmp_is_branch_cmp Let Let = refl
+cmp_is_branch_cmp Inl Inl = refl
+cmp_is_branch_cmp Inr Inr = refl
+cmp_is_branch_cmp Case Case = refl
+cmp_is_branch_cmp TSum TSum = refl
 cmp_is_branch_cmp _ _ = refl
 
 -- branches whose constructors have one number are one
