@@ -1,5 +1,5 @@
 -- The orders of vertices, edges and edits: total, exact, and those of the code.
-use Rattle.std.proofs.Common.{◌≡◌, true, refl, ap, ◌∙◌}
+use Rattle.std.proofs.Common.{◌≡◌, true, refl, sym, ap, ◌∙◌}
 use Rattle.std.specs.declared.cmp.Ordering.{Ordering}
 use Rattle.std.specs.declared.cmp.Ordering.TheVariants.{Less, Equal, Greater}
 use Rattle.std.specs.Ordering.{ordering_then, is_eq, nat_cmp}
@@ -10,9 +10,12 @@ use Rattle.grove_names.specs.Name.{name_cmp}
 use Rattle.grove_sorts.specs.declared.ctor.Ctor.{Ctor}
 use Rattle.grove_sorts.specs.declared.position.Position.{Position}
 use Rattle.grove_sorts.specs.contracts.position.PositionOrd.TheImpl as position_impl
+use Rattle.grove_sorts.specs.contracts.branch.BranchOrd.TheImpl as branch_impl
 use Rattle.grove_names.proofs.Orders.{name_cmp_total, name_cmp_exact}
 use Rattle.grove_sorts.specs.Ctor.{ctor_cmp}
+use Rattle.grove_sorts.specs.Branch.{branch_ctor}
 use Rattle.grove_sorts.specs.Position.{position_cmp}
+use Rattle.grove_sorts.proofs.Branches.{cmp_is_branch_cmp}
 use Rattle.grove_sorts.proofs.Orders.{ctor_cmp_total, ctor_cmp_exact, cmp_is_ctor_cmp, equal_from_test, position_cmp_total, position_cmp_exact, cmp_is_position_cmp}
 use Rattle.grove_edits.specs.declared.vertex.Vertex.{Vertex}
 use Rattle.grove_edits.specs.declared.edge.Edge.{Edge}
@@ -107,11 +110,28 @@ kind_cmp Insert Delete = refl
 kind_cmp Delete Insert = refl
 kind_cmp Delete Delete = refl
 
+then_assoc : (o p q : Ordering) → ordering_then (ordering_then o p) q ≡ ordering_then o (ordering_then p q)
+then_assoc Less p q = refl
+then_assoc Equal p q = refl
+then_assoc Greater p q = refl
+
+-- the comparison of the code goes through the parts of the edge, and the kind last
 pub cmp_is_edit_cmp : (a b : Edit) → edit_impl.ghosts.cmp a b ≡ edit_cmp a b
 cmp_is_edit_cmp a b =
-    same_then (edge_impl.ghosts.cmp (edit_edge a) (edit_edge b)) (edge_cmp (edit_edge a) (edit_edge b))
-    (kind_impl.ghosts.cmp (edit_kind a) (edit_kind b)) (nat_cmp (kind_number (edit_kind a)) (kind_number (edit_kind b)))
-    (cmp_is_edge_cmp (edit_edge a) (edit_edge b)) (kind_cmp (edit_kind a) (edit_kind b))
+    let name = name_cmp a.name b.name in
+    let source = name_cmp a.source b.source in
+    let branch = ctor_cmp (branch_ctor a.branch) (branch_ctor b.branch) in
+    let position = position_cmp a.position b.position in
+    let target = vertex_cmp a.target b.target in
+    let kind = nat_cmp (kind_number (edit_kind a)) (kind_number (edit_kind b)) in
+    let last = same_then (vertex_impl.ghosts.cmp a.target b.target) target (kind_impl.ghosts.cmp a.kind b.kind) kind (cmp_is_vertex_cmp a.target b.target) (kind_cmp a.kind b.kind) in
+    let placed = same_then (position_impl.ghosts.cmp a.position b.position) position _ (ordering_then target kind) (cmp_is_position_cmp a.position b.position) last in
+    let whole = same_then (branch_impl.ghosts.cmp a.branch b.branch) branch _ (ordering_then position (ordering_then target kind)) (cmp_is_branch_cmp a.branch b.branch) placed in
+    ap (λ o. ordering_then name (ordering_then source o)) whole
+    ∙ sym (then_assoc name (ordering_then (ordering_then source branch) (ordering_then position target)) kind
+    ∙ ap (ordering_then name) (then_assoc (ordering_then source branch) (ordering_then position target) kind
+    ∙ then_assoc source branch (ordering_then (ordering_then position target) kind)
+    ∙ ap (λ o. ordering_then source (ordering_then branch o)) (then_assoc position target kind)))
 
 pub eq_is_same_edge : (a b : Edge) → edge_eq_impl.ghosts.eq a b ≡ is_same_edge a b
 eq_is_same_edge a b = matches_eq-law a b ∙ ap is_eq (cmp_is_edge_cmp a b)

@@ -11,11 +11,16 @@ use Rattle.std.proofs.lemmas.List.Sorted.{Contains-permutation, IsPermutation-sy
 use Rattle.edge_lattice.specs.declared.state.State.TheVariants.{Absent}
 use Rattle.edge_lattice.specs.State.{state_join}
 use Rattle.edge_lattice.proofs.States.{state_join_comm, Absent-state_join}
+use Rattle.grove_names.specs.declared.name.Name.{Name}
+use Rattle.grove_sorts.specs.declared.branch.Branch.{Branch}
+use Rattle.grove_sorts.specs.declared.position.Position.{Position}
+use Rattle.grove_sorts.proofs.Branches.{one_branch}
+use Rattle.grove_edits.specs.declared.vertex.Vertex.{Vertex}
 use Rattle.grove_edits.specs.declared.edge.Edge.{Edge}
 use Rattle.grove_edits.specs.declared.edit.Edit.{Edit}
 use Rattle.grove_edits.specs.declared.edit.EditKind.{EditKind}
 use Rattle.grove_edits.specs.declared.edit.EditKind.TheVariants.{Insert, Delete}
-use Rattle.grove_edits.specs.Edge.{edge_cmp, IsWellFormed, EdgeInRange}
+use Rattle.grove_edits.specs.Edge.{edge_cmp, edge_from, IsWellFormed, EdgeInRange}
 use Rattle.grove_edits.specs.Edit.{edit_edge, edit_kind}
 use Rattle.grove_edits.specs.Graph.{Graph, graph, state_of, is_same_edge, IsSame, Ascends, IsCanonical, HasAll}
 use Rattle.grove_edits.proofs.Orders.{edge_cmp_total, edge_cmp_exact}
@@ -29,17 +34,39 @@ Kept edge = IsWellFormed edge × EdgeInRange edge
 Kept-prop : (edge : Edge) → IsProp (Kept edge)
 Kept-prop edge = hlevel props
 
-abbrev made : (kind : EditKind) (edge : Edge) → Kept edge → Edit
-made kind edge kept = record { edge = edge; kind = kind; well_formed = kept.0; in_range = kept.1 }
+-- the parts of an edit beside what holds of them
+record Parts : Type 0 where
+  name : Name
+  source : Name
+  branch : Branch
+  position : Position
+  target : Vertex
+  kind : EditKind
 
-made_same : (kind : EditKind) (edge : Edge) (kept : Kept edge) (k : EditKind) (e : Edge) → kind ≡ k → edge ≡ e → (held : Kept e) → made kind edge kept ≡ made k e held
-made_same kind edge kept k e same_kind same_edge =
-    subst (λ x. (held : Kept x) → made kind edge kept ≡ made k x held) same_edge
-    (subst (λ j. (held : Kept edge) → made kind edge kept ≡ made j edge held) same_kind
-    (λ held. ap (made kind edge) (Kept-prop edge kept held)))
+abbrev edge_in : Parts → Edge
+edge_in parts = edge_from parts.name parts.source parts.branch parts.position parts.target
+
+abbrev made : (parts : Parts) → Kept (edge_in parts) → Edit
+made parts kept =
+    record { name = parts.name; source = parts.source; branch = parts.branch; position = parts.position; target = parts.target; kind = parts.kind; well_formed = kept.0; in_range = kept.1 }
+
+made_same : (a b : Parts) → a ≡ b → (kept : Kept (edge_in a)) (held : Kept (edge_in b)) → made a kept ≡ made b held
+made_same a b same kept = subst (λ x. (held : Kept (edge_in x)) → made a kept ≡ made x held) same (λ held. ap (made a) (Kept-prop (edge_in a) kept held))
+
+abbrev parts_from : Name → Name → Branch → Position → Vertex → EditKind → Parts
+parts_from n s b p t k = record { name = n; source = s; branch = b; position = p; target = t; kind = k }
+
+same_parts : (n m s z : Name) (b c : Branch) (p q : Position) (t u : Vertex) (k l : EditKind) → n ≡ m → s ≡ z → b ≡ c → p ≡ q → t ≡ u → k ≡ l
+    → parts_from n s b p t k ≡ parts_from m z c q u l
+same_parts n m s z b c p q t u k l name source branch position target kind = rw name (rw source (rw branch (rw position (rw target (rw kind refl)))))
 
 pub edit_from_fields : (a b : Edit) → edit_kind a ≡ edit_kind b → edit_edge a ≡ edit_edge b → a ≡ b
-edit_from_fields a b kind edge = made_same a.kind a.edge (a.well_formed, a.in_range) b.kind b.edge kind edge (b.well_formed, b.in_range)
+edit_from_fields a b kind edge =
+    let branch : a.branch ≡ b.branch = one_branch a.branch b.branch (ap (λ (e : Edge). e.source.ctor) edge) in
+    let parts = same_parts a.name b.name a.source b.source a.branch b.branch a.position b.position a.target b.target a.kind b.kind
+    (ap (λ (e : Edge). e.name) edge) (ap (λ (e : Edge). e.source.name) edge) branch (ap (λ (e : Edge). e.position) edge) (ap (λ (e : Edge). e.target) edge) kind in
+    made_same (parts_from a.name a.source a.branch a.position a.target a.kind) (parts_from b.name b.source b.branch b.position b.target b.kind) parts
+    (a.well_formed, a.in_range) (b.well_formed, b.in_range)
 
 -- ---- lists with the same edits
 

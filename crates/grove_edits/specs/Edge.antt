@@ -2,13 +2,18 @@
 use Rattle.std.specs.Prelude.{◌<◌, ◌^◌, Bool, true, false, ◌&&◌, nat_lt, Option, Some, None, IsTrue, is_none, is_some, if◌then◌else◌}
 use Rattle.std.specs.declared.cmp.Ordering.{Ordering}
 use Rattle.std.specs.Ordering.{ordering_then}
+use Rattle.grove_names.specs.declared.name.Name.{Name}
 use Rattle.grove_names.specs.Name.{name_cmp}
 use Rattle.grove_sorts.specs.declared.sort.Sort.{Sort}
 use Rattle.grove_sorts.specs.declared.sort.Sort.TheVariants.{Top, Exp, Pat, Typ}
+use Rattle.grove_sorts.specs.declared.branch.Branch.{Branch}
+use Rattle.grove_sorts.specs.declared.position.Position.{Position}
+use Rattle.grove_sorts.specs.Branch.{branch_ctor}
 use Rattle.grove_sorts.specs.Position.{position_cmp}
 use Rattle.grove_sorts.specs.Ctor.{sort_of_ctor, sort_at}
 use Rattle.grove_sorts.specs.declared.version.Version.{Version}
 use Rattle.grove_sorts.specs.Version.{IsCtorOf, IsPositionOf}
+use Rattle.grove_edits.specs.declared.vertex.Vertex.{Vertex}
 use Rattle.grove_edits.specs.declared.edge.Edge.{Edge}
 use Rattle.grove_edits.specs.declared.edge.EdgeFault.{EdgeFault}
 use Rattle.grove_edits.specs.declared.edge.EdgeFault.TheVariants.{BadVertex, NoPosition, WrongSort}
@@ -50,6 +55,11 @@ EdgeInRange e = (e.name.author < 2 ^ 32) × (e.name.counter < 2 ^ 64) × VertexI
 -- all that a version has to know of the edge is of the version
 abbrev pub IsEdgeOf : Version → Edge → Type 0
 IsEdgeOf version e = IsCtorOf version e.source.ctor × IsPositionOf version e.position × IsCtorOf version e.target.ctor
+
+-- the edge of these parts, whose source has a constructor with positions
+abbrev pub edge_from : Name → Name → Branch → Position → Vertex → Edge
+edge_from name source branch position target =
+    record { name = name; source = record { name = source; ctor = branch_ctor branch }; position = position; target = target }
 
 -- edges are ordered by name, source, position and target
 abbrev pub edge_cmp : Edge → Edge → Ordering

@@ -6,10 +6,10 @@ use Rattle.grove_edits.specs.declared.edge.Edge.{Edge}
 use Rattle.grove_edits.specs.declared.edit.Edit.{Edit}
 use Rattle.grove_edits.specs.declared.edit.EditKind.{EditKind}
 use Rattle.grove_edits.specs.declared.edit.EditKind.TheVariants.{Insert, Delete}
-use Rattle.grove_edits.specs.Edge.{edge_cmp}
+use Rattle.grove_edits.specs.Edge.{edge_cmp, edge_from}
 
 abbrev pub edit_edge : Edit → Edge
-edit_edge edit = edit.edge
+edit_edge edit = edge_from edit.name edit.source edit.branch edit.position edit.target
 
 abbrev pub edit_kind : Edit → EditKind
 edit_kind edit = edit.kind

@@ -26,6 +26,6 @@ fn begins_with_edge(edits: &[Edit], edit: &Edit) -> bool
 {
     match edits {
         [] => false,
-        [first, ..] => edit.as_edge() == first.as_edge(),
+        [first, ..] => edit.edge() == first.edge(),
     }
 }

@@ -1,7 +1,10 @@
 ghost use Rattle.std.specs.Prelude.{◌≡◌, IfOk, IfErr, Some};
-ghost use Rattle.grove_edits.specs.Edge.{IsWellFormed, EdgeInRange, edge_fault};
+ghost use Rattle.grove_edits.specs.Edge.{IsWellFormed, EdgeInRange, edge_fault, edge_from};
 
 use crate::edge::{Edge, EdgeFault, check_edge};
+use crate::vertex::Vertex;
+use grove_names::Name;
+use grove_sorts::{Branch, Position};
 
 /// What an edit does to its edge.
 #[derive(Clone, Copy, Debug, PartialEq, Eq, PartialOrd, Ord, Hash)]
@@ -13,10 +16,16 @@ pub enum EditKind {
 /// The insertion or the deletion of a well-formed edge, ordered by its edge and then its kind.
 #[derive(Clone, Copy, Debug, PartialEq, Eq, PartialOrd, Ord)]
 pub struct Edit {
-    edge: Edge,
+    // The parts of the edge. The source of a well-formed edge has a position, so its constructor is a byte here: an edit is two thirds as
+    // wide as its edge.
+    name: Name,
+    source: Name,
+    branch: Branch,
+    position: Position,
+    target: Vertex,
     kind: EditKind,
-    ghost well_formed: { IsWellFormed edge },
-    ghost in_range: { EdgeInRange edge },
+    ghost well_formed: { IsWellFormed (edge_from name source branch position target) },
+    ghost in_range: { EdgeInRange (edge_from name source branch position target) },
 }
 
 impl Edit {
@@ -30,7 +39,15 @@ impl Edit {
         ensures first_fault { IfErr result (λ fault. edge_fault edge ≡ Some fault) }
     {
         check_edge(&edge)?;
-        Ok(Edit { edge, kind })
+        let branch = Branch::of(&edge.source.ctor).ok_or(EdgeFault::NoPosition)?;
+        Ok(Edit {
+            name: edge.name,
+            source: edge.source.name,
+            branch,
+            position: edge.position,
+            target: edge.target,
+            kind,
+        })
     }
 
     /// The insertion of an edge, or its first fault.
@@ -51,17 +68,47 @@ impl Edit {
         Edit::new(EditKind::Delete, edge)
     }
 
+    /// The edge, in its whole width: where a part of it does, take that.
     pub fn edge(&self) -> Edge
         ensures { result ≡ edit_edge self.now }
     {
-        self.edge
+        Edge {
+            name: self.name,
+            source: self.source(),
+            position: self.position,
+            target: self.target,
+        }
     }
 
-    /// The same edge, lent.
-    pub fn as_edge(&self) -> &Edge
-        ensures { result.now ≡ edit_edge self.now }
+    /// The name of the edge.
+    pub fn name(&self) -> Name
+        ensures { result ≡ (edit_edge self.now).name }
     {
-        &self.edge
+        self.name
+    }
+
+    /// The vertex from which the edge leads.
+    pub fn source(&self) -> Vertex
+        ensures { result ≡ (edit_edge self.now).source }
+    {
+        Vertex {
+            name: self.source,
+            ctor: self.branch.ctor(),
+        }
+    }
+
+    /// The position at which the edge stands.
+    pub fn position(&self) -> Position
+        ensures { result ≡ (edit_edge self.now).position }
+    {
+        self.position
+    }
+
+    /// The vertex to which the edge leads, lent.
+    pub fn target(&self) -> &Vertex
+        ensures { result.now ≡ (edit_edge self.now).target }
+    {
+        &self.target
     }
 
     pub fn kind(&self) -> EditKind

@@ -7,6 +7,6 @@ use Rattle.grove_edits.proofs.canonical.begins_with_edge.Goals as goal
 
 pub returns-in-len1-up : goal.returns-in-len1-up
 returns-in-len1-up c =
-    let same : c.eq.result ≡ is_same_edge c.as_edge.result.now c.as_edge-in-len1-up.result.now = c.eq.ensures ∙ eq_is_same_edge c.as_edge.result.now c.as_edge-in-len1-up.result.now in
-    let own : c.eq.result ≡ is_same_edge (edit_edge c.args.edit.now) c.as_edge-in-len1-up.result.now = same ∙ ap (λ e. is_same_edge e c.as_edge-in-len1-up.result.now) c.as_edge.ensures in
-    begins_with-first (edit_edge c.args.edit.now) c.as_edge-in-len1-up.result.now c.args.edits.now c.first-item.result c.eq.result c.as_edge-in-len1-up.ensures c.in-len1-up.len_at_least c.first-item.is own
+    let same : c.eq.result ≡ is_same_edge c.edge.result c.edge-in-len1-up.result = c.eq.ensures ∙ eq_is_same_edge c.edge.result c.edge-in-len1-up.result in
+    let own : c.eq.result ≡ is_same_edge (edit_edge c.args.edit.now) c.edge-in-len1-up.result = same ∙ ap (λ e. is_same_edge e c.edge-in-len1-up.result) c.edge.ensures in
+    begins_with-first (edit_edge c.args.edit.now) c.edge-in-len1-up.result c.args.edits.now c.first-item.result c.eq.result c.edge-in-len1-up.ensures c.in-len1-up.len_at_least c.first-item.is own
