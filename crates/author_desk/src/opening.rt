@@ -16,7 +16,7 @@ use std::cmp::Ordering;
 fn order(edit: &Edit, name: Name) -> Ordering
     ensures { result ≡ name_cmp (edit_edge edit.now).name name }
 {
-    edit.as_edge().name.cmp(&name)
+    edit.name().cmp(&name)
 }
 
 // How many edges have a name before this one.

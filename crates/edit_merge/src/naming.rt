@@ -23,7 +23,7 @@ pub(crate) fn name_lines(
     while let Some((line, after)) = split_at_first(rest, b'\n') {
         match read_line(version, line) {
             Ok(edit) => {
-                let name = edit.as_edge().name;
+                let name = edit.name();
                 let start = text.len() - rest.len();
                 let end = start + line.len();
                 push(&mut lines, NamedLine { name, start, end })?;

@@ -31,7 +31,7 @@ fn append_line(edit: &Edit, out: &mut Vec<u8>) -> Result<(), NoMemory>
         EditKind::Insert => b'+',
         EditKind::Delete => b'-',
     })?;
-    append_edge(edit.as_edge(), out)?;
+    append_edge(&edit.edge(), out)?;
     out.push(b'\n')?;
     Ok(())
 }

@@ -1,13 +1,12 @@
 ghost use Rattle.std.specs.Prelude.{◌≡◌, ◌++◌, OnOk, OnErr};
-ghost use Rattle.grove_terms.specs.Lent.{node_of, what_of};
+ghost use Rattle.grove_terms.specs.Lent.{edge_of, node_of, what_of};
 ghost use Rattle.std.specs.Option.{option_map};
 ghost use Rattle.grove_printer.specs.Print.{Extends, position_column, edge_column, vertex_column, what_column, place_columns, node_columns};
 
 use crate::no_memory::NoMemory;
-use grove_edits::Edge;
 use grove_names::write_name;
 use grove_sorts::{Position, write_ctor, write_position};
-use grove_terms::{LentNode, LentWhat};
+use grove_terms::{LentEdge, LentNode, LentWhat};
 use text_parts::write_number;
 
 // After an error each of these functions may have appended a part.
@@ -46,12 +45,12 @@ fn append_position(position: Option<Position>, out: &mut Vec<u8>) -> Result<(), 
     Ok(())
 }
 
-fn append_edge(edge: Option<&Edge>, out: &mut Vec<u8>) -> Result<(), NoMemory>
-    ensures appended { OnOk result (out.new.items ≡ out.old.items ++ edge_column (option_map (λ e. e.now) edge.entry)) }
+fn append_edge(edge: Option<LentEdge<'_>>, out: &mut Vec<u8>) -> Result<(), NoMemory>
+    ensures appended { OnOk result (out.new.items ≡ out.old.items ++ edge_column (option_map edge_of edge.entry)) }
     ensures in_part { OnErr result (Extends out.old.items out.new.items) }
 {
     match edge {
-        Some(edge) => write_name(edge.name, out)?,
+        Some(edge) => write_name(edge.name(), out)?,
         None => out.push(b'-')?,
     }
     Ok(())

@@ -6,7 +6,7 @@ use super::*;
 use grove_edits::{Edge, Vertex};
 use grove_names::Name;
 use grove_sorts::{Ctor, Position, Sort};
-use grove_terms::{LentNode, LentWhat};
+use grove_terms::{LentEdge, LentNode, LentWhat};
 use mark_step::{Mark, Mode};
 use marking::{MarkedGrove, MarkedNode, MarkedTree, MarkedTreeList};
 use std::alloc::Global;
@@ -151,7 +151,7 @@ fn a_marked_line_stands_alone(rt: HostRuntime) -> Result<(), Fail> {
     let node = LentNode {
         depth: 1,
         position: Some(Position::Main),
-        edge: Some(&edge),
+        edge: Some(LentEdge::Whole(&edge)),
         what: LentWhat::Vertex(&choose),
     };
     let marked_node = MarkedNode {
@@ -188,7 +188,7 @@ fn an_injection_against_a_number_is_printed(rt: HostRuntime) -> Result<(), Fail>
     let node = LentNode {
         depth: 2,
         position: Some(Position::Left),
-        edge: Some(&edge),
+        edge: Some(LentEdge::Whole(&edge)),
         what: LentWhat::Vertex(&injection),
     };
     let marked_node = MarkedNode {

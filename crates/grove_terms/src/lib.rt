@@ -19,7 +19,7 @@ pub use laws::{
 };
 pub use listing::edges;
 pub use no_memory::NoMemory;
-pub use node::{LentNode, LentWhat, Node, What};
+pub use node::{LentEdge, LentNode, LentWhat, Node, What};
 pub use tree::Tree;
 pub use tree_list::TreeList;
 

@@ -33,7 +33,7 @@ fn push_tree(tree: &Tree, edges: &mut EdgeList) -> Result<(), NoMemory>
 {
     for node in tree.as_slice() {
         if let Some(edge) = node.edge {
-            edges.push(*edge)?;
+            edges.push(edge.edge())?;
         }
     }
     Ok(())

@@ -1,6 +1,9 @@
 ghost use Rattle.std.specs.Prelude.{◌≡◌};
+ghost use Rattle.std.specs.Option.{option_map};
+ghost use Rattle.grove_terms.specs.Lent.{edge_of};
 
-use grove_edits::{Edge, Vertex};
+use grove_edits::{Edge, Edit, Vertex};
+use grove_names::Name;
 use grove_sorts::{Position, Sort};
 
 /// A node of a tree, as contracts see it.
@@ -37,8 +40,60 @@ pub struct LentNode<'g> {
     /// The position at which it stands; the head of a tree stands at none.
     pub position: Option<Position>,
     /// The edge that leads to it, for a child.
-    pub edge: Option<&'g Edge>,
+    pub edge: Option<LentEdge<'g>>,
     pub what: LentWhat<'g>,
+}
+
+/// An edge as the graph that lends it has it.
+#[derive(Clone, Copy, Debug, PartialEq, Eq)]
+pub enum LentEdge<'g> {
+    Whole(&'g Edge),
+    /// The edge of an edit, which is kept in parts.
+    OfEdit(&'g Edit),
+}
+
+impl<'g> LentEdge<'g> {
+    ghost use Rattle.grove_terms.specs.Lent.{edge_of};
+
+    /// The edge itself.
+    pub fn edge(&self) -> Edge
+        ensures { result ≡ edge_of self.now }
+    {
+        match self {
+            LentEdge::Whole(edge) => **edge,
+            LentEdge::OfEdit(edit) => edit.edge(),
+        }
+    }
+
+    /// The name of the edge.
+    pub fn name(&self) -> Name
+        ensures { result ≡ (edge_of self.now).name }
+    {
+        match self {
+            LentEdge::Whole(edge) => edge.name,
+            LentEdge::OfEdit(edit) => edit.name(),
+        }
+    }
+
+    /// The position at which the edge stands.
+    pub fn position(&self) -> Position
+        ensures { result ≡ (edge_of self.now).position }
+    {
+        match self {
+            LentEdge::Whole(edge) => edge.position,
+            LentEdge::OfEdit(edit) => edit.position(),
+        }
+    }
+
+    /// The vertex to which the edge leads.
+    pub fn target(&self) -> &'g Vertex
+        ensures { result.now ≡ (edge_of self.now).target }
+    {
+        match self {
+            LentEdge::Whole(edge) => &edge.target,
+            LentEdge::OfEdit(edit) => edit.target(),
+        }
+    }
 }
 
 /// What a lent node is: see `What`.
@@ -77,8 +132,17 @@ impl LentNode<'_> {
         Node {
             depth: self.depth,
             position: self.position,
-            edge: self.edge.copied(),
+            edge: whole(self.edge),
             what: self.what.owned(),
         }
+    }
+}
+
+fn whole(edge: Option<LentEdge<'_>>) -> Option<Edge>
+    ensures { result ≡ option_map edge_of edge.entry }
+{
+    match edge {
+        Some(edge) => Some(edge.edge()),
+        None => None,
     }
 }

@@ -35,7 +35,7 @@ fn tree_with<'g>(
         tree.push(LentNode {
             depth: 1,
             position: Some(edge.position),
-            edge: Some(edge),
+            edge: Some(LentEdge::Whole(edge)),
             what: LentWhat::MultiRef(&edge.target),
         })?;
     }

@@ -190,7 +190,7 @@ impl LiveGraph {
         ensures room_stays { KeepsRoom self.old self.new }
         ensures numbers_stay { KeepsNumbersOf self.old self.new }
     {
-        match self.edges.number(edit.as_edge()) {
+        match self.edges.number(&edit.edge()) {
             Some(number) => self.raise_at(number, edit.kind()),
             None => Change::Same,
         }

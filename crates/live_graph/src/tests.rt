@@ -32,7 +32,7 @@ fn raise(graph: &mut LiveGraph, kind: EditKind, edge: Edge) -> Result<Option<Cha
     let Ok(edit) = Edit::new(kind, edge) else {
         return Ok(None);
     };
-    graph.make_room(edit.as_edge())?;
+    graph.make_room(&edit.edge())?;
     Ok(Some(graph.raise(&edit)))
 }
 

@@ -78,7 +78,7 @@ pub fn is_raised(edit: &Edit, store: &GraphStore) -> bool
         EditKind::Insert => State::Live,
         EditKind::Delete => State::Deleted,
     };
-    leq(asked, store.state(edit.as_edge()))
+    leq(asked, store.state(&edit.edge()))
 }
 
 impl Marks {

@@ -8,7 +8,7 @@ use ctx_table::CtxTable;
 use grove_edits::{Edge, Vertex};
 use grove_names::Name;
 use grove_sorts::{Ctor, Position, Sort, Version, read_ident};
-use grove_terms::{LentNode, LentWhat, NoMemory, Tree};
+use grove_terms::{LentEdge, LentNode, LentWhat, NoMemory, Tree};
 use std::alloc::Global;
 use std::test::Fail;
 use type_core::TypeTable;
@@ -86,7 +86,7 @@ fn child<'g>(depth: u64, edge: &'g Edge) -> LentNode<'g>
     LentNode {
         depth,
         position: Some(edge.position),
-        edge: Some(edge),
+        edge: Some(LentEdge::Whole(edge)),
         what: LentWhat::Vertex(&edge.target),
     }
 }

@@ -39,7 +39,7 @@ fn news_of<'e>(
 {
     let mut news = Vec::new(alloc);
     for edit in edits {
-        let number = kept.make_room(edit.as_edge())?;
+        let number = kept.make_room(&edit.edge())?;
         if !leq(asked_by(edit.kind()), kept.state_at(number)) {
             news.push(News { number, edit })?;
         }

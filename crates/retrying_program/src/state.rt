@@ -13,7 +13,7 @@ use std::alloc::{AllocFailed, Global};
 pub(crate) fn vertices_of(alloc: Global, edits: &[Edit]) -> Result<Vec<Vertex>, Fault> {
     let mut vertices = Vec::new(alloc);
     for edit in edits {
-        let edge = edit.as_edge();
+        let edge = edit.edge();
         push_new(&mut vertices, edge.source)?;
         push_new(&mut vertices, edge.target)?;
     }

@@ -11,14 +11,14 @@ use Rattle.live_graph.proofs.live_graph.LiveGraph.raise.Goals.{In-None}
 
 pub returns-in-Some-clause-change : goal.returns-in-Some-clause-change
 returns-in-Some-clause-change c =
-    let number = subst (λ (es : Entries). IsNumberOf es c.as_edge.result.now c.in-Some.number) c.self.view_is c.in-Some.ensures.number in
+    let number = subst (λ (es : Entries). IsNumberOf es c.edge.result c.in-Some.number) c.self.view_is c.in-Some.ensures.number in
     subst (λ k. IsChange (state_in c.args.self.now (edit_edge c.args.edit.now)) (state_of k) c.raise_at.result) c.kind.ensures
-    (c.raise_at.ensures.change (edit_edge c.args.edit.now) (subst (λ (e : Edge). IsNumberOf c.args.self.now e c.in-Some.number) c.as_edge.ensures number))
+    (c.raise_at.ensures.change (edit_edge c.args.edit.now) (subst (λ (e : Edge). IsNumberOf c.args.self.now e c.in-Some.number) c.edge.ensures number))
 
 no_number : In-None → ⊥
 no_number c =
     let room = subst (λ (es : Entries). HasRoom es (edit_edge c.args.edit.now)) (sym c.self.view_is) c.requires in
-    no_room c.self.inside.edges.entries c.as_edge.result.now c.in-None.ensures.only (subst (HasRoom c.self.inside.edges.entries) (sym c.as_edge.ensures) room)
+    no_room c.self.inside.edges.entries c.edge.result c.in-None.ensures.only (subst (HasRoom c.self.inside.edges.entries) (sym c.edge.ensures) room)
 
 pub returns-in-None-clause-joined : goal.returns-in-None-clause-joined
 returns-in-None-clause-joined c = absurd (no_number c)
