@@ -135,7 +135,7 @@ form_injective k l a b in_a in_b same =
 -- edits with one line are one
 pub one_edit : (version : Version) (line : List ℕ) (a b : Edit) → Spells version line a → Spells version line b → a ≡ b
 one_edit version line a b of_a of_b =
-    let same = form_injective a.kind b.kind a.edge b.edge a.in_range b.in_range (sym of_a.0 ∙ of_b.0) in
+    let same = form_injective a.kind b.kind (edit_edge a) (edit_edge b) a.in_range b.in_range (sym of_a.0 ∙ of_b.0) in
     edit_from_fields a b same.0 same.1
 
 -- version two knows all of each edge, and so each edit has its line there
@@ -157,12 +157,12 @@ none_is_not_some (Some other) fault none is = false≢true none
 -- no line of an edit is that of an edge with a fault
 edit_or_edge_fault : (version : Version) (line : List ℕ) (edit : Edit) (fault : EdgeFault) → Spells version line edit → HasEdgeFault version line fault → ⊥
 edit_or_edge_fault version line edit fault spells has =
-    let same = form_injective edit.kind has.0 edit.edge has.1 edit.in_range has.2 (sym spells.0 ∙ has.4) in
-    none_is_not_some (edge_fault edit.edge) fault edit.well_formed (ap edge_fault same.1 ∙ has.5)
+    let same = form_injective edit.kind has.0 (edit_edge edit) has.1 edit.in_range has.2 (sym spells.0 ∙ has.4) in
+    none_is_not_some (edge_fault (edit_edge edit)) fault edit.well_formed (ap edge_fault same.1 ∙ has.5)
 
 -- an edit's line has no fault
 pub edit_or_fault : (version : Version) (line : List ℕ) (edit : Edit) (fault : LineFault) → Spells version line edit → HasFault version line fault → ⊥
-edit_or_fault version line edit Syntax spells has = has edit.kind edit.edge edit.in_range spells.1 spells.0
+edit_or_fault version line edit Syntax spells has = has edit.kind (edit_edge edit) edit.in_range spells.1 spells.0
 edit_or_fault version line edit BadVertex spells has = edit_or_edge_fault version line edit edges.BadVertex spells has
 edit_or_fault version line edit NoPosition spells has = edit_or_edge_fault version line edit edges.NoPosition spells has
 edit_or_fault version line edit WrongSort spells has = edit_or_edge_fault version line edit edges.WrongSort spells has
@@ -209,7 +209,7 @@ pub same_lines : (a b : Edit) (x y : List ℕ) → line_of a ++ x ≡ line_of b 
 same_lines a b x y same =
     let of_a = form (edit_kind a) (edit_edge a) in
     let of_b = form (edit_kind b) (edit_edge b) in
-    let parts = first_part 10 of_a of_b x y (Lacks-form a.kind a.edge a.in_range) (Lacks-form b.kind b.edge b.in_range)
+    let parts = first_part 10 of_a of_b x y (Lacks-form a.kind (edit_edge a) a.in_range) (Lacks-form b.kind (edit_edge b) b.in_range)
     (sym (line_then a x) ∙ same ∙ line_then b y) in
     (one_edit Two of_a a b (each_in_two a) (parts.0, all_in_two (edit_edge b)), parts.1)
 
@@ -217,4 +217,4 @@ same_lines a b x y same =
 pub no_prefix : (a b : Edit) (more : List ℕ) → line_of a ++ more ≡ line_of b → more ≡ []
 no_prefix a b more same =
     (first_part 10 (form (edit_kind a) (edit_edge a)) (form (edit_kind b) (edit_edge b)) more []
-    (Lacks-form a.kind a.edge a.in_range) (Lacks-form b.kind b.edge b.in_range) (sym (line_then a more) ∙ same)).1
+    (Lacks-form a.kind (edit_edge a) a.in_range) (Lacks-form b.kind (edit_edge b) b.in_range) (sym (line_then a more) ∙ same)).1

@@ -23,7 +23,7 @@ BeginsNoLine-unended version text unended edit rest of_version same =
 -- a text whose first line has a fault begins with no edit's line
 pub BeginsNoLine-bad : (version : Version) (bad after : List ℕ) (fault : LineFault) → Lacks 10 bad → HasFault version bad fault → BeginsNoLine version (bad ++ 10 ∷ after)
 BeginsNoLine-bad version bad after fault one_line has edit rest of_version same =
-    let parts = first_part 10 (form (edit_kind edit) (edit_edge edit)) bad rest after (Lacks-form edit.kind edit.edge edit.in_range) one_line (sym (line_then edit rest) ∙ same) in
+    let parts = first_part 10 (form (edit_kind edit) (edit_edge edit)) bad rest after (Lacks-form edit.kind (edit_edge edit) edit.in_range) one_line (sym (line_then edit rest) ∙ same) in
     edit_or_fault version bad edit fault (sym parts.0, of_version) has
 
 -- the edits before the first place where no line stands, and what stands there, are known by the text

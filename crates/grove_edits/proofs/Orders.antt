@@ -30,7 +30,7 @@ use Rattle.grove_edits.specs.contracts.edit.EditOrd.TheImpl as edit_impl
 use Rattle.grove_edits.specs.contracts.edit.EditKindOrd.TheImpl as kind_impl
 use Rattle.grove_edits.specs.Vertex.{vertex_cmp}
 use Rattle.grove_edits.specs.Edge.{edge_cmp}
-use Rattle.grove_edits.specs.Edit.{edit_edge, edit_kind, edit_cmp, kind_number}
+use Rattle.grove_edits.specs.Edit.{edit_kind, edit_cmp, kind_number}
 use Rattle.grove_edits.specs.Graph.{is_same_edge}
 
 pub vertex_cmp_total : IsTotalOrder vertex_cmp

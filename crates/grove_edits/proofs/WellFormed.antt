@@ -1,11 +1,17 @@
 -- What a well-formed edge has: good vertices, a position of its source, and a target of the sort that the position wants.
-use Rattle.std.proofs.Common.{◌≡◌, Bool, true, false, cond, Option, Some, None, is_none, refl, sym, ap}
+use Rattle.std.proofs.Common.{◌≡◌, Bool, true, false, cond, Option, Some, None, is_none, refl, sym, ap, subst}
 use Rattle.grove_sorts.specs.declared.sort.Sort.{Sort}
 use Rattle.grove_sorts.specs.declared.sort.Sort.TheVariants.{Top, Exp, Pat, Typ}
+use Rattle.grove_sorts.specs.declared.ctor.Ctor.{Ctor}
 use Rattle.grove_sorts.specs.Ctor.{sort_of_ctor, sort_at}
+use Rattle.grove_sorts.specs.Branch.{branch_of}
+use Rattle.grove_sorts.proofs.Branches.{is_branch}
 use Rattle.grove_edits.specs.declared.edge.Edge.{Edge}
 use Rattle.grove_edits.specs.declared.edge.EdgeFault.TheVariants.{BadVertex, NoPosition, WrongSort}
-use Rattle.grove_edits.specs.Edge.{IsWellFormed, has_good_vertices, has_position, has_sort, is_sort}
+use Rattle.grove_edits.specs.declared.edit.Edit.{Edit}
+use Rattle.grove_edits.specs.declared.edit.EditKind.{EditKind}
+use Rattle.grove_edits.specs.Edge.{IsWellFormed, EdgeInRange, edge_from, has_good_vertices, has_position, has_sort, is_sort}
+use Rattle.grove_edits.specs.Edit.{edit_edge}
 
 -- the three tests of an edge that has no fault
 all_pass : (good placed sorted : Bool) → is_none (cond good (cond placed (cond sorted None (Some WrongSort)) (Some NoPosition)) (Some BadVertex)) ≡ true
@@ -35,3 +41,25 @@ pub place_fits : (e : Edge) → IsWellFormed e → sort_at e.source.ctor e.posit
 place_fits e well =
     one_answer (sort_at e.source.ctor e.position) (sort_of_ctor e.target.ctor)
     (all_pass (has_good_vertices e) (has_position e) (has_sort e) well).2
+
+-- a well-formed edge is the edge of its parts
+pub remade : (e : Edge) → IsWellFormed e → edge_from e.name e.source.name (branch_of e.source.ctor) e.position e.target ≡ e
+remade e well =
+    ap (λ (c : Ctor). record { name = e.name; source = record { name = e.source.name; ctor = c }; position = e.position; target = e.target })
+    (is_branch e.source.ctor e.position (all_pass (has_good_vertices e) (has_position e) (has_sort e) well).1)
+
+-- the edit of a kind of an edge that has one
+abbrev pub edit_made : EditKind → (e : Edge) → IsWellFormed e → EdgeInRange e → Edit
+edit_made kind e well within = record {
+  name = e.name;
+  source = e.source.name;
+  branch = branch_of e.source.ctor;
+  position = e.position;
+  target = e.target;
+  kind = kind;
+  well_formed = subst IsWellFormed (sym (remade e well)) well;
+  in_range = subst EdgeInRange (sym (remade e well)) within;
+}
+
+pub edge_made : (kind : EditKind) (e : Edge) (well : IsWellFormed e) (within : EdgeInRange e) → edit_edge (edit_made kind e well within) ≡ e
+edge_made kind e well within = remade e well

@@ -10,9 +10,10 @@ use Rattle.grove_edits.specs.Vertex.{literal, VertexInRange}
 use Rattle.grove_edits.specs.Edge.{edge_fault, IsWellFormed, EdgeInRange}
 use Rattle.grove_edits.specs.Edit.{edit_edge, edit_kind}
 use Rattle.grove_edits.proofs.Unique.{edit_from_fields}
+use Rattle.grove_edits.proofs.WellFormed.{edge_made}
 use Rattle.user_actions.specs.PlainEdits.{plain}
 use Rattle.user_actions.proofs.Truths.{and_true}
-use Rattle.replica_core.specs.Plain.{is_vertex_in_range, is_edge_in_range, edit_where, edit_of, and_some, as_edits}
+use Rattle.replica_core.specs.Plain.{is_vertex_in_range, is_edge_in_range, edge_in_range, edit_where, edit_of, and_some, as_edits}
 
 vertex_passes : (v : Vertex) → VertexInRange v → is_vertex_in_range v ≡ true
 vertex_passes v within =
@@ -35,7 +36,7 @@ pub record IsEditOf (kind : EditKind) (e : Edge) (o : Option Edit) : Type 0 wher
 pub some_edit : (kind : EditKind) (e : Edge) → IsWellFormed e → EdgeInRange e → IsEditOf kind e (edit_of kind e)
 some_edit kind e good within = by_tests (is_none (edge_fault e)) (is_edge_in_range e) refl refl good (edge_passes e within) where
   by_tests : (b c : Bool) → (p : is_none (edge_fault e) ≡ b) → (q : is_edge_in_range e ≡ c) → b ≡ true → c ≡ true → IsEditOf kind e (edit_where kind e b c p q)
-  by_tests true true p q h i = record { edit = _; is = refl; edge = refl; kind_is = refl }
+  by_tests true true p q h i = record { edit = _; is = refl; edge = edge_made kind e p (edge_in_range e q); kind_is = refl }
   by_tests true false p q h i = absurd cc
   by_tests false c p q h i = absurd cc
 

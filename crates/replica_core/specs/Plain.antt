@@ -8,6 +8,7 @@ use Rattle.grove_edits.specs.declared.edit.Edit.{Edit}
 use Rattle.grove_edits.specs.declared.edit.EditKind.{EditKind}
 use Rattle.grove_edits.specs.Vertex.{literal, VertexInRange}
 use Rattle.grove_edits.specs.Edge.{edge_fault, EdgeInRange}
+use Rattle.grove_edits.proofs.WellFormed.{edit_made}
 use Rattle.user_actions.specs.PlainEdits.{PlainEdit}
 
 abbrev pub is_vertex_in_range : Vertex → Bool
@@ -34,7 +35,7 @@ edge_in_range e h =
     )
 
 abbrev pub edit_where : EditKind → (e : Edge) → (good within : Bool) → is_none (edge_fault e) ≡ good → is_edge_in_range e ≡ within → Option Edit
-edit_where kind e true true well_formed in_range = Some (record { edge = e; kind = kind; well_formed = well_formed; in_range = edge_in_range e in_range })
+edit_where kind e true true well_formed in_range = Some (edit_made kind e well_formed (edge_in_range e in_range))
 edit_where kind e true false well_formed in_range = None
 edit_where kind e false within well_formed in_range = None
 

@@ -16,6 +16,7 @@ use Rattle.grove_edits.specs.declared.edit.EditKind.TheVariants.{Insert, Delete}
 use Rattle.grove_edits.specs.Edge.{IsEdgeOf, EdgeInRange}
 use Rattle.grove_edits.specs.Edit.{edit_edge, edit_kind}
 use Rattle.grove_edits.specs.Vertex.{literal}
+use Rattle.grove_edits.proofs.WellFormed.{edit_made}
 use Rattle.edit_text.specs.Line.{form}
 use Rattle.session_script.specs.declared.item.Item.{Item}
 use Rattle.session_script.specs.declared.item.Item.TheVariants as item
@@ -52,12 +53,9 @@ edge_in_range group number source target k l p few of_number of_source of_target
 
 abbrev edit_in : EditKind → (group number source target : ℕ) (k : Ctor) (p : Position) (l : Ctor) → group ≤ 20000 → IsNumber number → IsNumber source → IsNumber target → IsTrue (fits k p l)
     → literal k < 2 ^ 64 → literal l < 2 ^ 64 → Edit
-edit_in kind group number source target k p l few of_number of_source of_target shape of_k of_l = record {
-  edge = edge_in group number source k p target l;
-  kind = kind;
-  well_formed = ap is_none (edge_good group number source target k l p of_source.0 of_target.0 shape);
-  in_range = edge_in_range group number source target k l p few of_number of_source of_target of_k of_l;
-}
+edit_in kind group number source target k p l few of_number of_source of_target shape of_k of_l =
+    edit_made kind (edge_in group number source k p target l) (ap is_none (edge_good group number source target k l p of_source.0 of_target.0 shape))
+    (edge_in_range group number source target k l p few of_number of_source of_target of_k of_l)
 
 module _ (g : ℕ) (few : g ≤ 20000) where
   shown_small : g < 2 ^ 64

@@ -20,6 +20,7 @@ use Rattle.walks.specs.Live.{holds_edge}
 use Rattle.grove_edits.specs.Vertex.{is_same_vertex, stands_in}
 use Rattle.grove_sorts.specs.Position.{is_same_position}
 use Rattle.grove_edits.proofs.Vertices.{same_vertex_exact}
+use Rattle.grove_edits.proofs.WellFormed.{edit_made, edge_made}
 use Rattle.edge_index.proofs.Ordered.{holds-filter}
 use Rattle.grove_edits.specs.declared.action.Place.{Place}
 use Rattle.grove_edits.specs.declared.action.Action.{Action}
@@ -254,5 +255,5 @@ pub edits_from : (ps : List PlainEdit) → AllEdits (λ kind e. IsGood e) ps →
 edits_from [] all = ([], refl)
 edits_from ((kind, e) ∷ ps) all =
     let rest = edits_from ps all.1 in
-    let first : Edit = record { edge = e; kind = kind; well_formed = all.0.0; in_range = all.0.1 } in
-    (first ∷ rest.0, ap (λ qs. plain first ∷ qs) rest.1)
+    let first : Edit = edit_made kind e all.0.0 all.0.1 in
+    (first ∷ rest.0, ap (λ x. (kind, x) ∷ map plain rest.0) (edge_made kind e all.0.0 all.0.1) ∙ ap (λ qs. (kind, e) ∷ qs) rest.1)

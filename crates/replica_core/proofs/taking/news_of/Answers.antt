@@ -22,7 +22,7 @@ loop-edit-preserved c =
     let before = c.loop-edit.news.items in
     let with_room = c.make_room.new.self in
     let numbered = numbered_still c.loop-edit.kept with_room before c.make_room.ensures.numbers_stay c.loop-edit.invariant.numbered in
-    let number = subst (λ (x : Edge). IsNumberOf with_room x c.in_ok-number.number) c.as_edge.ensures c.in_ok-number.ensures.number in
+    let number = subst (λ (x : Edge). IsNumberOf with_room x c.in_ok-number.number) c.edge.ensures c.in_ok-number.ensures.number in
     let state = c.state_at.ensures (edit_edge edit) number ∙ c.make_room.ensures.unchanged (edit_edge edit) ∙ c.loop-edit.invariant.unchanged (edit_edge edit) in
     let asked = c.asked_by.ensures ∙ ap state_of c.kind.ensures in
     record {
