@@ -16,6 +16,7 @@ use Rattle.live_graph.specs.Named.{is_present}
 use Rattle.live_graph.specs.NumberOf.{IsNumberOf, KeepsNumbersOf}
 use Rattle.grove_terms.proofs.InLive.{same_edge_itself}
 use Rattle.user_actions.specs.Flags.{flagged, opening_edges, present_flags}
+use Rattle.user_actions.specs.Good.{AreOpening}
 use Rattle.user_actions.specs.Lists.{ArePresent}
 use Rattle.user_actions.proofs.SomeLists.{entries_have}
 use Rattle.user_actions.proofs.Truths.{and_true, false_from, same_tests}
@@ -107,7 +108,16 @@ pub no_fewer : (before after : Entries) → KeepsNumbersOf before after → leng
 no_fewer [] after keeps = omega arith
 no_fewer (x ∷ xs) after keeps = let last = keeps (get_or (edges_of (x ∷ xs)) (length xs) no_edge) (length xs) (omega arith, refl) in omega (arith, last.0)
 
+-- edges that were open are still not Absent where no edge got Absent
+pub still_opening : (before after : Entries) (flags : List Bool) → KeepsNumbersOf before after → length flags ≤ length before → ((e : Edge) → state_in before e ≢ Absent → state_in after e ≢ Absent)
+    → AreOpening (state_in before) (opening_edges before flags) → AreOpening (state_in after) (opening_edges after flags)
+still_opening before after flags keeps within known opened e held = known e (opened e (ap (holds_edge e) (sym (opening_stays before after flags keeps within)) ∙ held))
+
 -- ---- flags of the present states
+
+-- there is one for each number
+pub length-present_flags : (entries : Entries) → length (present_flags entries) ≡ length entries
+length-present_flags entries = length-map (edges_of entries) (λ e. is_present (state_in entries e)) ∙ length-map entries (λ entry. entry.0)
 
 holds-flagged_by : (p : Edge → Bool) (es : List Edge) (e : Edge) → holds_edge e (flagged es (map p es)) ≡ (p e && holds_edge e es)
 holds-flagged_by p [] e = never (p e) where

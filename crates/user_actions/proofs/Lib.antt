@@ -30,3 +30,4 @@ pub mod MadeEdges
 pub mod LiveEdges
 pub mod CarriedLists
 pub mod FlaggedEdges
+pub mod Raised

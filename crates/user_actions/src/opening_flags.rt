@@ -1,5 +1,6 @@
 ghost use Rattle.std.specs.Prelude.{◌≡◌, IfOk};
 ghost use Rattle.edge_numbers.specs.Numbered.{state_in};
+ghost use Rattle.live_graph.specs.Named.{is_present as is_present_state};
 ghost use Rattle.walks.specs.Live.{holds_edge};
 ghost use Rattle.user_actions.specs.Flags.{opening_edges, present_flags};
 ghost use Rattle.user_actions.specs.Lists.{ArePresent};
@@ -35,7 +36,7 @@ impl OpeningFlags {
         let count = graph.edge_count();
         let mut flags = Vec::with_capacity(alloc, count)?;
         for number in 0..count {
-            flags.push(graph.state_at(number) != State::Absent)?;
+            flags.push(is_present(graph.state_at(number)))?;
         }
         Ok(OpeningFlags { flags })
     }
@@ -50,4 +51,11 @@ impl OpeningFlags {
         // An edge that got its number later has no flag.
         number < self.flags.len() && self.flags[number]
     }
+}
+
+// Whether an edit has named an edge with this state.
+fn is_present(state: State) -> bool
+    ensures { result ≡ is_present_state state }
+{
+    state != State::Absent
 }

@@ -1,27 +1,17 @@
-use Rattle.std.proofs.Common.{◌≡◌, ◌<◌, Bool, List, length, get_or, sym, subst, refl, ◌∙◌, arith}
-use Rattle.std.specs.Prelude.{not}
-use Rattle.edge_lattice.specs.declared.state.State.{State}
-use Rattle.edge_lattice.specs.declared.state.State.TheVariants.{Absent, Live, Deleted}
-use Rattle.edge_lattice.specs.contracts.state.StatePartialEq.TheImpl as state_eq
+use Rattle.std.proofs.Common.{◌<◌, Bool, List, length, get_or, sym, subst, refl, arith}
 use Rattle.edge_numbers.specs.Numbered.{edges_of, state_in, no_edge}
-use Rattle.live_graph.specs.Named.{is_present}
 use Rattle.user_actions.specs.Flags.{opening_edges}
 use Rattle.user_actions.specs.Lists.{ArePresent}
 use Rattle.user_actions.proofs.FlaggedEdges.{flags_next, flags_all, opening_present}
 use Rattle.user_actions.proofs.opening_flags.OpeningFlags.of.Goals as goal
-
-not_absent : (s : State) → not (state_eq.eq-value.it s Absent) ≡ is_present s
-not_absent Absent = refl
-not_absent Live = refl
-not_absent Deleted = refl
 
 pub loop-number-preserved : goal.loop-number-preserved
 loop-number-preserved c =
     let graph = c.args.graph.now in
     let i = c.loop-number.number in
     let number : i < length graph = omega (arith, c.loop-number-test.true, c.edge_count-count.ensures.count) in
-    flags_next graph i c.state_at.result c.ne.result c.loop-number.flags.items c.push.new.self.items number (c.state_at.ensures (get_or (edges_of graph) i no_edge) (number, refl)) (c.ne.ensures ∙ not_absent c.state_at.result) c.loop-number.invariant
-    c.in_ok-push.ensures.items
+    flags_next graph i c.state_at.result c.is_present.result c.loop-number.flags.items c.push.new.self.items number (c.state_at.ensures (get_or (edges_of graph) i no_edge) (number, refl)) c.is_present.ensures
+    c.loop-number.invariant c.in_ok-push.ensures.items
 
 pub returns : goal.returns
 returns c =
