@@ -1,5 +1,5 @@
 -- The numbers of edges where edges are entered and states are set.
-use Rattle.std.proofs.Common.{◌≡◌, ℕ, Option, None, Some, sym, subst, ◌∙◌}
+use Rattle.std.proofs.Common.{◌≡◌, ℕ, None, Some, sym, subst, ◌∙◌}
 use Rattle.grove_edits.specs.declared.edge.Edge.{Edge}
 use Rattle.edge_numbers.specs.Numbered.{Numbered, Entries, HasRoom, KeepsNumbers}
 use Rattle.live_graph.specs.NumberOf.{IsNumberOf, KeepsNumbersOf}

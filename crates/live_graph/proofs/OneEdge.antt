@@ -1,7 +1,6 @@
 -- An edge is another one where all its parts are.
 use Rattle.std.proofs.Common.{◌≡◌, true, is_eq, sym, ap, ◌∙◌}
 use Rattle.std.specs.Prelude.{◌&&◌}
-use Rattle.grove_sorts.specs.declared.position.Position.{Position}
 use Rattle.grove_sorts.specs.contracts.position.PositionPartialEq.TheImpl as position_eq
 use Rattle.grove_sorts.specs.contracts.position.PositionOrd.TheImpl.Laws.{matches_eq-law}
 use Rattle.grove_sorts.proofs.Orders.{cmp_is_position_cmp, one_position}

@@ -29,3 +29,5 @@ pub mod PlaceRows
 pub mod MadeEdges
 pub mod LiveEdges
 pub mod CarriedLists
+pub mod FlaggedEdges
+pub mod Raised

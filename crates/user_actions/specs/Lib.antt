@@ -13,3 +13,4 @@ pub mod Standing
 pub mod Carried
 pub mod After
 pub mod Planned
+pub mod Flags

@@ -9,6 +9,7 @@ mod laws;
 mod live_view;
 mod new_names;
 mod no_memory;
+mod opening_flags;
 mod opening_set;
 mod place;
 mod plan_view;
@@ -28,6 +29,7 @@ pub use laws::{
 };
 pub use live_view::LiveView;
 pub use no_memory::NoMemory;
+pub use opening_flags::OpeningFlags;
 pub use opening_set::OpeningSet;
 pub use plan_view::PlanView;
 pub use planned::{Plan, PlanFault};

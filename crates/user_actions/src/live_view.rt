@@ -3,7 +3,7 @@ ghost use Rattle.walks.specs.Live.{children_of};
 ghost use Rattle.live_graph.specs.Live.{live};
 
 use crate::no_memory::NoMemory;
-use crate::opening_set::OpeningSet;
+use crate::opening_flags::OpeningFlags;
 use crate::plan_view::PlanView;
 use edge_lattice::State;
 use graph_store::Named;
@@ -16,11 +16,11 @@ use std::marker::Brand;
 use std::sync::ledger::{Blank, Ledger};
 use walks::{Few, ParentOf, Steps};
 
-/// What a plan reads of a live graph: the graph, and the edges that were not Absent as the block opened.
+/// What a plan reads of a live graph: the graph, and which of its edges were not Absent as the block opened.
 #[derive(Clone, Copy)]
 pub struct LiveView<'a> {
     pub graph: &'a LiveGraph,
-    pub opening: &'a OpeningSet,
+    pub opening: &'a OpeningFlags,
 }
 
 // The live edges from a position of a vertex, in edge order.
@@ -76,12 +76,13 @@ impl<'a> ParentOf for LiveView<'a> {
 impl<'a> PlanView for LiveView<'a> {
     ghost use Rattle.edge_numbers.specs.Numbered.{state_in};
     ghost use Rattle.live_graph.specs.Live.{live as live_edges};
+    ghost use Rattle.user_actions.specs.Flags.{opening_edges};
 
     ghost states = { λ view. state_in view.graph.now };
 
     ghost children = { λ view. live_edges view.graph.now };
 
-    ghost opening = { λ view. view.opening.now };
+    ghost opening = { λ view. opening_edges view.graph.now view.opening.now };
 
     fn state(&self, edge: &Edge) -> State {
         self.graph.state(edge)
@@ -120,9 +121,9 @@ impl<'a> PlanView for LiveView<'a> {
         all_edges(alloc, &edges_at(self.graph, vertex, position))
     }
 
-    fn opening_set(&self) -> &OpeningSet {
-        // The edges of the set are in order.
-        let _edges = self.opening.len();
-        self.opening
+    fn was_open(&self, edge: &Edge) -> bool {
+        self.opening.was_open(self.graph, edge)
     }
+
+    fn known(&self) {}
 }

@@ -1,5 +1,5 @@
 ghost use Rattle.std.specs.Prelude.{◌≡◌, length, slice_get, IfOk};
-ghost use Rattle.walks.specs.Live.{IsInEdgeOrder, children_of};
+ghost use Rattle.walks.specs.Live.{IsInEdgeOrder, children_of, holds_edge};
 ghost use Rattle.graph_store.specs.Greatest.{IsGreatest, IsNameOf};
 ghost use Rattle.graph_store.specs.Vertices.{AreLeastTwo};
 ghost use Rattle.user_actions.specs.Lists.{IsFinite};
@@ -7,7 +7,6 @@ ghost use Rattle.user_actions.specs.NamedEdges.{AreNamed};
 ghost use Rattle.user_actions.specs.NamedVertices.{IsVertexNamed};
 
 use crate::no_memory::NoMemory;
-use crate::opening_set::OpeningSet;
 use edge_lattice::State;
 use graph_store::Named;
 use grove_edits::{Edge, Vertex};
@@ -65,9 +64,12 @@ pub trait PlanView: ParentOf {
     ) -> Result<Vec<Edge>, NoMemory>
         ensures { IfOk result (λ edges. edges.items ≡ children_of vertex.now position (children self.now)) };
 
-    /// The set of the edges that were not Absent as the block opened.
-    fn opening_set(&self) -> &OpeningSet
-        ensures set { result.now ≡ opening self.now }
+    /// Whether an edge was not Absent as the block opened.
+    fn was_open(&self, edge: &Edge) -> bool
+        ensures { result ≡ holds_edge edge.now (opening self.now) };
+
+    /// What is known of every view. It does nothing, and costs nothing.
+    fn known(&self)
         ensures in_order { IsInEdgeOrder (opening self.now) }
         ensures finite { IsFinite (states self.now) };
 }

@@ -7,7 +7,7 @@ ghost use Rattle.user_actions.specs.Plan.{IsPlan};
 ghost use Rattle.user_actions.specs.Planned.{CanPlan, IsRefusal, TellsPlan};
 
 use crate::carried::carried;
-use crate::edges::{held_of, live_of, opened_or_named};
+use crate::edges::{live_of, opened_of, opened_or_named};
 use crate::edits::{carry_over, delete, delete_each, insert, put_below};
 use crate::new_names::new_names;
 use crate::place::{
@@ -38,8 +38,7 @@ pub fn plan<V: PlanView>(
     ensures accepted { IfOk result (λ plan. IsAccepted plan.answer) }
     ensures refused { IfErr result (λ fault. IsRefusal (V.states view.now) (V.opening view.now) author action.now fault) }
 {
-    // The opening edges are in order, and the graph has finitely many.
-    let _edges = view.opening_set();
+    view.known();
     plan_action(alloc, view, author, action)
 }
 
@@ -197,7 +196,7 @@ fn plan_cut<V: PlanView>(
         → TellsPlan lists (V.opening view.now) author (Action.Cut edge) result }
 {
     let named = view.edges_named(alloc, edge)?;
-    let opened = held_of(alloc, view.opening_set(), &named)?;
+    let opened = opened_of(alloc, view, &named)?;
     let cut = opened_or_named(&opened, &named);
     check_named(cut, edge)?;
     let mut edits = EditList::new(alloc);

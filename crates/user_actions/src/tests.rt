@@ -298,7 +298,7 @@ fn a_live_graph_is_planned_on(rt: HostRuntime) -> Result<(), Fail> {
         place: place(0, 0, Position::Main),
         ctor: Ctor::Num(7),
     };
-    let Ok(made) = planned_on_live(rt.alloc(), 1, &construct)? else {
+    let Ok(made) = planned_on_live(rt.alloc(), &[], &[], 1, &construct)? else {
         return Err("the number is refused".into());
     };
     let new = edge(
@@ -311,8 +311,49 @@ fn a_live_graph_is_planned_on(rt: HostRuntime) -> Result<(), Fail> {
     assert_eq!(rt; made.answer, Answer::Made { vertex: name(1, 1) });
     assert_eq!(rt; made.edits.as_slice(), [Edit::insert(new)?].as_slice());
     let cut = Action::Cut { edge: name(1, 2) };
-    let refused = planned_on_live(rt.alloc(), 1, &cut)?;
+    let refused = planned_on_live(rt.alloc(), &[], &[], 1, &cut)?;
     assert_eq!(rt; refused.err(), Some(ActFault::NoEdge { name: name(1, 2) }));
+    Ok(())
+}
+
+#[test]
+fn a_cut_on_a_live_graph_takes_the_edges_that_the_block_opened_with(
+    rt: HostRuntime,
+) -> Result<(), Fail> {
+    let first = edge(
+        3,
+        2,
+        Vertex::ROOT,
+        Position::Main,
+        vertex(3, 1, Ctor::Num(7)),
+    );
+    let second = edge(
+        3,
+        2,
+        Vertex::ROOT,
+        Position::Main,
+        vertex(4, 1, Ctor::Num(8)),
+    );
+    let no_first = Edit::delete(first)?;
+    let edits = [Edit::insert(first)?, no_first, Edit::insert(second)?];
+    let action = Action::Cut { edge: name(3, 2) };
+    // The first edge is open where it was inserted before, also if it is deleted in the block, or was before.
+    for (opened, later, cut) in [
+        (&edits[..1], &edits[1..], &[first][..]),
+        (&edits[1..2], &edits[2..], &[first][..]),
+        (&edits[2..], &edits[..2], &[second][..]),
+        (&edits[..], &[no_first][..], &[first, second][..]),
+        (&[][..], &edits[..], &[first, second][..]),
+    ] {
+        let Ok(plan) = planned_on_live(rt.alloc(), opened, later, 1, &action)? else {
+            return Err("the cut is refused".into());
+        };
+        assert_eq!(rt; plan.answer, Answer::Done);
+        assert_eq!(rt; plan.edits.len(), cut.len());
+        for (edit, edge) in plan.edits.as_slice().iter().zip(cut) {
+            assert_eq!(rt; *edit, Edit::delete(*edge)?);
+        }
+    }
     Ok(())
 }
 

@@ -1,10 +1,13 @@
 // Graphs that the tests plan on, and what is planned on them.
-ghost use Rattle.std.specs.Prelude.{◌≡◌, ◌≢◌, ◌<◌, [], IfOk, OnOk};
+ghost use Rattle.std.specs.Prelude.{◌≡◌, ◌≢◌, ◌<◌, IfOk, OnOk};
 ghost use Rattle.edge_lattice.specs.declared.state.State.TheVariants.{Absent};
 ghost use Rattle.grove_edits.specs.declared.edge.Edge.{Edge};
 ghost use Rattle.walks.specs.Whole.{AreLive};
 ghost use Rattle.edge_index.specs.Lists.{live};
+ghost use Rattle.edge_numbers.specs.Numbered.{state_in as live_state_in};
+ghost use Rattle.live_graph.specs.NumberOf.{KeepsNumbersOf};
 ghost use Rattle.graph_store.specs.Store.{state_in, well_formed};
+ghost use Rattle.user_actions.specs.Flags.{opening_edges, present_flags};
 ghost use Rattle.user_actions.specs.Good.{AreWellFormed, AreOpening};
 ghost use Rattle.user_actions.specs.Lists.{ArePresent};
 
@@ -12,7 +15,7 @@ use crate::*;
 use child_index::ChildIndex;
 use edge_lattice::State;
 use graph_store::GraphStore;
-use grove_edits::{ActFault, Action, Edge, Edit, EditList, Place, Vertex};
+use grove_edits::{ActFault, Action, Edge, Edit, Place, Vertex};
 use grove_names::Name;
 use grove_sorts::{Ctor, Position};
 use live_graph::LiveGraph;
@@ -212,27 +215,47 @@ pub(super) fn sum() -> [Edge; 2] {
     ]
 }
 
-// The set of no edges. Where there was no memory it is made again.
-pub(super) fn empty_set(alloc: Global) -> Result<OpeningSet, NoMemory>
-    ensures empty { IfOk result (λ set. set ≡ []) }
+// Takes edits one after the other.
+pub(super) fn raise_each(graph: &mut LiveGraph, edits: &[Edit]) -> Result<(), Fail>
+    requires well_formed { AreWellFormed (live_state_in graph.old) }
+    ensures well_formed { OnOk result (AreWellFormed (live_state_in graph.new)) }
+    ensures known { OnOk result ((e : Edge) → live_state_in graph.old e ≢ Absent → live_state_in graph.new e ≢ Absent) }
+    ensures numbers_stay { OnOk result (KeepsNumbersOf graph.old graph.new) }
 {
-    let edits = EditList::new(alloc);
-    match OpeningSet::of_list(alloc, &edits) {
-        Ok(set) => Ok(set),
-        Err(NoMemory) => OpeningSet::of_list(alloc, &edits),
+    for edit in edits {
+        graph.make_room(edit.as_edge())?;
+        graph.raise(edit);
+    }
+    Ok(())
+}
+
+// Which edges of a graph are open. Where there was no memory it is told again.
+pub(super) fn opening_flags(alloc: Global, graph: &LiveGraph) -> Result<OpeningFlags, NoMemory>
+    ensures flags { IfOk result (λ flags. flags ≡ present_flags graph.now) }
+    ensures opening { IfOk result (λ flags. ArePresent (live_state_in graph.now) (opening_edges graph.now flags)) }
+{
+    match OpeningFlags::of(alloc, graph) {
+        Ok(flags) => Ok(flags),
+        Err(NoMemory) => OpeningFlags::of(alloc, graph),
     }
 }
 
-// What is planned on a live graph of no edges.
+// What is planned on a live graph of some edits, in a block that opened before the later ones came.
 pub(super) fn planned_on_live(
     alloc: Global,
+    opened: &[Edit],
+    later: &[Edit],
     author: u32,
     action: &Action,
 ) -> Result<Result<Plan, ActFault>, Fail>
     requires { 0 < author }
 {
-    let graph = LiveGraph::new(alloc);
-    let opening = empty_set(alloc)?;
+    let mut graph = LiveGraph::new(alloc);
+    raise_each(&mut graph, opened)?;
+    let opening = opening_flags(alloc, &graph)?;
+    raise_each(&mut graph, later)?;
+    // The live edges are those whose state is Live.
+    let _edges = graph.edge_count();
     let view = LiveView {
         graph: &graph,
         opening: &opening,

@@ -1,4 +1,4 @@
-use Rattle.std.proofs.Common.{sym, ap, ◌∙◌, arith}
+use Rattle.std.proofs.Common.{ap, ◌∙◌, arith}
 use Rattle.grove_edits.specs.Graph.{graph}
 use Rattle.live_graph.proofs.Listing.{made_more, all_made}
 use Rattle.live_graph.proofs.whole.edits_of.Goals as goal

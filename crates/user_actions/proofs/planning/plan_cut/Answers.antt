@@ -12,7 +12,7 @@ pub returns-in_err-check_named : goal.returns-in_err-check_named
 returns-in_err-check_named g c lists of =
     let ns = c.in_ok-named.named.items in
     let named = c.in_ok-named.ensures.named in
-    let os : c.in_ok-opened.opened.items ≡ filter (λ e. holds_edge e (g.V.PlanView.opening c.args.view.now)) ns = c.in_ok-opened.ensures.held ∙ ap (λ set. filter (λ e. holds_edge e set) c.deref.result.now) c.opening_set.ensures.set ∙ ap (filter (λ e. holds_edge e (g.V.PlanView.opening c.args.view.now))) c.deref.ensures.value in
+    let os : c.in_ok-opened.opened.items ≡ filter (λ e. holds_edge e (g.V.PlanView.opening c.args.view.now)) ns = c.in_ok-opened.ensures.opened ∙ ap (filter (λ e. holds_edge e (g.V.PlanView.opening c.args.view.now))) c.deref.ensures.value in
     let cut : c.opened_or_named-cut.result.now ≡ edges_cut lists (g.V.PlanView.opening c.args.view.now) c.args.edge =
     c.opened_or_named-cut.ensures ∙ ap (λ xs. else_edges xs c.deref-3.result.now) (c.deref-2.ensures.value ∙ os ∙ opened_is (g.V.PlanView.states c.args.view.now) (g.V.PlanView.opening c.args.view.now) c.requires.opening_edges c.requires.opening_in_order c.args.edge ns named)
     ∙ ap (else_edges (edges_named c.args.edge (g.V.PlanView.opening c.args.view.now))) (c.deref-3.ensures.value ∙ named_present_is (g.V.PlanView.states c.args.view.now) lists of c.args.edge ns named) in
@@ -22,7 +22,7 @@ returns-in_err-check_named g c lists of =
 pub delete_each-requires : goal.delete_each-requires
 delete_each-requires g c =
     let ns = c.in_ok-named.named.items in
-    let os : c.in_ok-opened.opened.items ≡ filter (λ e. holds_edge e (g.V.PlanView.opening c.args.view.now)) ns = c.in_ok-opened.ensures.held ∙ ap (λ set. filter (λ e. holds_edge e set) c.deref.result.now) c.opening_set.ensures.set ∙ ap (filter (λ e. holds_edge e (g.V.PlanView.opening c.args.view.now))) c.deref.ensures.value in
+    let os : c.in_ok-opened.opened.items ≡ filter (λ e. holds_edge e (g.V.PlanView.opening c.args.view.now)) ns = c.in_ok-opened.ensures.opened ∙ ap (filter (λ e. holds_edge e (g.V.PlanView.opening c.args.view.now))) c.deref.ensures.value in
     let cut = c.opened_or_named-cut.ensures ∙ ap (λ xs. else_edges xs c.deref-3.result.now) c.deref-2.ensures.value ∙ ap (else_edges c.in_ok-opened.opened.items) c.deref-3.ensures.value in
     all_well c.opened_or_named-cut.result.now
     (λ e held. c.requires.well_formed e (cut_known (g.V.PlanView.states c.args.view.now) (g.V.PlanView.opening c.args.view.now) c.args.edge ns c.in_ok-opened.opened.items c.in_ok-named.ensures.named os e (ap (holds_edge e) (sym cut) ∙ held)))
@@ -31,7 +31,7 @@ pub returns : goal.returns
 returns g c lists of =
     let ns = c.in_ok-named.named.items in
     let named = c.in_ok-named.ensures.named in
-    let os : c.in_ok-opened.opened.items ≡ filter (λ e. holds_edge e (g.V.PlanView.opening c.args.view.now)) ns = c.in_ok-opened.ensures.held ∙ ap (λ set. filter (λ e. holds_edge e set) c.deref.result.now) c.opening_set.ensures.set ∙ ap (filter (λ e. holds_edge e (g.V.PlanView.opening c.args.view.now))) c.deref.ensures.value in
+    let os : c.in_ok-opened.opened.items ≡ filter (λ e. holds_edge e (g.V.PlanView.opening c.args.view.now)) ns = c.in_ok-opened.ensures.opened ∙ ap (filter (λ e. holds_edge e (g.V.PlanView.opening c.args.view.now))) c.deref.ensures.value in
     let cut : c.opened_or_named-cut.result.now ≡ edges_cut lists (g.V.PlanView.opening c.args.view.now) c.args.edge =
     c.opened_or_named-cut.ensures ∙ ap (λ xs. else_edges xs c.deref-3.result.now) (c.deref-2.ensures.value ∙ os ∙ opened_is (g.V.PlanView.states c.args.view.now) (g.V.PlanView.opening c.args.view.now) c.requires.opening_edges c.requires.opening_in_order c.args.edge ns named)
     ∙ ap (else_edges (edges_named c.args.edge (g.V.PlanView.opening c.args.view.now))) (c.deref-3.ensures.value ∙ named_present_is (g.V.PlanView.states c.args.view.now) lists of c.args.edge ns named) in

@@ -1,0 +1,20 @@
+-- The edges that a block opened with, told by a flag for each number of an edge.
+use Rattle.std.specs.Prelude.{Bool, List, [], ◌∷◌, map, if◌then◌else◌}
+use Rattle.grove_edits.specs.declared.edge.Edge.{Edge}
+use Rattle.edge_lists.specs.Ordered.{with_edge}
+use Rattle.edge_numbers.specs.Numbered.{Entries, edges_of, state_in}
+use Rattle.live_graph.specs.Named.{is_present}
+
+-- those of these edges whose flag is true, in edge order; an edge behind the last flag has none
+abbrev pub flagged : List Edge → List Bool → List Edge
+flagged [] flags = []
+flagged (e ∷ es) [] = []
+flagged (e ∷ es) (flag ∷ flags) = if flag then with_edge e (flagged es flags) else flagged es flags
+
+-- the edges of the entries whose numbers have a flag that is true, whatever their states are by now
+abbrev pub opening_edges : Entries → List Bool → List Edge
+opening_edges entries flags = flagged (edges_of entries) flags
+
+-- for each number, whether its edge is not Absent
+abbrev pub present_flags : Entries → List Bool
+present_flags entries = map (λ e. is_present (state_in entries e)) (edges_of entries)
