@@ -223,7 +223,7 @@ pub(super) fn raise_each(graph: &mut LiveGraph, edits: &[Edit]) -> Result<(), Fa
     ensures numbers_stay { OnOk result (KeepsNumbersOf graph.old graph.new) }
 {
     for edit in edits {
-        graph.make_room(edit.as_edge())?;
+        graph.make_room(&edit.edge())?;
         graph.raise(edit);
     }
     Ok(())
