@@ -9,7 +9,6 @@ use Rattle.std.proofs.lemmas.List.Elements.{Contains-append_left, Contains-push,
 use Rattle.std.proofs.lemmas.Map.Keys.{apart_from_distinct, IsDistinct-from_apart}
 use Rattle.indexmap.specs.IndexSet.{insert_key}
 use Rattle.grove_edits.specs.declared.vertex.Vertex.{Vertex}
-use Rattle.grove_edits.specs.declared.edge.Edge.{Edge}
 use Rattle.grove_edits.specs.declared.edit.Edit.{Edit}
 use Rattle.grove_edits.specs.Edit.{edit_edge}
 use Rattle.grove_edits.specs.contracts.vertex.VertexPartialEq.TheImpl as vertex_eq
@@ -49,7 +48,7 @@ number_from_set keys n v k is same = is ∙ ap Some (sym (same_vertex_exact v k 
 abbrev Stays : List Vertex → List Vertex → Type 0
 Stays vs ws = (i : ℕ) (x : Vertex) → slice_get vs i ≡ Some x → slice_get ws i ≡ Some x
 
-stays_before : (xs ys : List Vertex) → Stays xs (xs ++ ys)
+pub stays_before : (xs ys : List Vertex) → Stays xs (xs ++ ys)
 stays_before [] ys i x is = absurd cc
 stays_before (y ∷ xs) ys zero x is = is
 stays_before (y ∷ xs) ys (suc i) x is = stays_before xs ys i x is
@@ -59,6 +58,13 @@ stays v vs = by_test (stands_in v vs) where
   by_test : (b : Bool) → Stays vs (cond b vs (vs ++ v ∷ []))
   by_test true = λ i x is. is
   by_test false = stays_before vs (v ∷ [])
+
+-- a list with a vertex that is new
+pub with_new : (v : Vertex) (vs : List Vertex) (new : Bool) → new ≡ not (stands_in v vs) → new ≡ true → with_vertex v vs ≡ vs ++ v ∷ []
+with_new v vs new is new_is = by_test (stands_in v vs) (sym is ∙ new_is) where
+  by_test : (b : Bool) → not b ≡ true → cond b vs (vs ++ v ∷ []) ≡ vs ++ v ∷ []
+  by_test true test = absurd cc
+  by_test false test = refl
 
 stands_before : (v : Vertex) (xs ys : List Vertex) → stands_in v xs ≡ true → stands_in v (xs ++ ys) ≡ true
 stands_before v [] ys stands = absurd cc
@@ -204,17 +210,17 @@ module _ (edits : List Edit) (edit : Edit) (vs : List Vertex) where
       all_stay i x is = stays target (with_vertex source vs) i x (stays source vs i x is)
 
 -- the same of what the code's calls gave
-module _ (edits : List Edit) (edit : Edit) (edge : Edge) (vs ws us : List Vertex) (ss ts new_ss new_ts : List ℕ) (s t : ℕ) where
-  pub numbered_next : edge ≡ edit_edge edit → ws ≡ with_vertex edge.source vs → slice_get ws s ≡ Some edge.source
-      → us ≡ with_vertex edge.target ws → slice_get us t ≡ Some edge.target → IsDistinct is_same_vertex us → new_ss ≡ ss ++ s ∷ [] → new_ts ≡ ts ++ t ∷ []
+module _ (edits : List Edit) (edit : Edit) (from to : Vertex) (vs ws us : List Vertex) (ss ts new_ss new_ts : List ℕ) (s t : ℕ) where
+  pub numbered_next : from ≡ (edit_edge edit).source → to ≡ (edit_edge edit).target → ws ≡ with_vertex from vs → slice_get ws s ≡ Some from
+      → us ≡ with_vertex to ws → slice_get us t ≡ Some to → IsDistinct is_same_vertex us → new_ss ≡ ss ++ s ∷ [] → new_ts ≡ ts ++ t ∷ []
       → AreNumbered edits vs ss ts → AreNumbered (edits ++ edit ∷ []) us new_ss new_ts
-  numbered_next is first at_source second at_target once sources_are targets_are are =
-      let one : ws ≡ with_vertex (edit_edge edit).source vs = first ∙ ap (λ (e : Edge). with_vertex e.source vs) is in
-      let two : us ≡ after edits edit vs = second ∙ ap (λ (e : Edge). with_vertex e.target ws) is ∙ ap (with_vertex (edit_edge edit).target) one in
-      let from : slice_get (with_vertex (edit_edge edit).source vs) s ≡ Some (edit_edge edit).source =
-      ap (λ xs. slice_get xs s) (sym one) ∙ at_source ∙ ap (λ (e : Edge). Some e.source) is in
-      let to : slice_get (after edits edit vs) t ≡ Some (edit_edge edit).target = ap (λ xs. slice_get xs t) (sym two) ∙ at_target ∙ ap (λ (e : Edge). Some e.target) is in
+  numbered_next source_is target_is first at_source second at_target once sources_are targets_are are =
+      let one : ws ≡ with_vertex (edit_edge edit).source vs = first ∙ ap (λ v. with_vertex v vs) source_is in
+      let two : us ≡ after edits edit vs = second ∙ ap (λ v. with_vertex v ws) target_is ∙ ap (with_vertex (edit_edge edit).target) one in
+      let source_at : slice_get (with_vertex (edit_edge edit).source vs) s ≡ Some (edit_edge edit).source =
+      ap (λ xs. slice_get xs s) (sym one) ∙ at_source ∙ ap (λ (v : Vertex). Some v) source_is in
+      let target_at : slice_get (after edits edit vs) t ≡ Some (edit_edge edit).target = ap (λ xs. slice_get xs t) (sym two) ∙ at_target ∙ ap (λ (v : Vertex). Some v) target_is in
       subst (λ xs. AreNumbered (edits ++ edit ∷ []) xs new_ss new_ts) (sym two)
       (subst (λ ns. AreNumbered (edits ++ edit ∷ []) (after edits edit vs) ns new_ts) (sym sources_are)
       (subst (AreNumbered (edits ++ edit ∷ []) (after edits edit vs) (ss ++ s ∷ [])) (sym targets_are)
-      (numbered_after edits edit vs ss ts s t (subst (IsDistinct is_same_vertex) two once) from to are)))
+      (numbered_after edits edit vs ss ts s t (subst (IsDistinct is_same_vertex) two once) source_at target_at are)))

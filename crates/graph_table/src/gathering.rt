@@ -61,7 +61,7 @@ fn link(around: &[Around], edit: &Edit, source: usize) -> Link
     ensures { result ≡ link_of edit.now source around.now }
 {
     Link {
-        position: edit.as_edge().position,
+        position: edit.position(),
         before: around[source].last(),
     }
 }

@@ -1,6 +1,7 @@
 ghost use Rattle.std.specs.Prelude.{◌≡◌, ◌<◌, true, [], length, map, IfOk, OnOk, OnErr};
 ghost use Rattle.std.specs.List.{AllByRecursion, IsDistinct};
 ghost use Rattle.grove_edits.specs.declared.vertex.Vertex.{Vertex};
+ghost use Rattle.grove_edits.specs.Edit.{edit_edge};
 ghost use Rattle.grove_edits.specs.Graph.{graph, Ascends};
 ghost use Rattle.walks.specs.Few.{first_two};
 ghost use Rattle.walks.specs.Live.{parents_of, children_of};
@@ -18,7 +19,7 @@ use crate::no_memory::NoMemory;
 use crate::numbering::Numbering;
 use crate::ordering::in_vertex_order;
 use crate::parents::Parents;
-use grove_edits::{Edge, EditList, Vertex};
+use grove_edits::{Edit, EditList, Vertex};
 use grove_sorts::Position;
 use seeded_hash::HashSeed;
 use std::alloc::Global;
@@ -28,7 +29,7 @@ use std::marker::Model;
 #[derive(Drop)]
 pub struct GraphTable {
     edits: EditList,
-    root: Vertex,
+    own: Vec<Vertex>,
     homes: Vec<Home>,
     sources: Vec<u32>,
     targets: Vec<u32>,
@@ -44,9 +45,9 @@ impl Model for GraphTable {
     ghost use Rattle.graph_table.specs.Parts.{IsTable};
     ghost use Rattle.graph_table.specs.Homes.{vertices_in};
 
-    ghost view = { λ table. record { edits = table.edits; vertices = vertices_in table.edits table.homes.items } };
+    ghost view = { λ table. record { edits = table.edits; vertices = vertices_in table.edits table.own.items table.homes.items } };
 
-    ghost invariant = { λ table. IsTable table.edits table.root table.homes.items table.sources.items table.targets.items table.links.items table.around.items };
+    ghost invariant = { λ table. IsTable table.edits table.own.items table.homes.items table.sources.items table.targets.items table.links.items table.around.items };
 }
 
 impl GraphTable {
@@ -69,13 +70,14 @@ impl GraphTable {
         let Gathered { around, links } = gather(alloc, edits.as_slice(), &numbering)?;
         let Numbering {
             numbers: _,
+            own,
             homes,
             sources,
             targets,
         } = numbering;
         Ok(GraphTable {
             edits,
-            root: Vertex::ROOT,
+            own,
             homes,
             sources,
             targets,
@@ -102,12 +104,12 @@ impl GraphTable {
         in_vertex_order(alloc, self)
     }
 
-    /// The edge of the edit at an index, where it stands.
-    pub fn edge_ref(&self, index: usize) -> &Edge
+    /// The edit at an index, where it stands.
+    pub fn edit_ref(&self, index: usize) -> &Edit
         requires { IsIndex self.now index }
-        ensures { result.now ≡ edge_at self.now index }
+        ensures { edit_edge result.now ≡ edge_at self.now index }
     {
-        self.edits.as_slice()[index].as_edge()
+        &self.edits.as_slice()[index]
     }
 
     /// The vertex with a number, where it stands.
@@ -116,9 +118,8 @@ impl GraphTable {
         ensures { result.now ≡ vertex_at self.now number }
     {
         match self.homes[number] {
-            Home::Root => &self.root,
-            Home::Source(index) => &self.edge_ref(index as usize).source,
-            Home::Target(index) => &self.edge_ref(index as usize).target,
+            Home::Own(index) => &self.own[index as usize],
+            Home::Target(index) => self.edit_ref(index as usize).target(),
         }
     }
 

@@ -1,7 +1,7 @@
-/// Where a vertex stands first in a list of edits: it is the root, or an end of the edit with an index.
+/// Where a vertex stands that a table lends: among the table's own vertices, by its index there, or as the target of the edit with an
+/// index. A source does not stand whole in its edit, so it is kept as an own one where it is numbered first.
 #[derive(Clone, Copy)]
 pub(crate) enum Home {
-    Root,
-    Source(u32),
+    Own(u32),
     Target(u32),
 }

@@ -1,7 +1,7 @@
-ghost use Rattle.std.specs.Prelude.{◌≡◌, ◌++◌, ◌∷◌, [], List, Some, slice_get, IfOk, OnOk};
+ghost use Rattle.std.specs.Prelude.{◌≡◌, ◌++◌, ◌∷◌, [], List, Some, slice_get, not, IfOk, OnOk};
 ghost use Rattle.std.specs.List.{IsDistinct};
 ghost use Rattle.grove_edits.specs.declared.edit.Edit.{Edit};
-ghost use Rattle.grove_edits.specs.Vertex.{is_same_vertex};
+ghost use Rattle.grove_edits.specs.Vertex.{is_same_vertex, stands_in};
 ghost use Rattle.graph_table.specs.Numbering.{with_vertex, AreNumbered};
 ghost use Rattle.graph_table.specs.Homes.{vertex_in, AreHomes};
 
@@ -12,53 +12,89 @@ use indexmap::IndexSet;
 use seeded_hash::HashSeed;
 use std::alloc::Global;
 
-/// The vertices of some edits by number, where each stands first, and the numbers of the ends of each edit, in order.
+/// The vertices of some edits by number, where each stands, and the numbers of the ends of each edit, in order.
 #[derive(Drop)]
 pub(crate) struct Numbering {
     pub(crate) numbers: IndexSet<Vertex, HashSeed>,
+    /// The root, and the vertices that were numbered first as a source, which stand whole nowhere else.
+    pub(crate) own: Vec<Vertex>,
     pub(crate) homes: Vec<Home>,
     pub(crate) sources: Vec<u32>,
     pub(crate) targets: Vec<u32>,
 }
 
-/// The number of a vertex, which gets the next one where it has none, and is then at home where it stands.
+/// The number of a vertex, which gets the next one where it has none, and whether it had none.
 fn number_of(
     numbers: &mut IndexSet<Vertex, HashSeed>,
-    homes: &mut Vec<Home>,
     vertex: Vertex,
-    home: Home,
-) -> Result<u32, NoMemory>
-    ensures number { IfOk result (λ number. slice_get numbers.new.keys number ≡ Some vertex) }
+) -> Result<(u32, bool), NoMemory>
+    ensures number { IfOk result (λ found. slice_get numbers.new.keys found.0 ≡ Some vertex) }
     ensures vertices { OnOk result (numbers.new.keys ≡ with_vertex vertex numbers.old.keys) }
-    ensures once { IsDistinct is_same_vertex numbers.new.keys }
-    ensures homes { OnOk result ((edits : List Edit) → vertex_in edits home ≡ Some vertex
-        → AreHomes edits homes.old.items numbers.old.keys → AreHomes edits homes.new.items numbers.new.keys) }
+    ensures once { OnOk result (IsDistinct is_same_vertex numbers.new.keys) }
+    ensures new { IfOk result (λ found. found.1 ≡ not (stands_in vertex numbers.old.keys)) }
 {
     let (index, is_new) = numbers.insert_full(vertex)?;
-    if is_new {
-        homes.push(home)?;
-    }
     let Ok(number) = u32::try_from(index) else {
         return Err(NoMemory);
     };
-    Ok(number)
+    Ok((number, is_new))
 }
 
 impl Numbering {
     /// The numbering of no edits, with room for so many.
     fn of_none(alloc: Global, count: usize, seed: HashSeed) -> Result<Numbering, NoMemory>
         ensures numbered { IfOk result (λ n. AreNumbered [] n.numbers.keys n.sources.items n.targets.items) }
-        ensures homes { IfOk result (λ n. (edits : List Edit) → AreHomes edits n.homes.items n.numbers.keys) }
+        ensures homes { IfOk result (λ n. (edits : List Edit) → AreHomes edits n.own.items n.homes.items n.numbers.keys) }
     {
-        let mut numbers = IndexSet::with_capacity_and_hasher(alloc, count.saturating_add(1), seed)?;
-        let mut homes = Vec::new(alloc);
-        number_of(&mut numbers, &mut homes, Vertex::ROOT, Home::Root)?;
-        Ok(Numbering {
-            numbers,
-            homes,
+        let mut numbering = Numbering {
+            numbers: IndexSet::with_capacity_and_hasher(alloc, count.saturating_add(1), seed)?,
+            own: Vec::new(alloc),
+            homes: Vec::new(alloc),
             sources: Vec::with_capacity(alloc, count)?,
             targets: Vec::with_capacity(alloc, count)?,
-        })
+        };
+        numbering.number_source(Vertex::ROOT)?;
+        Ok(numbering)
+    }
+
+    /// The number of a vertex that is the source of an edit, or the root. Where it is new, it is kept.
+    fn number_source(&mut self, vertex: Vertex) -> Result<u32, NoMemory>
+        ensures number { IfOk result (λ number. slice_get self.new.numbers.keys number ≡ Some vertex) }
+        ensures vertices { OnOk result (self.new.numbers.keys ≡ with_vertex vertex self.old.numbers.keys) }
+        ensures once { OnOk result (IsDistinct is_same_vertex self.new.numbers.keys) }
+        ensures homes { OnOk result ((edits : List Edit) → AreHomes edits self.old.own.items self.old.homes.items self.old.numbers.keys
+            → AreHomes edits self.new.own.items self.new.homes.items self.new.numbers.keys) }
+        ensures sources { self.new.sources ≡ self.old.sources }
+        ensures targets { self.new.targets ≡ self.old.targets }
+    {
+        let (number, is_new) = number_of(&mut self.numbers, vertex)?;
+        if !is_new {
+            return Ok(number);
+        }
+        let Ok(at) = u32::try_from(self.own.len()) else {
+            return Err(NoMemory);
+        };
+        self.own.push(vertex)?;
+        self.homes.push(Home::Own(at))?;
+        Ok(number)
+    }
+
+    /// The number of a vertex that is the target of the edit with an index. Where it is new, it stands there.
+    fn number_target(&mut self, vertex: &Vertex, at: u32) -> Result<u32, NoMemory>
+        ensures number { IfOk result (λ number. slice_get self.new.numbers.keys number ≡ Some vertex.now) }
+        ensures vertices { OnOk result (self.new.numbers.keys ≡ with_vertex vertex.now self.old.numbers.keys) }
+        ensures once { OnOk result (IsDistinct is_same_vertex self.new.numbers.keys) }
+        ensures homes { OnOk result ((edits : List Edit) → vertex_in edits self.old.own.items (Home.Target at) ≡ Some vertex.now
+            → AreHomes edits self.old.own.items self.old.homes.items self.old.numbers.keys → AreHomes edits self.new.own.items self.new.homes.items self.new.numbers.keys) }
+        ensures sources { self.new.sources ≡ self.old.sources }
+        ensures targets { self.new.targets ≡ self.old.targets }
+    {
+        let (number, is_new) = number_of(&mut self.numbers, *vertex)?;
+        if !is_new {
+            return Ok(number);
+        }
+        self.homes.push(Home::Target(at))?;
+        Ok(number)
     }
 
     /// Numbers the ends of one more edit, which has an index.
@@ -66,24 +102,13 @@ impl Numbering {
         ensures numbered { OnOk result ((edits : List Edit) → AreNumbered edits self.old.numbers.keys self.old.sources.items self.old.targets.items
             → AreNumbered (edits ++ edit.now ∷ []) self.new.numbers.keys self.new.sources.items self.new.targets.items) }
         ensures homes { OnOk result ((edits : List Edit) → slice_get edits index ≡ Some edit.now
-            → AreHomes edits self.old.homes.items self.old.numbers.keys → AreHomes edits self.new.homes.items self.new.numbers.keys) }
+            → AreHomes edits self.old.own.items self.old.homes.items self.old.numbers.keys → AreHomes edits self.new.own.items self.new.homes.items self.new.numbers.keys) }
     {
         let Ok(at) = u32::try_from(index) else {
             return Err(NoMemory);
         };
-        let edge = edit.as_edge();
-        let source = number_of(
-            &mut self.numbers,
-            &mut self.homes,
-            edge.source,
-            Home::Source(at),
-        )?;
-        let target = number_of(
-            &mut self.numbers,
-            &mut self.homes,
-            edge.target,
-            Home::Target(at),
-        )?;
+        let source = self.number_source(edit.source())?;
+        let target = self.number_target(edit.target(), at)?;
         self.sources.push(source)?;
         self.targets.push(target)?;
         Ok(())
@@ -91,7 +116,7 @@ impl Numbering {
 
     pub(crate) fn of(alloc: Global, edits: &[Edit], seed: HashSeed) -> Result<Numbering, NoMemory>
         ensures numbered { IfOk result (λ n. AreNumbered edits.now n.numbers.keys n.sources.items n.targets.items) }
-        ensures homes { IfOk result (λ n. AreHomes edits.now n.homes.items n.numbers.keys) }
+        ensures homes { IfOk result (λ n. AreHomes edits.now n.own.items n.homes.items n.numbers.keys) }
     {
         let mut numbering = Numbering::of_none(alloc, edits.len(), seed)?;
         for index in 0..edits.len() {

@@ -115,7 +115,7 @@ fn children_are_in_edge_order(rt: HostRuntime) -> Result<(), Fail> {
     table.children(root, Position::Main, &mut out)?;
     assert_eq!(rt; out.as_slice(), [0, 1, 2].as_slice());
     for index in &out {
-        assert_eq!(rt; table.edge_ref(*index).source, Vertex::ROOT);
+        assert_eq!(rt; table.edit_ref(*index).source(), Vertex::ROOT);
     }
     table.children(root, Position::Left, &mut out)?;
     assert!(rt; out.is_empty());

@@ -1,17 +1,6 @@
-use Rattle.std.proofs.Common.{◌≡◌, ◌∙◌, ℕ, Bool, cond, [], ◌∷◌, ◌++◌, Some, slice_get, ap, sym, subst, rules}
+use Rattle.std.proofs.Common.{◌≡◌, ◌∙◌, ℕ, Some, slice_get, sym, subst, rules}
 use Rattle.graph_table.proofs.Numbers.{inserted_is, new_where_none, once_from_set, number_from_set}
-use Rattle.graph_table.proofs.Homes.{items_of, homed}
 use Rattle.graph_table.proofs.numbering.number_of.Goals as goal
-use Rattle.graph_table.proofs.numbering.number_of.Goals.{then-is_new+in_ok-push, else-is_new}
-
-pub returns-in_err-index-clause-once : goal.returns-in_err-index-clause-once
-returns-in_err-index-clause-once c = once_from_set _ c.in_err-index.ensures.unique
-
-pub returns-in_err-push-clause-once : goal.returns-in_err-push-clause-once
-returns-in_err-push-clause-once c = once_from_set _ c.in_ok-index.ensures.unique
-
-pub returns-in_default-clause-once : goal.returns-in_default-clause-once
-returns-in_default-clause-once c = once_from_set _ c.in_ok-index.ensures.unique
 
 pub returns-clause-number : goal.returns-clause-number
 returns-clause-number c =
@@ -26,13 +15,5 @@ returns-clause-vertices c = c.in_ok-index.ensures.keys ∙ inserted_is c.args.nu
 pub returns-clause-once : goal.returns-clause-once
 returns-clause-once c = once_from_set _ c.in_ok-index.ensures.unique
 
-pub returns-clause-homes : goal.returns-clause-homes
-returns-clause-homes c edits at are =
-    let keys = c.args.numbers.now.keys in
-    let homes = c.args.homes.now.items in
-    let pushed : c.if-is_new.homes.items ≡ cond c.in_ok-index.is_new (homes ++ c.args.home ∷ []) homes = elim c.if-is_new.branch [
-      | then-is_new+in_ok-push w ↦ items_of w.homes-is ∙ w.in_ok-push.ensures.items ∙ sym (ap (λ (b : Bool). cond b (homes ++ c.args.home ∷ []) homes) w.if-is_new.true)
-      | else-is_new w ↦ items_of w.homes-is ∙ sym (ap (λ (b : Bool). cond b (homes ++ c.args.home ∷ []) homes) w.if-is_new.false)
-    ] in
-    homed edits c.args.vertex c.args.home keys c.insert_full.new.self.keys homes c.if-is_new.homes.items c.in_ok-index.is_new (c.in_ok-index.ensures.keys ∙ inserted_is keys c.args.vertex)
-    (new_where_none keys c.args.vertex c.in_ok-index.is_new c.in_ok-index.ensures.added) pushed at are
+pub returns-clause-new : goal.returns-clause-new
+returns-clause-new c = new_where_none c.args.numbers.now.keys c.args.vertex c.in_ok-index.is_new c.in_ok-index.ensures.added

@@ -7,11 +7,11 @@ use Rattle.graph_table.proofs.graph_table.GraphTable.target.Goals as goal
 pub returns-clause-number : goal.returns-clause-number
 returns-clause-number c =
     let inside = c.self.inside in
-    let are = ends_in_view targets_of inside.edits (vertices_in inside.edits inside.homes.items) c.args.self.now inside.targets.items c.self.view_is c.self.invariant.target_numbers in
+    let are = ends_in_view targets_of inside.edits (vertices_in inside.edits inside.own.items inside.homes.items) c.args.self.now inside.targets.items c.self.view_is c.self.invariant.target_numbers in
     (end_read (λ (e : Edge). e.target) c.args.self.now inside.targets.items are c.args.index c.index.result.now c.requires c.index.ensures).0
 
 pub returns-clause-target : goal.returns-clause-target
 returns-clause-target c =
     let inside = c.self.inside in
-    let are = ends_in_view targets_of inside.edits (vertices_in inside.edits inside.homes.items) c.args.self.now inside.targets.items c.self.view_is c.self.invariant.target_numbers in
+    let are = ends_in_view targets_of inside.edits (vertices_in inside.edits inside.own.items inside.homes.items) c.args.self.now inside.targets.items c.self.view_is c.self.invariant.target_numbers in
     (end_read (λ (e : Edge). e.target) c.args.self.now inside.targets.items are c.args.index c.index.result.now c.requires c.index.ensures).1

@@ -1,19 +1,24 @@
-use Rattle.std.proofs.Common.{◌≡◌, rules}
-use Rattle.graph_table.proofs.Homes.{source_home, target_home}
+use Rattle.std.proofs.Common.{◌≡◌, ◌∙◌, ap, ◌++◌, ◌∷◌, [], List, ℕ, Vec, Global, rules}
+use Rattle.graph_table.proofs.Homes.{target_home}
 use Rattle.graph_table.proofs.Numbers.{numbered_next}
 use Rattle.graph_table.proofs.numbering.Numbering.add.Goals as goal
 
+items_of : {a b : Vec ℕ Global} → a ≡ b → a.items ≡ b.items
+items_of e = ap (λ (x : Vec ℕ Global). x.items) e
+
 pub returns-clause-numbered : goal.returns-clause-numbered
 returns-clause-numbered c edits are =
+    let old = c.args.self.now in
     let source = c.in_ok-source.ensures in
     let target = c.in_ok-target.ensures in
-    numbered_next edits c.args.edit.now c.as_edge-edge.result.now c.args.self.now.numbers.keys c.number_of.new.numbers.keys c.number_of-2.new.numbers.keys
-    c.args.self.now.sources.items c.args.self.now.targets.items c.push.new.self.items c.push-2.new.self.items c.in_ok-source.source c.in_ok-target.target
-    c.as_edge-edge.ensures source.vertices source.number target.vertices target.number target.once c.in_ok-push.ensures.items c.in_ok-push-2.ensures.items are
+    let sources = items_of (target.sources ∙ source.sources) in
+    let targets = items_of (target.targets ∙ source.targets) in
+    numbered_next edits c.args.edit.now c.source.result c.target.result.now old.numbers.keys c.number_source.new.self.numbers.keys c.number_target.new.self.numbers.keys
+    old.sources.items old.targets.items c.push.new.self.items c.push-2.new.self.items c.in_ok-source.source c.in_ok-target.target
+    c.source.ensures c.target.ensures source.vertices source.number target.vertices target.number target.once
+    (c.in_ok-push.ensures.items ∙ ap (λ (ns : List ℕ). ns ++ c.in_ok-source.source ∷ []) sources) (c.in_ok-push-2.ensures.items ∙ ap (λ (ns : List ℕ). ns ++ c.in_ok-target.target ∷ []) targets) are
 
 pub returns-clause-homes : goal.returns-clause-homes
 returns-clause-homes c edits at are =
     let same : c.in-Ok.at ≡ c.args.index = search rules in
-    let edge = c.as_edge-edge.result.now in
-    c.in_ok-target.ensures.homes edits (target_home edits c.args.index c.in-Ok.at c.args.edit.now edge same c.as_edge-edge.ensures at)
-    (c.in_ok-source.ensures.homes edits (source_home edits c.args.index c.in-Ok.at c.args.edit.now edge same c.as_edge-edge.ensures at) are)
+    c.in_ok-target.ensures.homes edits (target_home edits c.number_source.new.self.own.items c.args.index c.in-Ok.at c.args.edit.now c.target.result.now same c.target.ensures at) (c.in_ok-source.ensures.homes edits are)
