@@ -99,6 +99,8 @@ fn check_rising_at<R: Abort>(rt: &R, graph: &mut LiveGraph) -> Result<(), NoMemo
     assert_eq!(rt; other, (raised, State::Deleted));
     let again = raise_at(graph, EditKind::Insert, &edge(1, 6))?;
     assert_eq!(rt; again, (Change::Same, State::Deleted));
+    assert_eq!(rt; graph.number(&edge(1, 6)), Some(1));
+    assert_eq!(rt; graph.number(&edge(2, 5)), None);
     Ok(())
 }
 
