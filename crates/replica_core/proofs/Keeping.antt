@@ -1,5 +1,5 @@
 -- What is seen of the entries of a kept graph and opening edges.
-use Rattle.std.proofs.Common.{◌≡◌, ℕ, Bool, true, false, cond, List, [], map, is_none, refl, sym, ap, subst, ◌∙◌}
+use Rattle.std.proofs.Common.{◌≡◌, ◌≤◌, ℕ, Bool, true, false, cond, List, [], length, map, is_none, refl, sym, ap, subst, ◌∙◌, arith}
 use Rattle.std.specs.Prelude.{Result, Ok, Err, OnOk, OnErr}
 use Rattle.edge_lattice.specs.declared.state.State.TheVariants.{Absent}
 use Rattle.edge_lattice.specs.State.{state_join}
@@ -12,9 +12,14 @@ use Rattle.grove_edits.proofs.Graphs.{unnamed}
 use Rattle.grove_edits.proofs.Unique.{canonical_once}
 use Rattle.walks.specs.Live.{IsInEdgeOrder, holds_edge}
 use Rattle.graph_store.specs.Store.{Entries, state_in, well_formed}
+use Rattle.live_graph.specs.NumberOf.{KeepsNumbersOf}
+use Rattle.user_actions.specs.Flags.{opening_edges, present_flags}
+use Rattle.user_actions.proofs.FlaggedEdges.{opening_stays, no_fewer, length-present_flags, opening_present}
+use Rattle.user_actions.proofs.Openings.{canonical_present}
+use Rattle.user_actions.proofs.OnePlan.{one_present}
 use Rattle.replica_core.specs.Stored.{edits_in}
 use Rattle.replica_core.specs.Content.{Content, IsContent, no_edits, with_taken, with_block}
-use Rattle.replica_core.specs.Kept.{content_of, IsKept}
+use Rattle.replica_core.specs.Kept.{content_of, IsKept, flagged_content, AreFlagsKept}
 use Rattle.replica_core.proofs.WithEdits.{graph-with_edits, canonical_itself}
 use Rattle.replica_core.proofs.StoredLists.{ascends-edits_among, stored_is}
 use Rattle.replica_core.proofs.Contents.{content_empty, content_taken, content_opened}
@@ -95,3 +100,41 @@ module _ (entries : Entries) (opening : List Edge) (content : Content) (of : IsK
 
 pub seen_empty : (entries : Entries) (opening : List Edge) → entries ≡ [] → opening ≡ [] → IsSeenAs entries opening no_edits
 seen_empty entries opening empty none = seen_as entries opening no_edits content_empty (λ e. ap (λ (es : Entries). state_in es e) empty) none
+
+-- ---- where the opening edges are told by flags
+
+-- kept so, and seen as this content
+pub record AreFlagsSeenAs (entries : Entries) (flags : List Bool) (content : Content) : Type 0 where
+  pub view : flagged_content entries flags ≡ content
+  pub invariant : AreFlagsKept entries flags
+
+module _ (entries : Entries) (flags : List Bool) (content : Content) (of : AreFlagsKept entries flags) (view : flagged_content entries flags ≡ content) where
+  -- edits that are joined leave what was open
+  pub flags_taken_or_not : {T E : Type 0} (r : Result T E) (after : Entries) (edits : List Edit) → OnOk r (IsSame (state_in after) (graph_join (state_in entries) (graph edits))) → OnErr r (IsSame (state_in after) (state_in entries))
+      → KeepsNumbersOf entries after → AreFlagsKept after flags × OnOk r (flagged_content after flags ≡ with_taken edits content) × OnErr r (flagged_content after flags ≡ content)
+  flags_taken_or_not r after edits taken unchanged numbers =
+      let before = opening_edges entries flags in
+      let same : before ≡ opening_edges after flags = sym (opening_stays entries after flags numbers of.within) in
+      let told = taken_or_not entries before content of.kept view r after edits taken unchanged in (
+        record { kept = subst (IsKept after) same told.0; within = omega (arith, of.within, no_fewer entries after numbers) },
+        subst (λ (es : List Edge). OnOk r (content_of after es ≡ with_taken edits content)) same told.1,
+        subst (λ (es : List Edge). OnErr r (content_of after es ≡ content)) same told.2,
+      )
+
+  -- in a block that opens now
+  pub flags_opened : (present : List Bool) → present ≡ present_flags entries → AreFlagsSeenAs entries present (with_block content)
+  flags_opened present are =
+      let edges : opening_edges entries present ≡ map edit_edge content.edits =
+      ap (opening_edges entries) are
+      ∙ one_present (state_in entries) (opening_edges entries (present_flags entries)) (map edit_edge content.edits) (opening_present entries)
+      (canonical_present (state_in entries) content.edits
+      (record { in_order = (content_seen entries (opening_edges entries flags) content of.kept view).in_order; same = λ e. sym (graph_seen entries (opening_edges entries flags) content of.kept view e) })) in
+      let seen = seen_opened entries (opening_edges entries flags) content of.kept view (opening_edges entries present) edges in
+      let count : length present ≡ length entries = ap length are ∙ length-present_flags entries in
+      record { view = seen.view; invariant = record { kept = seen.invariant; within = omega (arith, count) } }
+
+pub flags_empty : (entries : Entries) (flags : List Bool) → entries ≡ [] → flags ≡ present_flags entries → AreFlagsSeenAs entries flags no_edits
+flags_empty entries flags empty are =
+    let seen = seen_empty entries (opening_edges entries flags) empty (ap (λ (es : Entries). opening_edges es flags) empty) in
+    let count : length flags ≡ length entries = ap length are ∙ length-present_flags entries in
+    record { view = seen.view; invariant = record { kept = seen.invariant; within = omega (arith, count) } }

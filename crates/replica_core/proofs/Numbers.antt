@@ -12,6 +12,10 @@ use Rattle.live_graph.specs.NumberOf.{IsNumberOf, KeepsNumbersOf}
 use Rattle.replica_core.specs.declared.taking.News.{News}
 use Rattle.replica_core.specs.Taking.{AreNumbered, edits_of}
 
+-- numbers that stay twice stay
+pub stay_twice : (before between after : Entries) → KeepsNumbersOf before between → KeepsNumbersOf between after → KeepsNumbersOf before after
+stay_twice before between after first second e n is = second e n (first e n is)
+
 -- numbers that stay are still those of the edges
 pub numbered_still : (before after : Entries) (news : List News) → KeepsNumbersOf before after → AreNumbered before news → AreNumbered after news
 numbered_still before after [] stay are = tt

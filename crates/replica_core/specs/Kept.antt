@@ -1,9 +1,10 @@
 -- How the graph of a replica and its opening edges are kept.
-use Rattle.std.specs.Prelude.{List}
+use Rattle.std.specs.Prelude.{◌≤◌, Bool, List, length}
 use Rattle.grove_edits.specs.declared.edge.Edge.{Edge}
 use Rattle.grove_edits.specs.Graph.{graph, IsSame}
 use Rattle.walks.specs.Live.{IsInEdgeOrder}
 use Rattle.graph_store.specs.Store.{Entries, state_in}
+use Rattle.user_actions.specs.Flags.{opening_edges}
 use Rattle.user_actions.specs.Good.{AreOpening}
 use Rattle.replica_core.specs.Content.{Content}
 use Rattle.replica_core.specs.Stored.{edits_in}
@@ -17,3 +18,12 @@ pub record IsKept (entries : Entries) (opening : List Edge) : Type 0 where
   pub same : IsSame (state_in entries) (graph (edits_in entries))
   pub opening_in_order : IsInEdgeOrder opening
   pub opening_known : AreOpening (graph (edits_in entries)) opening
+
+-- what contracts see where the opening edges are told by flags
+abbrev pub flagged_content : Entries → List Bool → Content
+flagged_content entries flags = content_of entries (opening_edges entries flags)
+
+-- they are kept so, and an edge that gets a number later gets no flag
+pub record AreFlagsKept (entries : Entries) (flags : List Bool) : Type 0 where
+  pub kept : IsKept entries (opening_edges entries flags)
+  pub within : length flags ≤ length entries

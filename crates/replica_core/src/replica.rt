@@ -3,6 +3,7 @@ ghost use Rattle.grove_edits.specs.declared.act_fault.ActFault.{ActFault};
 ghost use Rattle.grove_edits.specs.Graph.{graph, IsCanonical};
 ghost use Rattle.edge_numbers.specs.Numbered.{state_in};
 ghost use Rattle.live_graph.specs.Live.{live};
+ghost use Rattle.user_actions.specs.Flags.{opening_edges};
 ghost use Rattle.user_actions.specs.Plan.{IsPlan};
 ghost use Rattle.grove_answers.specs.Texts.{IsPrintText, IsCanonicalText};
 ghost use Rattle.replica_core.specs.Content.{IsContent, no_edits, with_taken, with_block};
@@ -22,7 +23,7 @@ use seeded_hash::HashSeed;
 use std::alloc::Global;
 use std::marker::Model;
 use std::sync::ledger::Ledger;
-use user_actions::{LiveView, OpeningSet};
+use user_actions::{LiveView, OpeningFlags};
 use walks::Steps;
 
 /// A live replica. Contracts see it as its `Content`: the canonical list of its graph, and the edges that the block opened with.
@@ -30,18 +31,19 @@ use walks::Steps;
 #[derive(Drop)]
 pub struct Replica {
     graph: LiveGraph,
-    opening: OpeningSet,
+    // Which edges were not Absent as the block opened.
+    opening: OpeningFlags,
 }
 
 impl Model for Replica {
     ghost use Rattle.replica_core.specs.Content.{Content};
-    ghost use Rattle.replica_core.specs.Kept.{content_of, IsKept};
+    ghost use Rattle.replica_core.specs.Kept.{flagged_content, AreFlagsKept};
 
     ghost Value = { Content };
 
-    ghost view = { λ replica. content_of replica.graph replica.opening };
+    ghost view = { λ replica. flagged_content replica.graph replica.opening };
 
-    ghost invariant = { λ replica. IsKept replica.graph replica.opening };
+    ghost invariant = { λ replica. AreFlagsKept replica.graph replica.opening };
 }
 
 impl Replica {
@@ -57,7 +59,7 @@ impl Replica {
         ensures empty { IfOk result (λ replica. replica ≡ no_edits) }
     {
         let graph = LiveGraph::with_seed(alloc, seed);
-        let opening = OpeningSet::of_list(alloc, &EditList::new(alloc))?;
+        let opening = OpeningFlags::of(alloc, &graph)?;
         Ok(Replica { graph, opening })
     }
 
@@ -66,7 +68,7 @@ impl Replica {
         ensures opened { OnOk result (self.new ≡ with_block self.old) }
         ensures unchanged { OnErr result (self.new ≡ self.old) }
     {
-        let _list = self.open_block(alloc)?;
+        self.opening = OpeningFlags::of(alloc, &self.graph)?;
         Ok(())
     }
 
@@ -78,7 +80,7 @@ impl Replica {
         ensures unchanged { OnErr result (self.new ≡ self.old) }
     {
         let list = self.in_order(alloc)?;
-        self.opening = OpeningSet::of_list(alloc, &list)?;
+        self.begin_block(alloc)?;
         Ok(list)
     }
 
@@ -167,7 +169,7 @@ impl Replica {
 
     /// What plans read.
     pub(crate) fn view(&self) -> LiveView<'_>
-        ensures { Shows (state_in result.graph.now) (live result.graph.now) (live result.graph.now) result.opening.now self.now }
+        ensures { Shows (state_in result.graph.now) (live result.graph.now) (live result.graph.now) (opening_edges result.graph.now result.opening.now) self.now }
     {
         // The live edges are those whose state is Live.
         let _edges = self.graph.edge_count();

@@ -1,6 +1,7 @@
 ghost use Rattle.std.specs.Prelude.{◌≡◌, OnOk, OnErr, IfOk};
 ghost use Rattle.grove_edits.specs.Graph.{graph, graph_join, state_of, IsSame};
 ghost use Rattle.edge_numbers.specs.Numbered.{state_in};
+ghost use Rattle.live_graph.specs.NumberOf.{KeepsNumbersOf};
 ghost use Rattle.replica_core.specs.Taking.{AreNumbered, edits_of};
 
 use crate::no_memory::NoMemory;
@@ -21,6 +22,7 @@ pub(crate) struct News<'e> {
 pub(crate) fn take(alloc: Global, kept: &mut LiveGraph, edits: &[Edit]) -> Result<(), NoMemory>
     ensures taken { OnOk result (IsSame (state_in kept.new) (graph_join (state_in kept.old) (graph edits.now))) }
     ensures unchanged { OnErr result (IsSame (state_in kept.new) (state_in kept.old)) }
+    ensures numbers_stay { KeepsNumbersOf kept.old kept.new }
 {
     let news = news_of(alloc, kept, edits)?;
     raise_all(kept, &news);
@@ -36,6 +38,7 @@ fn news_of<'e>(
     ensures numbered { IfOk result (λ news. AreNumbered kept.new news.items) }
     ensures all { IfOk result (λ news. IsSame (graph_join (state_in kept.old) (graph (edits_of news.items))) (graph_join (state_in kept.old) (graph edits.now))) }
     ensures unchanged { IsSame (state_in kept.new) (state_in kept.old) }
+    ensures numbers_stay { KeepsNumbersOf kept.old kept.new }
 {
     let mut news = Vec::new(alloc);
     for edit in edits {
@@ -49,7 +52,8 @@ fn news_of<'e>(
 
 fn raise_all(kept: &mut LiveGraph, news: &[News<'_>])
     requires { AreNumbered kept.old news.now }
-    ensures { IsSame (state_in kept.new) (graph_join (state_in kept.old) (graph (edits_of news.now))) }
+    ensures joined { IsSame (state_in kept.new) (graph_join (state_in kept.old) (graph (edits_of news.now))) }
+    ensures numbers_stay { KeepsNumbersOf kept.old kept.new }
 {
     for one in news {
         kept.raise_at(one.number, one.edit.kind());

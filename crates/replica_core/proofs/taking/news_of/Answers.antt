@@ -9,7 +9,7 @@ use Rattle.live_graph.specs.NumberOf.{IsNumberOf}
 use Rattle.replica_core.specs.declared.taking.News.{News}
 use Rattle.replica_core.specs.Taking.{AreNumbered, edits_of}
 use Rattle.replica_core.proofs.News.{news_behind, news_stay, all_news}
-use Rattle.replica_core.proofs.Numbers.{numbered_still, numbered_behind, edits_behind}
+use Rattle.replica_core.proofs.Numbers.{stay_twice, numbered_still, numbered_behind, edits_behind}
 use Rattle.replica_core.proofs.taking.news_of.Goals as goal
 use Rattle.replica_core.proofs.taking.news_of.Goals.{then-not-leq+in_ok-push, else-not-leq}
 
@@ -42,9 +42,16 @@ loop-edit-preserved c =
             (subst (IsAtMost (state_of (edit_kind edit))) state (subst (λ s. IsAtMost s c.state_at.result) asked (w.if-not-leq.ensures.at_most.0 refl)))
             c.loop-edit.invariant.all)
       ];
+      numbers_stay = stay_twice c.args.kept.now c.loop-edit.kept with_room c.loop-edit.invariant.numbers_stay c.make_room.ensures.numbers_stay;
       unchanged = λ e. c.make_room.ensures.unchanged e ∙ c.loop-edit.invariant.unchanged e;
     }
 
 pub returns-clause-all : goal.returns-clause-all
 returns-clause-all c =
     all_news (state_in c.args.kept.now) (edits_of c.loop-edit.news.items) c.args.edits.now c.loop-edit.edit-index c.loop-edit-test.false c.loop-edit.invariant.all
+
+pub returns-in_err-number-clause-numbers_stay : goal.returns-in_err-number-clause-numbers_stay
+returns-in_err-number-clause-numbers_stay c = stay_twice c.args.kept.now c.loop-edit.kept c.make_room.new.self c.loop-edit.invariant.numbers_stay c.make_room.ensures.numbers_stay
+
+pub returns-in_err-push-clause-numbers_stay : goal.returns-in_err-push-clause-numbers_stay
+returns-in_err-push-clause-numbers_stay c = stay_twice c.args.kept.now c.loop-edit.kept c.make_room.new.self c.loop-edit.invariant.numbers_stay c.make_room.ensures.numbers_stay
