@@ -4,8 +4,8 @@ use crate::live_graph::LiveGraph;
 use crate::no_memory::NoMemory;
 use crate::seen::Seen;
 use graph_table::{GraphTable, Parents};
-use grove_edits::Edge;
 use grove_sorts::Position;
+use grove_terms::LentEdge;
 
 /// Nothing is counted.
 #[derive(Clone, Copy, Debug)]
@@ -41,8 +41,8 @@ impl<'g> LiveGraph<'g> for LiveTable<'g> {
 
     ghost AreInner = { λ it seen. OnlyInner it.table.now seen };
 
-    fn edge(&self, link: &usize) -> &'g Edge {
-        self.table.edge_ref(*link)
+    fn edge(&self, link: &usize) -> LentEdge<'g> {
+        LentEdge::OfEdit(self.table.edit_ref(*link))
     }
 
     fn target(&self, link: &usize) -> usize {

@@ -3,11 +3,12 @@ ghost use Rattle.std.specs.List.{AllByRecursion};
 ghost use Rattle.walks.specs.declared.class.Class.TheVariants.{Inner};
 ghost use Rattle.walks.specs.Live.{children_of};
 ghost use Rattle.walks.specs.Class.{class};
+ghost use Rattle.grove_terms.specs.Lent.{edge_of};
 ghost use Rattle.grove_decompose.specs.Tasks.{is_shared};
 
 use crate::no_memory::NoMemory;
-use grove_edits::Edge;
 use grove_sorts::Position;
+use grove_terms::LentEdge;
 
 /// A graph as the listing of its trees asks for it. It lends its edges.
 pub(crate) trait LiveGraph<'g> {
@@ -42,9 +43,9 @@ pub(crate) trait LiveGraph<'g> {
     /// Only inner vertices were noted.
     ghost AreInner: { Self → Self.Notes → Type 0 };
 
-    fn edge(&self, link: &Self::Link) -> &'g Edge
+    fn edge(&self, link: &Self::Link) -> LentEdge<'g>
         requires { IsLink self.now link.now }
-        ensures { result.now ≡ edge_at self.now link.now };
+        ensures { edge_of result ≡ edge_at self.now link.now };
 
     /// The vertex to which an edge leads.
     fn target(&self, link: &Self::Link) -> Self::Spot

@@ -6,6 +6,7 @@ use crate::no_memory::NoMemory;
 use child_index::ChildIndex;
 use grove_edits::{Edge, Vertex};
 use grove_sorts::Position;
+use grove_terms::LentEdge;
 use parent_index::ParentIndex;
 use std::marker::PhantomData;
 use std::sync::ledger::Ledger;
@@ -47,8 +48,8 @@ impl<'g, L: Ledger> LiveGraph<'g> for LiveIndexes<'g, '_, L> {
 
     ghost AreInner = { λ _ _. Unit {0} };
 
-    fn edge(&self, link: &&'g Edge) -> &'g Edge {
-        *link
+    fn edge(&self, link: &&'g Edge) -> LentEdge<'g> {
+        LentEdge::Whole(*link)
     }
 
     fn target(&self, link: &&'g Edge) -> Vertex {
