@@ -337,7 +337,7 @@ fn a_cut_on_a_live_graph_takes_the_edges_that_the_block_opened_with(
     let no_first = Edit::delete(first)?;
     let edits = [Edit::insert(first)?, no_first, Edit::insert(second)?];
     let action = Action::Cut { edge: name(3, 2) };
-    // The first edge is open where it was inserted before, also if it is deleted in the block, or was before.
+    // An edge is open where an edit named it before the block, be it deleted then, in the block or never.
     for (opened, later, cut) in [
         (&edits[..1], &edits[1..], &[first][..]),
         (&edits[1..2], &edits[2..], &[first][..]),
