@@ -5,11 +5,16 @@ use Rattle.grove_sorts.proofs.Orders.{same_position_laws}
 use Rattle.grove_edits.specs.Vertex.{is_same_vertex}
 use Rattle.grove_edits.proofs.Vertices.{same_vertex_itself}
 use Rattle.edge_index.specs.Lists.{live}
-use Rattle.graph_store.specs.Store.{state_in}
+use Rattle.graph_store.specs.Store.{state_in, HasRoom}
 use Rattle.child_index.specs.Origin.{room_at_origin}
 use Rattle.parent_index.specs.Target.{room_at_vertex}
 use Rattle.user_actions.proofs.OneMore.{one_more}
 use Rattle.user_actions.proofs.tests.graphs.insert.Goals as goal
+
+pub raise-requires : goal.raise-requires
+raise-requires c =
+    let room : HasRoom c.reserve_for.new.self c.args.edge = c.in_ok-reserve_for.ensures.room 0 c.args.edge (omega arith) in
+    subst (HasRoom c.reserve_for.new.self) (sym c.in_ok-edit.ensures.edge) room
 
 pub add-requires-clause-room : goal.add-requires-clause-room
 add-requires-clause-room c =
