@@ -73,6 +73,11 @@ module _ (vs : List Vertex) where
     pub there_among : list_any (is_same_edge (edge_of vs narrow)) (edges_of (entries_of vs es)) ≡ true
     there_among = any_passes_from_place (is_same_edge (edge_of vs narrow)) (edges_of (entries_of vs es)) n (edge_of vs narrow) edge_there (same_edge_laws.refl (edge_of vs narrow))
 
+  -- the narrow edge between two vertices by their numbers
+  pub narrow_between : (e : Edge) (source target : ℕ) → get_or vs source root ≡ e.source → get_or vs target root ≡ e.target
+      → edge_of vs (record { name = e.name; source = source; target = target; position = e.position }) ≡ e
+  narrow_between e source target from to = λ j. record { name = e.name; source = from j; position = e.position; target = to j }
+
   -- the narrow edge that stands for the edge with a number
   pub narrow_there : (es : NarrowEntries) (n : ℕ) (e : Edge) → AllByRecursion (HasEnds vs) (keys_of es) → IsNumberOfEdge (numbered vs es) e n
       → (narrow : NarrowEdge) × (slice_get (keys_of es) n ≡ Some narrow) × HasEnds vs narrow × (edge_of vs narrow ≡ e)

@@ -1,5 +1,5 @@
 -- What a set of vertices says of their numbers.
-use Rattle.std.proofs.Common.{◌≡◌, ℕ, ◌<◌, Bool, true, false, cond, List, [], ◌∷◌, ◌++◌, length, get_or, slice_get, Some, None, refl, sym, ap, subst, ◌∙◌}
+use Rattle.std.proofs.Common.{◌≡◌, ℕ, ◌<◌, Bool, true, cond, List, [], ◌∷◌, ◌++◌, length, get_or, slice_get, Some, None, refl, sym, ap, subst, ◌∙◌}
 use Rattle.std.specs.Prelude.{◌||◌, Option, IfSome}
 use Rattle.std.specs.List.{IsDistinct, list_any, position}
 use Rattle.std.proofs.lemmas.Option.{slice_get-get_or, slice_get_within, get_or_from_slice_get}
@@ -11,7 +11,7 @@ use Rattle.grove_edits.specs.Vertex.{is_same_vertex, stands_in, root}
 use Rattle.grove_edits.proofs.Vertices.{same_vertex_laws, same_vertex_exact, same_vertex_itself, eq_is_same_vertex}
 use Rattle.edge_numbers.specs.Numbered.{with_vertex, IsNumberOfVertex}
 use Rattle.edge_numbers.specs.Narrow.{NarrowEntries, numbered}
-use Rattle.edge_numbers.proofs.Places.{place_found, place_only, stands_last}
+use Rattle.edge_numbers.proofs.Places.{place_found, place_only}
 
 -- the set's test of vertices
 abbrev pub eq : Vertex → Vertex → Bool
@@ -76,7 +76,6 @@ only_vertex_number vs es v n once is = number_only vs v n once (slice_get-get_or
 pub stood_before : (vs : List Vertex) (v : Vertex) (n : ℕ) → slice_get vs n ≡ Some v → vs ≡ with_vertex v vs
 stood_before vs v n at = sym (ap (λ b. cond b vs (vs ++ v ∷ [])) (numbered_stands vs v n at))
 
--- a new vertex gets the next number
-pub new_number : (vs after : List Vertex) (v : Vertex) (n : ℕ) → after ≡ insert_key eq vs v → list_any (eq v) vs ≡ false → n ≡ length vs → slice_get after n ≡ Some v
-new_number vs after v n is new count =
-    ap (λ xs. slice_get xs n) (is ∙ ap (λ b. cond b vs (vs ++ v ∷ [])) new) ∙ ap (slice_get (vs ++ v ∷ [])) count ∙ stands_last vs v
+-- what a set stored for a vertex is the vertex
+pub number_stored : (vs : List Vertex) (n : ℕ) (v kept : Vertex) → slice_get vs n ≡ Some kept → eq v kept ≡ true → slice_get vs n ≡ Some v
+number_stored vs n v kept at same = at ∙ ap Some (sym (exact v kept same))

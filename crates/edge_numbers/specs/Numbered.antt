@@ -93,10 +93,6 @@ HasEndsIn vertices e = (stands_in e.source vertices ≡ true) × (stands_in e.ta
 abbrev pub with_vertex : Vertex → List Vertex → List Vertex
 with_vertex v vertices = if stands_in v vertices then vertices else vertices ++ v ∷ []
 
--- the list with the ends of an edge
-abbrev pub with_ends : Edge → List Vertex → List Vertex
-with_ends e vertices = with_vertex e.target (with_vertex e.source vertices)
-
 -- the entries with one of an edge, which goes last with the state Absent where it has none yet
 abbrev pub with_entry : Edge → Entries → Entries
 with_entry e entries = if list_any (is_same_edge e) (edges_of entries) then entries else entries ++ (e, Absent) ∷ []

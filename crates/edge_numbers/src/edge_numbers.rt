@@ -6,10 +6,10 @@ ghost use Rattle.grove_edits.specs.declared.edge.Edge.{Edge};
 ghost use Rattle.grove_edits.specs.Edge.{edge_cmp};
 ghost use Rattle.grove_edits.specs.Graph.{is_same_edge};
 ghost use Rattle.grove_edits.specs.Vertex.{is_same_vertex};
-ghost use Rattle.edge_numbers.specs.Numbered.{edges_of, states_of, state_in, with_state, edge_at, state_at, vertex_at, with_vertex, with_ends, with_entry, IsEdgeNumber, IsVertexNumber, IsNumberOfEdge, IsNumberOfVertex, HasEndsIn, BeginsWith, HasRoom, KeepsRoom, KeepsNumbers};
+ghost use Rattle.edge_numbers.specs.Numbered.{edges_of, states_of, state_in, with_state, edge_at, state_at, vertex_at, with_vertex, with_entry, IsEdgeNumber, IsVertexNumber, IsNumberOfEdge, IsNumberOfVertex, HasEndsIn, BeginsWith, HasRoom, KeepsRoom, KeepsNumbers};
 ghost use Rattle.edge_numbers.specs.Narrow.{edge_of, entries_of, HasEnds, IsNumbered};
 
-use crate::ends::{enter_ends, enter_vertex, find_ends};
+use crate::ends::{enter_vertex, find_ends};
 use crate::narrow_edge::NarrowEdge;
 use crate::no_memory::NoMemory;
 use crate::order::compare_edges;
@@ -150,26 +150,34 @@ impl EdgeNumbers {
         ensures number { IfOk result (IsNumberOfVertex self.new vertex.now) }
         ensures vertices { OnOk result (self.new.vertices ≡ with_vertex vertex.now self.old.vertices) }
         ensures vertices_stay { BeginsWith self.new.vertices self.old.vertices }
+        ensures numbers_stay { (v : Vertex) (n : ℕ) → IsNumberOfVertex self.old v n → IsNumberOfVertex self.new v n }
         ensures entries { self.new.entries ≡ self.old.entries }
     {
         let number = enter_vertex(&mut self.vertices, vertex)?;
         Ok(number as usize)
     }
 
-    /// The number of an edge, which gets the next one and the state Absent where it has none, as do its ends. Where memory or numbers
-    /// run out, no edge has got one, though an end may have.
-    pub fn enter(&mut self, edge: &Edge) -> Result<usize, NoMemory>
+    /// The number of an edge whose ends have these numbers. It gets the next one and the state Absent where it has none.
+    pub fn enter(&mut self, edge: &Edge, source: usize, target: usize) -> Result<usize, NoMemory>
+        requires source { IsNumberOfVertex self.old edge.now.source source }
+        requires target { IsNumberOfVertex self.old edge.now.target target }
         ensures number { IfOk result (IsNumberOfEdge self.new edge.now) }
         ensures entries { OnOk result (self.new.entries ≡ with_entry edge.now self.old.entries) }
-        ensures vertices { OnOk result (self.new.vertices ≡ with_ends edge.now self.old.vertices) }
         ensures unchanged { OnErr result (self.new.entries ≡ self.old.entries) }
-        ensures vertices_stay { BeginsWith self.new.vertices self.old.vertices }
+        ensures vertices { self.new.vertices ≡ self.old.vertices }
         ensures numbers_stay { KeepsNumbers self.old self.new }
         ensures graph { (e : Edge) → state_in self.new.entries e ≡ state_in self.old.entries e }
         ensures room { OnOk result (HasRoom self.new.entries edge.now) }
         ensures room_stays { KeepsRoom self.old.entries self.new.entries }
     {
-        let narrow = enter_ends(&mut self.vertices, edge)?;
+        // No vertex has a number of more than 32 bits.
+        let _vertices = self.vertices.len();
+        let narrow = NarrowEdge {
+            name: edge.name,
+            source: source as u32,
+            target: target as u32,
+            position: edge.position,
+        };
         enter_edge(&mut self.edges, narrow)
     }
 

@@ -2,7 +2,7 @@ ghost use Rattle.std.specs.Prelude.{◌≡◌, ◌<◌, ◌≤◌, ◌^◌, leng
 ghost use Rattle.std.specs.List.{IsDistinct};
 ghost use Rattle.grove_edits.specs.Vertex.{is_same_vertex};
 ghost use Rattle.edge_numbers.specs.declared.narrow_edge.NarrowEdge.{NarrowEdge};
-ghost use Rattle.edge_numbers.specs.Numbered.{with_vertex, with_ends, BeginsWith};
+ghost use Rattle.edge_numbers.specs.Numbered.{with_vertex, BeginsWith};
 ghost use Rattle.edge_numbers.specs.Narrow.{edge_of, HasEnds};
 
 use crate::narrow_edge::NarrowEdge;
@@ -23,15 +23,15 @@ pub(crate) fn enter_vertex(
     ensures once { IsDistinct is_same_vertex vertices.new.keys }
     ensures fits { length vertices.new.keys ≤ 2 ^ 32 }
 {
-    let count = vertices.len();
-    if let Some(number) = vertices.get_index_of(vertex) {
+    // Where all numbers are given, a vertex may still have one.
+    if vertices.len() > u32::MAX as usize {
+        let Some(number) = vertices.get_index_of(vertex) else {
+            return Err(NoMemory);
+        };
         return Ok(number as u32);
     }
-    let Ok(number) = u32::try_from(count) else {
-        return Err(NoMemory);
-    };
-    vertices.insert(*vertex)?;
-    Ok(number)
+    let (number, _is_new) = vertices.insert_full(*vertex)?;
+    Ok(number as u32)
 }
 
 /// An edge by the numbers of its ends, or None where one has no number.
@@ -48,29 +48,6 @@ pub(crate) fn find_ends(vertices: &IndexSet<Vertex, HashSeed>, edge: &Edge) -> O
         name: edge.name,
         source: source as u32,
         target: target as u32,
-        position: edge.position,
-    })
-}
-
-/// An edge by the numbers of its ends, which get the next ones where they have none.
-pub(crate) fn enter_ends(
-    vertices: &mut IndexSet<Vertex, HashSeed>,
-    edge: &Edge,
-) -> Result<NarrowEdge, NoMemory>
-    requires { length vertices.old.keys ≤ 2 ^ 32 }
-    ensures edge { IfOk result (λ narrow. edge_of vertices.new.keys narrow ≡ edge.now) }
-    ensures ends { IfOk result (HasEnds vertices.new.keys) }
-    ensures vertices { OnOk result (vertices.new.keys ≡ with_ends edge.now vertices.old.keys) }
-    ensures stays { BeginsWith vertices.new.keys vertices.old.keys }
-    ensures once { IsDistinct is_same_vertex vertices.new.keys }
-    ensures fits { length vertices.new.keys ≤ 2 ^ 32 }
-{
-    let source = enter_vertex(vertices, &edge.source)?;
-    let target = enter_vertex(vertices, &edge.target)?;
-    Ok(NarrowEdge {
-        name: edge.name,
-        source,
-        target,
         position: edge.position,
     })
 }

@@ -23,10 +23,16 @@ fn edge(counter: u64, child: u64) -> Edge {
     }
 }
 
+fn enter(numbers: &mut EdgeNumbers, edge: &Edge) -> Result<usize, NoMemory> {
+    let source = numbers.enter_vertex(&edge.source)?;
+    let target = numbers.enter_vertex(&edge.target)?;
+    numbers.enter(edge, source, target)
+}
+
 fn two_edges(alloc: Global, first: &Edge, second: &Edge) -> Result<EdgeNumbers, NoMemory> {
     let mut numbers = EdgeNumbers::new(alloc);
-    numbers.enter(first)?;
-    numbers.enter(second)?;
+    enter(&mut numbers, first)?;
+    enter(&mut numbers, second)?;
     Ok(numbers)
 }
 
@@ -58,7 +64,7 @@ fn raise(numbers: &mut EdgeNumbers, number: usize) {
 #[test]
 fn an_edge_has_one_number(rt: HostRuntime) -> Result<(), Fail> {
     let mut numbers = two_edges(rt.alloc(), &edge(2, 6), &edge(1, 5))?;
-    assert_eq!(rt; numbers.enter(&edge(2, 6))?, 0);
+    assert_eq!(rt; enter(&mut numbers, &edge(2, 6))?, 0);
     assert_eq!(rt; numbers.number(&edge(1, 5)), Some(1));
     assert_eq!(rt; numbers.number(&edge(1, 6)), None);
     Ok(())

@@ -2,7 +2,6 @@ use Rattle.std.proofs.Common.{ap, ◌∙◌}
 use Rattle.std.proofs.lemmas.Option.{slice_get_within, get_or_from_slice_get}
 use Rattle.grove_edits.specs.Vertex.{root}
 use Rattle.edge_numbers.specs.Numbered.{Numbered}
-use Rattle.edge_numbers.specs.Narrow.{entries_of}
 use Rattle.edge_numbers.proofs.Narrow.{entries_stay, numbered_stays}
 use Rattle.edge_numbers.proofs.edge_numbers.EdgeNumbers.enter_vertex.Goals as goal
 
