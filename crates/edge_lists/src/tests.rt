@@ -22,7 +22,10 @@ fn put_first(lists: &mut EdgeLists<ByPosition>, edge: usize, edges: &EdgeNumbers
 #[test]
 fn an_edge_is_listed_by_its_number(rt: HostRuntime) -> Result<(), Fail> {
     let mut edges = EdgeNumbers::new(rt.alloc());
-    let number = edges.enter(&Edge::default())?;
+    let edge = Edge::default();
+    let source = edges.enter_vertex(&edge.source)?;
+    let target = edges.enter_vertex(&edge.target)?;
+    let number = edges.enter(&edge, source, target)?;
     assert_eq!(rt; number, 0);
     let mut lists = EdgeLists::<ByPosition>::new(rt.alloc());
     lists.add_vertex()?;

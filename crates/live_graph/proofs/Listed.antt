@@ -1,10 +1,10 @@
 -- How the lists of a live graph go on where vertices, places and an edge are added.
-use Rattle.std.proofs.Common.{◌≡◌, ℕ, ◌+◌, ◌<◌, ◌≤◌, Bool, true, false, cond, List, [], ◌∷◌, ◌++◌, Some, Result, Ok, Err, OnOk, length, get_or, refl, sym, ap, subst, ◌∙◌, arith}
+use Rattle.std.proofs.Common.{◌≡◌, ℕ, ◌+◌, ◌<◌, ◌≤◌, Bool, true, false, cond, List, [], ◌∷◌, ◌++◌, Some, length, refl, sym, ap, subst, ◌∙◌, arith}
 use Rattle.std.specs.Prelude.{◌^◌, ◌==◌}
 use Rattle.std.specs.List.{AllByRecursion, IsDistinct, list_any}
 use Rattle.std.specs.declared.cmp.Ordering.{Ordering}
 use Rattle.std.proofs.lemmas.Bool.{eqb-true}
-use Rattle.std.proofs.lemmas.List.{length-append, length_push, get_or_append_left}
+use Rattle.std.proofs.lemmas.List.{append-nil, length_push}
 use Rattle.std.proofs.lemmas.Option.{slice_get-get_or}
 use Rattle.edge_lattice.specs.declared.state.State.{State}
 use Rattle.edge_lattice.specs.declared.state.State.TheVariants.{Absent}
@@ -23,10 +23,6 @@ use Rattle.live_graph.specs.Live.{is_live}
 use Rattle.live_graph.proofs.Around.{around-places, around-vertices, place-vertices, around-push}
 use Rattle.live_graph.proofs.Changes.{around-kept}
 
-pub on_ok_always : {T E P : Type 0} (r : Result T E) → P → OnOk r P
-on_ok_always (Ok x) p = p
-on_ok_always (Err e) p = tt
-
 -- ---- vertices
 
 append_twice : (xs ys zs : List Vertex) → (xs ++ ys) ++ zs ≡ xs ++ (ys ++ zs)
@@ -38,11 +34,8 @@ begins_twice first second third more further =
     (more.0 ++ further.0, further.1 ∙ ap (λ vs. vs ++ further.0) more.1 ∙ append_twice first more.0 further.0)
 
 -- a vertex keeps its number
-pub number_kept : (edges after : Numbered) (v : Vertex) (k : ℕ) → BeginsWith after.vertices edges.vertices → IsNumberOfVertex edges v k → IsNumberOfVertex after v k
-number_kept edges after v k begins number = (
-  subst (λ vs. k < length vs) (sym begins.1) (omega (arith, number.0, length-append edges.vertices begins.0)),
-  ap (λ vs. get_or vs k root) begins.1 ∙ get_or_append_left edges.vertices begins.0 root k number.0 ∙ number.1,
-)
+pub same_begins : (after vs : List Vertex) → after ≡ vs → BeginsWith after vs
+same_begins after vs same = ([], same ∙ sym (append-nil vs))
 
 pub number_stands : (edges : Numbered) (v : Vertex) (k : ℕ) → IsNumberOfVertex edges v k → stands_in v edges.vertices ≡ true
 number_stands edges v k number = numbered_stands edges.vertices v k (slice_get-get_or edges.vertices k root number.0 ∙ ap Some number.1)

@@ -1,5 +1,5 @@
 ghost use Rattle.std.specs.Prelude.{◌≡◌, ◌&&◌, ◌||◌, true, length, IsTrue, IfOk, IfSome, OnOk};
-ghost use Rattle.edge_numbers.specs.Numbered.{edge_at, IsEdgeNumber, IsNumberOfEdge};
+ghost use Rattle.edge_numbers.specs.Numbered.{edge_at, vertex_at, IsEdgeNumber, IsVertexNumber, IsNumberOfEdge};
 ghost use Rattle.std.specs.List.{list_any};
 ghost use Rattle.grove_edits.specs.declared.edge.Edge.{Edge};
 ghost use Rattle.grove_edits.specs.Vertex.{is_same_vertex};
@@ -11,7 +11,7 @@ ghost use Rattle.live_graph.specs.ByName.{is_named, is_named_edge, KeepsNames};
 use crate::no_memory::NoMemory;
 use crate::whole::is_present;
 use edge_numbers::EdgeNumbers;
-use grove_edits::{Edge, is_same_vertex};
+use grove_edits::{Edge, Vertex};
 use grove_names::Name;
 use numbers_by_name::NumbersByName;
 use std::alloc::Global;
@@ -51,12 +51,20 @@ pub(crate) fn is_same_name(a: Name, b: Name) -> bool
     a.cmp(&b) == Ordering::Equal
 }
 
+// Whether the vertex with a number is this one.
+fn is_vertex(edges: &EdgeNumbers, number: usize, vertex: &Vertex) -> bool
+    requires { IsVertexNumber edges.now number }
+    ensures { result ≡ is_same_vertex (vertex_at edges.now number) vertex.now }
+{
+    edges.vertex(number) == vertex
+}
+
 fn has_ends(edges: &EdgeNumbers, number: usize, edge: &Edge) -> bool
     requires { IsEdgeNumber edges.now number }
     ensures { result ≡ (is_same_vertex (edge_at edges.now number).source edge.now.source && is_same_vertex (edge_at edges.now number).target edge.now.target) }
 {
-    is_same_vertex(edges.vertex(edges.source(number)), &edge.source)
-        && is_same_vertex(edges.vertex(edges.target(number)), &edge.target)
+    is_vertex(edges, edges.source(number), &edge.source)
+        && is_vertex(edges, edges.target(number), &edge.target)
 }
 
 // Whether the edge with a number is this edge.

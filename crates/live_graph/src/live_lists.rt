@@ -47,11 +47,11 @@ pub(crate) fn enter(
     ensures unchanged { OnErr result (edges.new.entries ≡ edges.old.entries) }
 {
     want_number(edges)?;
-    make_places(edges, children, parents, edge)?;
+    let (source, target) = make_places(edges, children, parents, edge)?;
     name_vertices(edges, vertex_names, uses)?;
     // The ends of what has a number are among the vertices.
     let _edges = edges.edge_count();
-    let number = edges.enter(edge)?;
+    let number = edges.enter(edge, source, target)?;
     Ok(number)
 }
 

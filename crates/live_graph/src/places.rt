@@ -1,5 +1,5 @@
-ghost use Rattle.std.specs.Prelude.{◌≡◌, ◌+◌, ◌≤◌, ℕ, OnOk};
-ghost use Rattle.edge_numbers.specs.Numbered.{BeginsWith, HasEndsIn};
+ghost use Rattle.std.specs.Prelude.{◌≡◌, ◌+◌, ◌≤◌, ℕ, IfOk, OnOk};
+ghost use Rattle.edge_numbers.specs.Numbered.{BeginsWith, HasEndsIn, IsNumberOfVertex};
 ghost use Rattle.edge_lists.specs.Lists.{listed_at, places_at, HasVertex};
 ghost use Rattle.live_graph.specs.Around.{IsListed, HasPlace, KeepsLists, source_of, target_of};
 
@@ -29,18 +29,19 @@ fn make_place<O: ListOrder>(lists: &mut EdgeLists<O>, vertex: usize) -> Result<(
     Ok(())
 }
 
-/// Numbers for the ends of an edge, and a place at each for one edge more.
+/// The numbers of the ends of an edge, which get the next ones where they have none, and a place at each for one edge more.
 pub(crate) fn make_places(
     edges: &mut EdgeNumbers,
     children: &mut EdgeLists<ByPosition>,
     parents: &mut EdgeLists<ByEdge>,
     edge: &Edge,
-) -> Result<(), NoMemory>
+) -> Result<(usize, usize), NoMemory>
     requires { IsListed edges.old children.old parents.old }
     ensures listed { IsListed edges.new children.new parents.new }
     ensures entries { edges.new.entries ≡ edges.old.entries }
     ensures vertices { BeginsWith edges.new.vertices edges.old.vertices }
     ensures ends { OnOk result (HasEndsIn edges.new.vertices edge.now) }
+    ensures numbers { IfOk result (λ ends. IsNumberOfVertex edges.new edge.now.source ends.0 × IsNumberOfVertex edges.new edge.now.target ends.1) }
     ensures source { OnOk result (HasPlace source_of edges.new children.new edge.now) }
     ensures target { OnOk result (HasPlace target_of edges.new parents.new edge.now) }
 {
@@ -51,5 +52,6 @@ pub(crate) fn make_places(
     // No vertex has two numbers.
     let _vertices = edges.vertex_count();
     make_place(children, source)?;
-    make_place(parents, target)
+    make_place(parents, target)?;
+    Ok((source, target))
 }
