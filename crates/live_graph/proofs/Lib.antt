@@ -9,6 +9,7 @@ pub mod Entered
 pub mod Raises
 pub mod Children
 pub mod Listing
+pub mod SameEdits
 pub mod Once
 pub mod Ends
 pub mod Targets

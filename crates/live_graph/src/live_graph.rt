@@ -1,9 +1,9 @@
-ghost use Rattle.std.specs.Prelude.{◌≡◌, ◌+◌, ◌<◌, ℕ, [], ◌∷◌, length, Some, OnOk, IfOk, IfSome};
+ghost use Rattle.std.specs.Prelude.{◌≡◌, ◌+◌, ◌<◌, ℕ, [], ◌∷◌, length, Some, IsTrue, OnOk, IfOk, IfSome};
 ghost use Rattle.edge_lattice.specs.State.{state_join};
 ghost use Rattle.grove_edits.specs.declared.edge.Edge.{Edge};
 ghost use Rattle.grove_edits.specs.declared.edit.Edit.{Edit};
 ghost use Rattle.grove_edits.specs.Edit.{edit_edge, edit_kind};
-ghost use Rattle.grove_edits.specs.Graph.{IsSame, IsCanonical, graph, graph_join, state_of};
+ghost use Rattle.grove_edits.specs.Graph.{Ascends, IsSame, IsCanonical, graph, graph_join, state_of};
 ghost use Rattle.walks.specs.Live.{IsInEdgeOrder, children_of, parents_of};
 ghost use Rattle.walks.specs.Whole.{AreLive, AreVertices};
 ghost use Rattle.edge_numbers.specs.Numbered.{state_in, with_state, HasRoom, KeepsRoom};
@@ -25,7 +25,7 @@ use crate::no_memory::NoMemory;
 use crate::parent_count::set_counted_state;
 use crate::uses::recount_ends;
 use crate::vertices::{Named, least_named};
-use crate::whole::{edits_of, ends_of, sort_vertices};
+use crate::whole::{are_edits, edits_of, ends_of, sort_vertices};
 use edge_lattice::{State, join, leq};
 use edge_lists::{ByEdge, ByPosition, EdgeLists};
 use edge_numbers::EdgeNumbers;
@@ -220,6 +220,15 @@ impl LiveGraph {
     {
         let edits = edits_of(alloc, &self.edges, &self.edge_names)?;
         Ok(edits.into_canonical())
+    }
+
+    /// Whether the graph has this canonical list, told without making its own. It may answer false of the graph's own list where a name has
+    /// several edges.
+    pub fn is_listed(&self, alloc: Global, edits: &[Edit]) -> Result<bool, NoMemory>
+        requires { Ascends edits.now }
+        ensures canonical { IfOk result (λ listed. IsTrue listed → IsCanonical (well_formed (state_in self.now)) edits.now) }
+    {
+        are_edits(alloc, &self.edges, &self.edge_names, edits)
     }
 
     /// The edges with this name that are not Absent, in edge order.

@@ -1,4 +1,4 @@
-ghost use Rattle.std.specs.Prelude.{◌≡◌, ◌<◌, ◌||◌, ◌++◌, ◌∷◌, [], length, IfOk, OnOk};
+ghost use Rattle.std.specs.Prelude.{◌≡◌, ◌<◌, ◌≤◌, ◌||◌, ◌++◌, ◌∷◌, [], length, take, IsTrue, IfOk, IfSome, OnOk};
 ghost use Rattle.std.specs.List.{list_any};
 ghost use Rattle.grove_edits.specs.declared.vertex.Vertex.{Vertex};
 ghost use Rattle.grove_edits.specs.Graph.{IsSame, graph, graph_join};
@@ -71,6 +71,50 @@ pub(crate) fn edits_of(
         push_edit(&mut edits, edges, *number as usize)?;
     }
     Ok(edits)
+}
+
+// Behind how many of the edits a walk is with one number more, where it stands behind so many and the edit of the number, if there is one,
+// comes next. None where that does not come next.
+fn step_over(edits: &[Edit], at: usize, edges: &EdgeNumbers, number: usize) -> Option<usize>
+    requires { at ≤ length edits.now }
+    ensures within { IfSome result (λ next. next ≤ length edits.now) }
+    ensures told { IfSome result (λ next. IsSame (graph (take next edits.now)) (graph_join (graph (take at edits.now)) (well_formed (told_at edges.now number)))) }
+{
+    if number >= edges.edge_count() {
+        return Some(at);
+    }
+    let Some(edit) = edit_of(edges.edge(number), edges.state_at(number)) else {
+        return Some(at);
+    };
+    if at < edits.len() && edits[at] == edit {
+        Some(at + 1)
+    } else {
+        None
+    }
+}
+
+/// Whether these are the edits that make the graph, one by one in the order of the names of their edges. It answers false where a name has
+/// several edges and they were numbered in another order.
+pub(crate) fn are_edits(
+    alloc: Global,
+    edges: &EdgeNumbers,
+    names: &NumbersByName,
+    edits: &[Edit],
+) -> Result<bool, NoMemory>
+    requires { HasEdgeNames edges.now names.now }
+    ensures { IfOk result (λ listed. IsTrue listed → IsSame (graph edits.now) (well_formed (state_in edges.now.entries))) }
+{
+    // No edge has two numbers.
+    let _count = edges.edge_count();
+    let numbers = names.in_order(alloc)?;
+    let mut at = 0;
+    for number in &numbers {
+        let Some(next) = step_over(edits, at, edges, *number as usize) else {
+            return Ok(false);
+        };
+        at = next;
+    }
+    Ok(at == edits.len())
 }
 
 fn push_ends(vertices: &mut Vec<Vertex>, edges: &EdgeNumbers, number: usize) -> Result<(), NoMemory>

@@ -13,5 +13,4 @@ pub mod OneCourse
 pub mod GeneratedAlone
 pub mod OnBoards
 pub mod OneSize
-pub mod SameEdits
 pub mod PrintTexts
