@@ -1,6 +1,6 @@
-ghost use Rattle.std.specs.Prelude.{◌≡◌, ◌+◌, ◌<◌, ◌≤◌, ℕ, [], ◌∷◌, ◌++◌, List, IfOk, OnOk, OnErr};
+ghost use Rattle.std.specs.Prelude.{◌≡◌, ◌+◌, ◌<◌, ◌≤◌, ℕ, [], ◌∷◌, ◌++◌, List, IsTrue, IfOk, OnOk, OnErr};
 ghost use Rattle.grove_edits.specs.declared.act_fault.ActFault.{ActFault};
-ghost use Rattle.grove_edits.specs.Graph.{graph, IsCanonical};
+ghost use Rattle.grove_edits.specs.Graph.{graph, Ascends, IsCanonical};
 ghost use Rattle.edge_numbers.specs.Numbered.{state_in};
 ghost use Rattle.live_graph.specs.Live.{live};
 ghost use Rattle.user_actions.specs.Flags.{opening_edges};
@@ -146,6 +146,15 @@ impl Replica {
         ensures content { IsContent self.now }
     {
         Ok(self.graph.in_order(alloc)?)
+    }
+
+    /// Whether the graph has this canonical list, told without making its own. It may answer false of the graph's own list where a name has
+    /// several edges.
+    pub fn is_listed(&self, alloc: Global, edits: &[Edit]) -> Result<bool, NoMemory>
+        requires { Ascends edits.now }
+        ensures list { IfOk result (λ listed. IsTrue listed → edits.now ≡ self.now.edits) }
+    {
+        Ok(self.graph.is_listed(alloc, edits)?)
     }
 
     /// Appends the print text of the graph.

@@ -1,5 +1,5 @@
 ghost use Rattle.std.specs.Prelude.{◌≡◌, ◌<◌, ◌↔◌, ℕ, true, List, length, count_by, IsTrue, IfOk};
-ghost use Rattle.grove_edits.specs.Graph.{graph};
+ghost use Rattle.grove_edits.specs.Graph.{graph, Ascends};
 ghost use Rattle.grove_answers.specs.Texts.{IsPrintText};
 ghost use Rattle.session_script.specs.Session.{IsSession};
 ghost use Rattle.session_report.specs.Legal.{AreLegal};
@@ -103,7 +103,8 @@ fn print_alike(
     edits: &[Edit],
     others: &[Replica],
 ) -> Result<bool, NoMemory>
-    requires { edits.now ≡ first.now.edits }
+    requires list { edits.now ≡ first.now.edits }
+    requires ascends { Ascends edits.now }
     ensures { IfOk result (PrintAlike first.now others.now) }
 {
     for other in others {
@@ -114,29 +115,23 @@ fn print_alike(
     Ok(true)
 }
 
-// Whether another replica prints what the first prints. It does if it has the same canonical list, so only where the lists differ the
-// texts are made.
+// Whether another replica prints what the first prints. It does if it has the same canonical list, so the texts are made only where that
+// is not told.
 fn prints_alike(
     alloc: Global,
     first: &Replica,
     edits: &[Edit],
     other: &Replica,
 ) -> Result<bool, NoMemory>
-    requires { edits.now ≡ first.now.edits }
+    requires list { edits.now ≡ first.now.edits }
+    requires ascends { Ascends edits.now }
     ensures { (text : List ℕ) → IsPrintText (graph first.now.edits) text → IfOk result (λ alike. IsTrue alike ↔ IsPrintText (graph other.now.edits) text) }
 {
-    let own = other.in_order(alloc)?;
-    if are_same(own.as_slice(), edits) {
+    if other.is_listed(alloc, edits)? {
         return Ok(true);
     }
     let text = printed(alloc, first)?;
     prints(alloc, other, &text)
-}
-
-fn are_same(a: &[Edit], b: &[Edit]) -> bool
-    ensures { result ≡ true → a.now ≡ b.now }
-{
-    a == b
 }
 
 fn prints(alloc: Global, replica: &Replica, text: &[u8]) -> Result<bool, NoMemory>

@@ -9,7 +9,7 @@ pub loop-number-preserved : goal.loop-number-preserved
 loop-number-preserved c = (
   c.in-Some.ensures.within,
   made_more c.args.edges.now c.deref-number-items.result.now c.loop-number.number-index (take c.loop-number.at c.args.edits.now) (take c.in-Some.next c.args.edits.now) c.loop-number-test.true
-  c.loop-number.invariant.1 c.in-Some.ensures.told,
+      c.loop-number.invariant.1 c.in-Some.ensures.told,
 )
 
 pub returns : goal.returns
