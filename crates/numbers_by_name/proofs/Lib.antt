@@ -1,2 +1,5 @@
+pub mod Authors
+pub mod Edits
+pub mod Joined
 pub mod Kept
-pub mod Last
+pub mod Places

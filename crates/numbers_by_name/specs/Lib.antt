@@ -1,2 +1,2 @@
 pub mod ByName
-pub mod Kept
+pub mod Counters

@@ -2,9 +2,11 @@
 //! first, each with its numbers. It is for what keeps a graph as lists of numbers, and finds the edges or the vertices with a name.
 #![tactic(auto)]
 
+mod counters;
+mod newest;
 mod no_memory;
 mod numbers_by_name;
-mod start;
+mod others;
 
 pub use no_memory::NoMemory;
 pub use numbers_by_name::NumbersByName;

@@ -1,5 +1,6 @@
 use super::*;
 use grove_names::Name;
+use std::alloc::Global;
 use std::test::Fail;
 
 fn name(author: u32, counter: u64) -> Name {
@@ -63,5 +64,83 @@ fn all_numbers_stand_in_the_order_of_their_names(rt: HostRuntime) -> Result<(), 
         numbers.in_order(alloc)?.as_slice(),
         [7, 6, 0, 5].as_slice()
     );
+    Ok(())
+}
+
+#[test]
+fn counters_of_two_authors_ascend_side_by_side(rt: HostRuntime) -> Result<(), Fail> {
+    let alloc = rt.alloc();
+    let mut numbers = NumbersByName::new(alloc);
+    for (at, number) in [
+        (name(1, 1), 0),
+        (name(2, 1), 1),
+        (name(1, 2), 2),
+        (name(2, 2), 3),
+    ] {
+        numbers.add(at, number)?;
+    }
+    assert_eq!(rt; numbers.with_name(name(1, 2)), [2].as_slice());
+    assert_eq!(rt; numbers.with_name(name(2, 1)), [1].as_slice());
+    assert_eq!(rt;
+        numbers.in_order(alloc)?.as_slice(),
+        [0, 2, 1, 3].as_slice()
+    );
+    Ok(())
+}
+
+// Counters 2 and 6 come after a greater one.
+fn out_of_order(alloc: Global) -> Result<NumbersByName, NoMemory> {
+    let mut numbers = NumbersByName::new(alloc);
+    for (at, number) in [
+        (name(1, 4), 0),
+        (name(1, 8), 1),
+        (name(1, 2), 2),
+        (name(1, 6), 3),
+    ] {
+        numbers.add(at, number)?;
+    }
+    Ok(numbers)
+}
+
+#[test]
+fn a_counter_that_comes_late_is_found(rt: HostRuntime) -> Result<(), Fail> {
+    let numbers = out_of_order(rt.alloc())?;
+    assert_eq!(rt; numbers.with_name(name(1, 2)), [2].as_slice());
+    assert_eq!(rt; numbers.with_name(name(1, 4)), [0].as_slice());
+    assert_eq!(rt; numbers.with_name(name(1, 6)), [3].as_slice());
+    assert_eq!(rt; numbers.with_name(name(1, 7)), [].as_slice());
+    assert_eq!(rt; numbers.with_name(name(1, 9)), [].as_slice());
+    Ok(())
+}
+
+#[test]
+fn a_second_number_stands_behind_the_first(rt: HostRuntime) -> Result<(), Fail> {
+    let mut numbers = out_of_order(rt.alloc())?;
+    numbers.add(name(1, 4), 7)?;
+    numbers.add(name(1, 6), 9)?;
+    assert_eq!(rt; numbers.with_name(name(1, 4)), [0, 7].as_slice());
+    assert_eq!(rt; numbers.with_name(name(1, 6)), [3, 9].as_slice());
+    Ok(())
+}
+
+#[test]
+fn counters_that_come_late_stand_in_order(rt: HostRuntime) -> Result<(), Fail> {
+    let alloc = rt.alloc();
+    let numbers = out_of_order(alloc)?;
+    assert_eq!(rt;
+        numbers.in_order(alloc)?.as_slice(),
+        [2, 0, 3, 1].as_slice()
+    );
+    Ok(())
+}
+
+#[test]
+fn the_last_counter_before_a_bound_may_have_come_late(rt: HostRuntime) -> Result<(), Fail> {
+    let numbers = out_of_order(rt.alloc())?;
+    assert_eq!(rt; numbers.last_before(1, None), Some((8, [1].as_slice())));
+    assert_eq!(rt; numbers.last_before(1, Some(8)), Some((6, [3].as_slice())));
+    assert_eq!(rt; numbers.last_before(1, Some(6)), Some((4, [0].as_slice())));
+    assert_eq!(rt; numbers.last_before(1, Some(4)), Some((2, [2].as_slice())));
+    assert_eq!(rt; numbers.last_before(1, Some(2)), None);
     Ok(())
 }
