@@ -271,8 +271,5 @@ module _ (newest others : Kept) (are : AreCounters newest others) (c number : �
     less : (a b : ℕ) → a ≤ b → (a ≡ b → ⊥) → a < b
     less a b le other = omega arith
 
-  pub are_counters_added : AreCounters newest new
-  are_counters_added = put_in_others newest others are c added.list number added_some added_behind new up added.put absent below_one
-
   pub numbers_added : (q : ℕ) → numbers_at (counts_of newest new) q ≡ with_count c number (numbers_at (counts_of newest others)) q
   numbers_added = numbers_put_in_others newest others are c added.list number added_some added_behind new up added.put absent below_one

@@ -138,9 +138,9 @@ fn counters_that_come_late_stand_in_order(rt: HostRuntime) -> Result<(), Fail> {
 fn the_last_counter_before_a_bound_may_have_come_late(rt: HostRuntime) -> Result<(), Fail> {
     let numbers = out_of_order(rt.alloc())?;
     assert_eq!(rt; numbers.last_before(1, None), Some((8, [1].as_slice())));
-    assert_eq!(rt; numbers.last_before(1, Some(8)), Some((6, [3].as_slice())));
+    assert_eq!(rt; numbers.last_before(1, Some(7)), Some((6, [3].as_slice())));
     assert_eq!(rt; numbers.last_before(1, Some(6)), Some((4, [0].as_slice())));
-    assert_eq!(rt; numbers.last_before(1, Some(4)), Some((2, [2].as_slice())));
+    assert_eq!(rt; numbers.last_before(1, Some(3)), Some((2, [2].as_slice())));
     assert_eq!(rt; numbers.last_before(1, Some(2)), None);
     Ok(())
 }
