@@ -1,47 +1,18 @@
--- What a set of vertices says of their numbers.
-use Rattle.std.proofs.Common.{◌≡◌, ℕ, zero, suc, ◌<◌, Bool, true, false, cond, List, [], ◌∷◌, ◌++◌, length, get_or, slice_get, map, Some, ◌⊎◌, inl, inr, refl, sym, ap, subst, ◌∙◌, arith}
+-- Vertices and their numbers, with one more vertex at a time.
+use Rattle.std.proofs.Common.{Vec, Global, ◌≡◌, ℕ, zero, suc, ◌<◌, Bool, true, false, cond, List, [], ◌∷◌, ◌++◌, length, get_or, slice_get, map, Some, ◌⊎◌, inl, inr, refl, sym, ap, subst, ◌∙◌, arith}
 use Rattle.std.specs.Prelude.{◌||◌, not}
-use Rattle.std.specs.List.{IsDistinct, Contains, list_any}
+use Rattle.std.specs.List.{IsDistinct, Contains}
 use Rattle.std.specs.Option.{option_map}
 use Rattle.std.proofs.lemmas.List.{map-append, length-map}
 use Rattle.std.proofs.lemmas.Option.{slice_get-map, slice_get_within}
 use Rattle.std.proofs.lemmas.List.Elements.{Contains-append_left, Contains-push, Contains-push_cases}
-use Rattle.std.proofs.lemmas.Map.Keys.{apart_from_distinct, IsDistinct-from_apart}
-use Rattle.indexmap.specs.IndexSet.{insert_key}
 use Rattle.grove_edits.specs.declared.vertex.Vertex.{Vertex}
 use Rattle.grove_edits.specs.declared.edit.Edit.{Edit}
 use Rattle.grove_edits.specs.Edit.{edit_edge}
-use Rattle.grove_edits.specs.contracts.vertex.VertexPartialEq.TheImpl as vertex_eq
-use Rattle.grove_edits.specs.Vertex.{is_same_vertex, stands_in}
-use Rattle.grove_edits.proofs.Vertices.{same_vertex_laws, same_vertex_exact, same_vertex_itself, eq_is_same_vertex}
+use Rattle.grove_edits.specs.Vertex.{root, is_same_vertex, stands_in}
+use Rattle.grove_edits.proofs.Vertices.{same_vertex_exact, same_vertex_itself}
 use Rattle.graph_table.specs.Table.{IsEndIn}
 use Rattle.graph_table.specs.Numbering.{with_vertex, sources_of, targets_of, AreNumbersOf, AreNumbered}
-
--- ---- the set's test of vertices
-
-abbrev pub eq : Vertex → Vertex → Bool
-eq = vertex_eq.eq-value.it
-
-pub any_is_stands_in : (keys : List Vertex) (v : Vertex) → list_any (eq v) keys ≡ stands_in v keys
-any_is_stands_in [] v = refl
-any_is_stands_in (k ∷ ks) v =
-    let here : eq v k ≡ is_same_vertex k v = eq_is_same_vertex v k ∙ same_vertex_laws.symm v k in
-    ap (λ b. b || list_any (eq v) ks) here ∙ ap (λ b. is_same_vertex k v || b) (any_is_stands_in ks v)
-
--- the set says that a vertex is new where it did not stand among its vertices
-pub new_where_none : (keys : List Vertex) (v : Vertex) (new : Bool) → new ≡ not (list_any (eq v) keys) → new ≡ not (stands_in v keys)
-new_where_none keys v new is = is ∙ ap not (any_is_stands_in keys v)
-
-pub inserted_is : (keys : List Vertex) (v : Vertex) → insert_key eq keys v ≡ with_vertex v keys
-inserted_is keys v = ap (λ b. cond b keys (keys ++ v ∷ [])) (any_is_stands_in keys v)
-
-pub once_from_set : (keys : List Vertex) → IsDistinct eq keys → IsDistinct is_same_vertex keys
-once_from_set keys once =
-    IsDistinct-from_apart is_same_vertex keys (λ i j d lt within. sym (eq_is_same_vertex (get_or keys i d) (get_or keys j d)) ∙ apart_from_distinct eq keys i j d once lt within)
-
--- a vertex that the set finds equal is the vertex
-pub number_from_set : (keys : List Vertex) (n : ℕ) (v k : Vertex) → slice_get keys n ≡ Some k → eq v k ≡ true → slice_get keys n ≡ Some v
-number_from_set keys n v k is same = is ∙ ap Some (sym (same_vertex_exact v k (sym (eq_is_same_vertex v k) ∙ same)))
 
 -- ---- one more vertex
 
@@ -107,6 +78,33 @@ stood_or_is v w vs stands = by_test (stands_in w vs) stands where
   by_test : (b : Bool) → stands_in v (cond b vs (vs ++ w ∷ [])) ≡ true → (stands_in v vs ≡ true) ⊎ (w ≡ v)
   by_test true stands = inl stands
   by_test false stands = stands_or_last v w vs stands
+
+pub items_of : {a b : Vec ℕ Global} → a ≡ b → a.items ≡ b.items
+items_of e = ap (λ (x : Vec ℕ Global). x.items) e
+
+-- ---- no edits
+
+contained_by_none : (edit : Edit) → Contains [] edit → ⊥
+contained_by_none edit there = omega (arith, there.1)
+
+-- the root alone has a number
+pub numbered_none : (vs : List Vertex) (ss ts : List ℕ) → vs ≡ with_vertex root [] → IsDistinct is_same_vertex vs → ss ≡ [] → ts ≡ [] → AreNumbered [] vs ss ts
+numbered_none vs ss ts first once no_sources no_targets =
+    subst (λ us. AreNumbered [] us ss ts) (sym first) (subst (λ ns. AreNumbered [] (root ∷ []) ns ts) (sym no_sources) (subst (AreNumbered [] (root ∷ []) []) (sym no_targets) (record {
+      numbers = record { once = subst (IsDistinct is_same_vertex) first once; each = each; no_other = no_other };
+      source_numbers = refl;
+      target_numbers = refl;
+    })))
+  where
+    each : (v : Vertex) → IsEndIn [] v → stands_in v (root ∷ []) ≡ true
+    each v (inl is) = subst (λ w. stands_in w (root ∷ []) ≡ true) (sym is) (now_stands root [])
+    each v (inr end) = absurd (contained_by_none end.0 end.1)
+
+    no_other : (v : Vertex) → stands_in v (root ∷ []) ≡ true → IsEndIn [] v
+    no_other v stands = by_end (stood_or_is v root [] stands) where
+      by_end : (stands_in v [] ≡ true) ⊎ (root ≡ v) → IsEndIn [] v
+      by_end (inl before) = absurd cc
+      by_end (inr is) = inl (sym is)
 
 -- ---- numbers of vertices
 

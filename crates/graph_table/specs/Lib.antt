@@ -1,6 +1,7 @@
 pub mod Table
 pub mod Named
 pub mod Homes
+pub mod Narrow
 pub mod Numbering
 pub mod Around
 pub mod Chain

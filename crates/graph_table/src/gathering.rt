@@ -81,8 +81,8 @@ pub(crate) fn gather(
     edits: &[Edit],
     numbering: &Numbering,
 ) -> Result<Gathered, NoMemory>
-    requires { AreNumbered edits.now numbering.now.numbers.keys numbering.now.sources.items numbering.now.targets.items }
-    ensures { IfOk result (λ gathered. AreAround gathered.links.items gathered.around.items (map (neighbours edits.now) numbering.now.numbers.keys)) }
+    requires { AreNumbered edits.now numbering.now.numbers numbering.now.sources.items numbering.now.targets.items }
+    ensures { IfOk result (λ gathered. AreAround gathered.links.items gathered.around.items (map (neighbours edits.now) numbering.now.numbers)) }
 {
     want_indices(edits)?;
     let mut around = nothing_around(alloc, numbering.numbers.len())?;

@@ -10,10 +10,12 @@ mod home;
 mod link;
 mod named_vertex;
 mod narrow_parents;
+mod narrow_vertex;
 mod no_memory;
 mod numbering;
 mod ordering;
 mod parents;
+mod vertex_numbers;
 
 pub use graph_table::GraphTable;
 pub use no_memory::NoMemory;

@@ -7,15 +7,15 @@ ghost use Rattle.graph_table.specs.Homes.{vertex_in, AreHomes};
 
 use crate::home::Home;
 use crate::no_memory::NoMemory;
+use crate::vertex_numbers::VertexNumbers;
 use grove_edits::{Edit, Vertex};
-use indexmap::IndexSet;
 use seeded_hash::HashSeed;
 use std::alloc::Global;
 
 /// The vertices of some edits by number, where each stands, and the numbers of the ends of each edit, in order.
 #[derive(Drop)]
 pub(crate) struct Numbering {
-    pub(crate) numbers: IndexSet<Vertex, HashSeed>,
+    pub(crate) numbers: VertexNumbers,
     /// The root, and the vertices that were numbered first as a source, which stand whole nowhere else.
     pub(crate) own: Vec<Vertex>,
     pub(crate) homes: Vec<Home>,
@@ -23,31 +23,14 @@ pub(crate) struct Numbering {
     pub(crate) targets: Vec<u32>,
 }
 
-/// The number of a vertex, which gets the next one where it has none, and whether it had none.
-fn number_of(
-    numbers: &mut IndexSet<Vertex, HashSeed>,
-    vertex: Vertex,
-) -> Result<(u32, bool), NoMemory>
-    ensures number { IfOk result (λ found. slice_get numbers.new.keys found.0 ≡ Some vertex) }
-    ensures vertices { OnOk result (numbers.new.keys ≡ with_vertex vertex numbers.old.keys) }
-    ensures once { OnOk result (IsDistinct is_same_vertex numbers.new.keys) }
-    ensures new { IfOk result (λ found. found.1 ≡ not (stands_in vertex numbers.old.keys)) }
-{
-    let (index, is_new) = numbers.insert_full(vertex)?;
-    let Ok(number) = u32::try_from(index) else {
-        return Err(NoMemory);
-    };
-    Ok((number, is_new))
-}
-
 impl Numbering {
     /// The numbering of no edits, with room for so many.
     fn of_none(alloc: Global, count: usize, seed: HashSeed) -> Result<Numbering, NoMemory>
-        ensures numbered { IfOk result (λ n. AreNumbered [] n.numbers.keys n.sources.items n.targets.items) }
-        ensures homes { IfOk result (λ n. (edits : List Edit) → AreHomes edits n.own.items n.homes.items n.numbers.keys) }
+        ensures numbered { IfOk result (λ n. AreNumbered [] n.numbers n.sources.items n.targets.items) }
+        ensures homes { IfOk result (λ n. (edits : List Edit) → AreHomes edits n.own.items n.homes.items n.numbers) }
     {
         let mut numbering = Numbering {
-            numbers: IndexSet::with_capacity_and_hasher(alloc, count.saturating_add(1), seed)?,
+            numbers: VertexNumbers::with_capacity(alloc, count.saturating_add(1), seed)?,
             own: Vec::new(alloc),
             homes: Vec::new(alloc),
             sources: Vec::with_capacity(alloc, count)?,
@@ -59,15 +42,15 @@ impl Numbering {
 
     /// The number of a vertex that is the source of an edit, or the root. Where it is new, it is kept.
     fn number_source(&mut self, vertex: Vertex) -> Result<u32, NoMemory>
-        ensures number { IfOk result (λ number. slice_get self.new.numbers.keys number ≡ Some vertex) }
-        ensures vertices { OnOk result (self.new.numbers.keys ≡ with_vertex vertex self.old.numbers.keys) }
-        ensures once { OnOk result (IsDistinct is_same_vertex self.new.numbers.keys) }
-        ensures homes { OnOk result ((edits : List Edit) → AreHomes edits self.old.own.items self.old.homes.items self.old.numbers.keys
-            → AreHomes edits self.new.own.items self.new.homes.items self.new.numbers.keys) }
+        ensures number { IfOk result (λ number. slice_get self.new.numbers number ≡ Some vertex) }
+        ensures vertices { OnOk result (self.new.numbers ≡ with_vertex vertex self.old.numbers) }
+        ensures once { OnOk result (IsDistinct is_same_vertex self.new.numbers) }
+        ensures homes { OnOk result ((edits : List Edit) → AreHomes edits self.old.own.items self.old.homes.items self.old.numbers
+            → AreHomes edits self.new.own.items self.new.homes.items self.new.numbers) }
         ensures sources { self.new.sources ≡ self.old.sources }
         ensures targets { self.new.targets ≡ self.old.targets }
     {
-        let (number, is_new) = number_of(&mut self.numbers, vertex)?;
+        let (number, is_new) = self.numbers.number_of(&vertex)?;
         if !is_new {
             return Ok(number);
         }
@@ -81,15 +64,15 @@ impl Numbering {
 
     /// The number of a vertex that is the target of the edit with an index. Where it is new, it stands there.
     fn number_target(&mut self, vertex: &Vertex, at: u32) -> Result<u32, NoMemory>
-        ensures number { IfOk result (λ number. slice_get self.new.numbers.keys number ≡ Some vertex.now) }
-        ensures vertices { OnOk result (self.new.numbers.keys ≡ with_vertex vertex.now self.old.numbers.keys) }
-        ensures once { OnOk result (IsDistinct is_same_vertex self.new.numbers.keys) }
+        ensures number { IfOk result (λ number. slice_get self.new.numbers number ≡ Some vertex.now) }
+        ensures vertices { OnOk result (self.new.numbers ≡ with_vertex vertex.now self.old.numbers) }
+        ensures once { OnOk result (IsDistinct is_same_vertex self.new.numbers) }
         ensures homes { OnOk result ((edits : List Edit) → vertex_in edits self.old.own.items (Home.Target at) ≡ Some vertex.now
-            → AreHomes edits self.old.own.items self.old.homes.items self.old.numbers.keys → AreHomes edits self.new.own.items self.new.homes.items self.new.numbers.keys) }
+            → AreHomes edits self.old.own.items self.old.homes.items self.old.numbers → AreHomes edits self.new.own.items self.new.homes.items self.new.numbers) }
         ensures sources { self.new.sources ≡ self.old.sources }
         ensures targets { self.new.targets ≡ self.old.targets }
     {
-        let (number, is_new) = number_of(&mut self.numbers, *vertex)?;
+        let (number, is_new) = self.numbers.number_of(vertex)?;
         if !is_new {
             return Ok(number);
         }
@@ -99,10 +82,10 @@ impl Numbering {
 
     /// Numbers the ends of one more edit, which has an index.
     fn add(&mut self, edit: &Edit, index: usize) -> Result<(), NoMemory>
-        ensures numbered { OnOk result ((edits : List Edit) → AreNumbered edits self.old.numbers.keys self.old.sources.items self.old.targets.items
-            → AreNumbered (edits ++ edit.now ∷ []) self.new.numbers.keys self.new.sources.items self.new.targets.items) }
+        ensures numbered { OnOk result ((edits : List Edit) → AreNumbered edits self.old.numbers self.old.sources.items self.old.targets.items
+            → AreNumbered (edits ++ edit.now ∷ []) self.new.numbers self.new.sources.items self.new.targets.items) }
         ensures homes { OnOk result ((edits : List Edit) → slice_get edits index ≡ Some edit.now
-            → AreHomes edits self.old.own.items self.old.homes.items self.old.numbers.keys → AreHomes edits self.new.own.items self.new.homes.items self.new.numbers.keys) }
+            → AreHomes edits self.old.own.items self.old.homes.items self.old.numbers → AreHomes edits self.new.own.items self.new.homes.items self.new.numbers) }
     {
         let Ok(at) = u32::try_from(index) else {
             return Err(NoMemory);
@@ -115,8 +98,8 @@ impl Numbering {
     }
 
     pub(crate) fn of(alloc: Global, edits: &[Edit], seed: HashSeed) -> Result<Numbering, NoMemory>
-        ensures numbered { IfOk result (λ n. AreNumbered edits.now n.numbers.keys n.sources.items n.targets.items) }
-        ensures homes { IfOk result (λ n. AreHomes edits.now n.own.items n.homes.items n.numbers.keys) }
+        ensures numbered { IfOk result (λ n. AreNumbered edits.now n.numbers n.sources.items n.targets.items) }
+        ensures homes { IfOk result (λ n. AreHomes edits.now n.own.items n.homes.items n.numbers) }
     {
         let mut numbering = Numbering::of_none(alloc, edits.len(), seed)?;
         for index in 0..edits.len() {

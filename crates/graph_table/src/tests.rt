@@ -1,7 +1,7 @@
 use super::*;
 use grove_edits::{Edge, Edit, EditKind, EditList, Vertex};
 use grove_names::Name;
-use grove_sorts::{Ctor, Position};
+use grove_sorts::{Ctor, Position, Version, read_ident};
 use std::alloc::Global;
 use std::test::Fail;
 
@@ -119,5 +119,77 @@ fn children_are_in_edge_order(rt: HostRuntime) -> Result<(), Fail> {
     }
     table.children(root, Position::Left, &mut out)?;
     assert!(rt; out.is_empty());
+    Ok(())
+}
+
+// A sum with four children on its left: a variable twice, another variable of the same name, and a function whose body is the sum.
+fn variables(alloc: Global) -> Result<GraphTable, Fail> {
+    let plus = vertex(1, Ctor::Plus);
+    let lam = vertex(8, Ctor::Lam);
+    let x = vertex(9, Ctor::Var(read_ident(Version::Two, b"x")?));
+    let y = vertex(9, Ctor::Var(read_ident(Version::Two, b"y")?));
+    let mut list = EditList::new(alloc);
+    list.extend_from_slice(&[
+        edit(EditKind::Insert, 10, Vertex::ROOT, Position::Main, plus)?,
+        edit(EditKind::Insert, 11, plus, Position::Left, x)?,
+        edit(EditKind::Insert, 12, plus, Position::Left, y)?,
+        edit(EditKind::Insert, 13, plus, Position::Left, x)?,
+        edit(EditKind::Insert, 14, lam, Position::Body, plus)?,
+        edit(EditKind::Insert, 15, plus, Position::Left, lam)?,
+    ])?;
+    Ok(GraphTable::of(alloc, list.into_canonical())?)
+}
+
+#[test]
+fn a_vertex_has_one_number_wherever_it_stands(rt: HostRuntime) -> Result<(), Fail> {
+    let table = variables(rt.alloc())?;
+    assert_eq!(rt; table.number_count(), 5);
+    let plus = 1;
+    assert_eq!(rt; *table.vertex(plus), vertex(1, Ctor::Plus));
+    let mut left = Vec::new(rt.alloc());
+    table.children(plus, Position::Left, &mut left)?;
+    assert_eq!(rt; left.as_slice(), [1, 2, 3, 5].as_slice());
+    for index in &left {
+        let target = table.target(*index);
+        assert_eq!(rt; table.source(*index), plus);
+        assert_eq!(rt; table.vertex(target), table.edit_ref(*index).target());
+    }
+    // The variable that stands twice, and the one that shares its name.
+    assert_eq!(rt; table.target(1), table.target(3));
+    assert!(rt; table.target(1) != table.target(2));
+    // The function is a source before it is a target, and the sum a target before it is a source.
+    let lam = table.target(5);
+    let mut body = Vec::new(rt.alloc());
+    table.children(lam, Position::Body, &mut body)?;
+    assert_eq!(rt; body.as_slice(), [4].as_slice());
+    assert_eq!(rt; table.target(4), plus);
+    Ok(())
+}
+
+#[test]
+fn names_that_follow_each_other_have_numbers_of_their_own(rt: HostRuntime) -> Result<(), Fail> {
+    let mut list = EditList::new(rt.alloc());
+    for counter in 1..=40 {
+        for ctor in [Ctor::Plus, Ctor::Fst, Ctor::Num(7), Ctor::Num(8)] {
+            let target = vertex(counter, ctor);
+            list.push(edit(
+                EditKind::Insert,
+                100 + counter,
+                Vertex::ROOT,
+                Position::Main,
+                target,
+            )?)?;
+        }
+    }
+    let table = GraphTable::of(rt.alloc(), list.into_canonical())?;
+    assert_eq!(rt; table.number_count(), 161);
+    let root = 0;
+    let mut out = Vec::new(rt.alloc());
+    table.children(root, Position::Main, &mut out)?;
+    assert_eq!(rt; out.len(), 160);
+    for index in &out {
+        let target = table.target(*index);
+        assert_eq!(rt; table.vertex(target), table.edit_ref(*index).target());
+    }
     Ok(())
 }

@@ -11,9 +11,9 @@ use Rattle.graph_table.proofs.gathering.gather.Goals as goal
 
 pub loop-index-init : goal.loop-index-init
 loop-index-init c =
-    let vs = c.args.numbering.now.numbers.keys in
+    let vs = c.args.numbering.now.numbers in
     let empty = c.in_ok-links.ensures.items in
-    let count = c.in_ok-around.ensures ∙ ap (λ n. replicate n no_ends) c.len.ensures.len in
+    let count = c.in_ok-around.ensures ∙ ap (λ n. replicate n no_ends) c.len.ensures in
     record {
       count = ap length empty;
       kept = subst (λ es. AreAround c.in_ok-links.links.items es (map (neighbours []) vs)) (sym count)
@@ -22,7 +22,7 @@ loop-index-init c =
 
 pub link-requires : goal.link-requires
 link-requires c =
-    let vs = c.args.numbering.now.numbers.keys in
+    let vs = c.args.numbering.now.numbers in
     let here = slice_get_read c.args.edits.now (length c.args.edits.now) c.loop-index.index c.index-edits-index.result refl c.loop-index-test.true c.index-edits-index.is in
     let at = end_numbered _ vs c.args.numbering.now.sources.items c.args.edits.now c.requires.source_numbers c.loop-index.index c.index.result.now c.index-edits-index.result here c.index.ensures in
     let within = number_within _ c.loop-index.links.items vs c.loop-index.around.items c.index.result.now _ at c.loop-index.invariant.kept in
@@ -30,7 +30,7 @@ link-requires c =
 
 pub note-requires-clause-source : goal.note-requires-clause-source
 note-requires-clause-source c =
-    let vs = c.args.numbering.now.numbers.keys in
+    let vs = c.args.numbering.now.numbers in
     let here = slice_get_read c.args.edits.now (length c.args.edits.now) c.loop-index.index c.index-edits-index.result refl c.loop-index-test.true c.index-edits-index.is in
     let at = end_numbered _ vs c.args.numbering.now.sources.items c.args.edits.now c.requires.source_numbers c.loop-index.index c.index.result.now c.index-edits-index.result here c.index.ensures in
     let within = number_within _ c.loop-index.links.items vs c.loop-index.around.items c.index.result.now _ at c.loop-index.invariant.kept in
@@ -38,7 +38,7 @@ note-requires-clause-source c =
 
 pub note-requires-clause-target : goal.note-requires-clause-target
 note-requires-clause-target c =
-    let vs = c.args.numbering.now.numbers.keys in
+    let vs = c.args.numbering.now.numbers in
     let here = slice_get_read c.args.edits.now (length c.args.edits.now) c.loop-index.index c.index-edits-index.result refl c.loop-index-test.true c.index-edits-index.is in
     let at = end_numbered _ vs c.args.numbering.now.targets.items c.args.edits.now c.requires.target_numbers c.loop-index.index c.index-in-loop-index.result.now c.index-edits-index.result here c.index-in-loop-index.ensures in
     let within = number_within _ c.loop-index.links.items vs c.loop-index.around.items c.index-in-loop-index.result.now _ at c.loop-index.invariant.kept in
@@ -48,7 +48,7 @@ pub loop-index-preserved : goal.loop-index-preserved
 loop-index-preserved c =
     let edits = c.args.edits.now in
     let edit = c.index-edits-index.result in
-    let vs = c.args.numbering.now.numbers.keys in
+    let vs = c.args.numbering.now.numbers in
     let i = c.loop-index.index in
     let s = c.index.result.now in
     let t = c.index-in-loop-index.result.now in

@@ -9,5 +9,5 @@ pub invariant_of-result : goal.invariant_of-result
 invariant_of-result c =
     let numbering = c.in_ok-numbering.numbering in
     let gathered = c.in_ok-around.field-0 in
-    table_of c.args.edits c.as_slice.result.now c.as_slice-2.result.now numbering.own.items numbering.homes.items numbering.numbers.keys numbering.sources.items numbering.targets.items gathered.links.items gathered.around.items
+    table_of c.args.edits c.as_slice.result.now c.as_slice-2.result.now numbering.own.items numbering.homes.items numbering.numbers numbering.sources.items numbering.targets.items gathered.links.items gathered.around.items
     c.as_slice.ensures c.as_slice-2.ensures c.requires c.in_ok-numbering.ensures.numbered c.in_ok-numbering.ensures.homes c.in_ok-around.ensures

@@ -1,10 +1,7 @@
-use Rattle.std.proofs.Common.{◌≡◌, ◌∙◌, ap, ◌++◌, ◌∷◌, [], List, ℕ, Vec, Global, rules}
+use Rattle.std.proofs.Common.{◌≡◌, ◌∙◌, ap, ◌++◌, ◌∷◌, [], List, ℕ, rules}
 use Rattle.graph_table.proofs.Homes.{target_home}
-use Rattle.graph_table.proofs.Numbers.{numbered_next}
+use Rattle.graph_table.proofs.Numbers.{numbered_next, items_of}
 use Rattle.graph_table.proofs.numbering.Numbering.add.Goals as goal
-
-items_of : {a b : Vec ℕ Global} → a ≡ b → a.items ≡ b.items
-items_of e = ap (λ (x : Vec ℕ Global). x.items) e
 
 pub returns-clause-numbered : goal.returns-clause-numbered
 returns-clause-numbered c edits are =
@@ -13,7 +10,7 @@ returns-clause-numbered c edits are =
     let target = c.in_ok-target.ensures in
     let sources = items_of (target.sources ∙ source.sources) in
     let targets = items_of (target.targets ∙ source.targets) in
-    numbered_next edits c.args.edit.now c.source.result c.target.result.now old.numbers.keys c.number_source.new.self.numbers.keys c.number_target.new.self.numbers.keys
+    numbered_next edits c.args.edit.now c.source.result c.target.result.now old.numbers c.number_source.new.self.numbers c.number_target.new.self.numbers
     old.sources.items old.targets.items c.push.new.self.items c.push-2.new.self.items c.in_ok-source.source c.in_ok-target.target
     c.source.ensures c.target.ensures source.vertices source.number target.vertices target.number target.once
     (c.in_ok-push.ensures.items ∙ ap (λ (ns : List ℕ). ns ++ c.in_ok-source.source ∷ []) sources) (c.in_ok-push-2.ensures.items ∙ ap (λ (ns : List ℕ). ns ++ c.in_ok-target.target ∷ []) targets) are

@@ -8,5 +8,5 @@ returns-clause-homes c edits are =
     let number = c.in_ok-number.ensures in
     let last : c.in-Ok.at ≡ length old.own.items = search rules in
     let new : c.in_ok-number.is_new ≡ true = search rules in
-    source_homed edits c.args.vertex old.own.items c.push.new.self.items old.numbers.keys c.number_of.new.numbers.keys old.homes.items c.push-2.new.self.items c.in-Ok.at c.in_ok-number.is_new
+    source_homed edits c.args.vertex old.own.items c.push.new.self.items old.numbers c.number_of.new.self old.homes.items c.push-2.new.self.items c.in-Ok.at c.in_ok-number.is_new
     number.vertices number.new new c.in_ok-push.ensures.items c.in_ok-push-2.ensures.items last are

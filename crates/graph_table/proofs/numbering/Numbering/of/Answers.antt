@@ -16,7 +16,7 @@ loop-index-preserved c =
     let numbering = c.add.new.self in
     let more = take_more edits index edit c.loop-index-test.true ∙ ap (λ (e : Edit). take index edits ++ e ∷ []) (sym c.index-edits-index.is) in
     record {
-      numbered = subst (λ (es : List Edit). AreNumbered es numbering.numbers.keys numbering.sources.items numbering.targets.items) (sym more)
+      numbered = subst (λ (es : List Edit). AreNumbered es numbering.numbers numbering.sources.items numbering.targets.items) (sym more)
           (c.in_ok-add.ensures.numbered (take index edits) c.loop-index.invariant.numbered);
       homes = c.in_ok-add.ensures.homes edits (slice_get_read edits (length edits) index edit refl c.loop-index-test.true c.index-edits-index.is) c.loop-index.invariant.homes;
     }
