@@ -53,15 +53,18 @@ eq = narrow_eq.eq-value.it
 
 ctor_itself : (a : NarrowCtor) → narrow_ctor_eq.eq-value.it a a ≡ true
 ctor_itself (narrow.Branch b) = branch_itself b
+ctor_itself (narrow.Short n) = search rules
 ctor_itself (narrow.Leaf n) = search rules
 
 ctor_exact : (a b : NarrowCtor) → narrow_ctor_eq.eq-value.it a b ≡ true → a ≡ b
 ctor_exact (narrow.Branch a) (narrow.Branch b) same = ap narrow.Branch (branch_exact a b same)
-ctor_exact (narrow.Branch a) (narrow.Leaf n) same = absurd cc
-ctor_exact (narrow.Leaf m) (narrow.Branch b) same = absurd cc
+ctor_exact (narrow.Short m) (narrow.Short n) same =
+    let one : m ≡ n = search rules in
+    ap narrow.Short one
 ctor_exact (narrow.Leaf m) (narrow.Leaf n) same =
     let one : m ≡ n = search rules in
     ap narrow.Leaf one
+ctor_exact _ _ same = absurd cc
 
 pub itself : (a : NarrowVertex) → eq a a ≡ true
 itself a =

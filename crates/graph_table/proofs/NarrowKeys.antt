@@ -29,10 +29,12 @@ read_stays (x ∷ before) more (suc n) within = read_stays before more n (omega 
 
 ctor_stays : (before more : List Ctor) (ctor : NarrowCtor) → IsMet before ctor → ctor_of (before ++ more) ctor ≡ ctor_of before ctor
 ctor_stays before more (narrow.Branch b) met = refl
+ctor_stays before more (narrow.Short n) met = refl
 ctor_stays before more (narrow.Leaf n) met = read_stays before more n met
 
 met_stays : (before more : List Ctor) (ctor : NarrowCtor) → IsMet before ctor → IsMet (before ++ more) ctor
 met_stays before more (narrow.Branch b) met = tt
+met_stays before more (narrow.Short n) met = met
 met_stays before more (narrow.Leaf n) met = omega (arith, length-append before more, met)
 
 all_met : (before more : List Ctor) (keys : List NarrowVertex) → AllByRecursion (HasLeaf before) keys → AllByRecursion (HasLeaf (before ++ more)) keys

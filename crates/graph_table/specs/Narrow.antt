@@ -1,23 +1,29 @@
 -- Inner model, which no public contract cites: vertices by narrow keys, in which a leaf is told by its number among those that were met.
-use Rattle.std.specs.Prelude.{◌≡◌, ◌<◌, ◌++◌, List, [], length, map, slice_index_or}
+use Rattle.std.specs.Prelude.{◌≡◌, ◌<◌, ◌^◌, ◌++◌, Bool, false, nat_lt, List, [], length, map, slice_index_or}
 use Rattle.std.specs.List.{AllByRecursion, IsDistinct}
 use Rattle.grove_sorts.specs.declared.ctor.Ctor.{Ctor}
-use Rattle.grove_sorts.specs.declared.ctor.Ctor.TheVariants.{Root}
+use Rattle.grove_sorts.specs.declared.ctor.Ctor.TheVariants.{Root, Num}
 use Rattle.grove_sorts.specs.Ctor.{positions}
 use Rattle.grove_sorts.specs.Branch.{branch_ctor}
 use Rattle.grove_edits.specs.declared.vertex.Vertex.{Vertex}
 use Rattle.grove_edits.specs.Vertex.{is_same_vertex}
 use Rattle.graph_table.specs.declared.narrow_vertex.NarrowCtor.{NarrowCtor}
-use Rattle.graph_table.specs.declared.narrow_vertex.NarrowCtor.TheVariants.{Branch, Leaf}
+use Rattle.graph_table.specs.declared.narrow_vertex.NarrowCtor.TheVariants.{Branch, Short, Leaf}
 use Rattle.graph_table.specs.declared.narrow_vertex.NarrowVertex.{NarrowVertex}
 
--- a constructor that has no positions
+-- a literal that stands in a key itself
+abbrev pub is_short : Ctor → Bool
+is_short (Num n) = nat_lt n (2 ^ 32)
+is_short _ = false
+
+-- a constructor that has no positions, and is no such literal
 abbrev pub IsLeaf : Ctor → Type 0
-IsLeaf ctor = positions ctor ≡ []
+IsLeaf ctor = (positions ctor ≡ []) × (is_short ctor ≡ false)
 
 -- the constructor that a narrow one stands for
 abbrev pub ctor_of : List Ctor → NarrowCtor → Ctor
 ctor_of leaves (Branch branch) = branch_ctor branch
+ctor_of leaves (Short n) = Num n
 ctor_of leaves (Leaf n) = slice_index_or leaves n Root
 
 -- the vertex that a key stands for
@@ -28,9 +34,10 @@ vertex_of leaves key = record { name = key.name; ctor = ctor_of leaves key.ctor 
 abbrev pub vertices_of_keys : List Ctor → List NarrowVertex → List Vertex
 vertices_of_keys leaves keys = map (vertex_of leaves) keys
 
--- a leaf was met
+-- where the constructor is that of a leaf, this was met
 abbrev pub IsMet : List Ctor → NarrowCtor → Type 0
 IsMet leaves (Branch branch) = Unit {0}
+IsMet leaves (Short n) = n < 2 ^ 32
 IsMet leaves (Leaf n) = n < length leaves
 
 -- where the key is that of a leaf, this was met

@@ -2,10 +2,12 @@ use grove_names::Name;
 use grove_sorts::Branch;
 use std::hash::{Hash, Hasher};
 
-/// A constructor in a few bytes: a branch, or a leaf by its number among those that were met. A leaf with an identifier is wide.
+/// A constructor in a few bytes: a branch, a literal that is short, or another leaf by its number among those that were met. A leaf with
+/// an identifier is wide.
 #[derive(Clone, Copy, PartialEq, Eq, Hash)]
 pub(crate) enum NarrowCtor {
     Branch(Branch),
+    Short(u32),
     Leaf(u32),
 }
 

@@ -170,7 +170,13 @@ fn a_vertex_has_one_number_wherever_it_stands(rt: HostRuntime) -> Result<(), Fai
 fn names_that_follow_each_other_have_numbers_of_their_own(rt: HostRuntime) -> Result<(), Fail> {
     let mut list = EditList::new(rt.alloc());
     for counter in 1..=40 {
-        for ctor in [Ctor::Plus, Ctor::Fst, Ctor::Num(7), Ctor::Num(8)] {
+        // The last literal has the same lower half as the first.
+        for ctor in [
+            Ctor::Plus,
+            Ctor::Fst,
+            Ctor::Num(7),
+            Ctor::Num(0x1_0000_0007),
+        ] {
             let target = vertex(counter, ctor);
             list.push(edit(
                 EditKind::Insert,

@@ -1,10 +1,11 @@
-ghost use Rattle.std.specs.Prelude.{◌≡◌, ℕ, ◌<◌, ◌^◌, [], Some, length, slice_get, not, IfOk, OnOk, OnErr};
+ghost use Rattle.std.specs.Prelude.{◌≡◌, ℕ, ◌<◌, ◌^◌, [], Some, length, slice_get, not, false, IfSome, IfNone, IfOk, OnOk, OnErr};
 ghost use Rattle.std.specs.List.{AllByRecursion, IsDistinct, list_any};
 ghost use Rattle.indexmap.specs.IndexSet.{insert_key};
 ghost use Rattle.grove_edits.specs.Vertex.{is_same_vertex, stands_in};
 ghost use Rattle.graph_table.specs.declared.narrow_vertex.NarrowVertex.{NarrowVertex};
 ghost use Rattle.graph_table.specs.Numbering.{with_vertex};
-ghost use Rattle.graph_table.specs.Narrow.{vertex_of, IsLeaf, HasLeaf, BeginsWith};
+ghost use Rattle.graph_table.specs.declared.narrow_vertex.NarrowCtor.{NarrowCtor};
+ghost use Rattle.graph_table.specs.Narrow.{ctor_of, vertex_of, is_short, IsLeaf, IsMet, HasLeaf, BeginsWith};
 
 use crate::narrow_vertex::{NarrowCtor, NarrowVertex};
 use crate::no_memory::NoMemory;
@@ -52,6 +53,36 @@ fn leaf_number(leaves: &mut IndexSet<Ctor, HashSeed>, leaf: &Ctor) -> Result<u32
     Ok(number)
 }
 
+/// The literal that a constructor is, where it is short.
+fn short_literal(ctor: &Ctor) -> Option<u32>
+    ensures short { IfSome result (λ literal. ctor.now ≡ Ctor.Num literal) }
+    ensures none { IfNone result (is_short ctor.now ≡ false) }
+{
+    match ctor {
+        Ctor::Num(literal) => u32::try_from(*literal).ok(),
+        _ => None,
+    }
+}
+
+/// A constructor in a few bytes. Where it is a leaf that was not met, it is from then on.
+fn narrow_ctor(leaves: &mut IndexSet<Ctor, HashSeed>, ctor: &Ctor) -> Result<NarrowCtor, NoMemory>
+    requires { AllByRecursion IsLeaf leaves.old.keys }
+    ensures met { IfOk result (IsMet leaves.new.keys) }
+    ensures ctor { IfOk result (λ narrow. ctor_of leaves.new.keys narrow ≡ ctor.now) }
+    ensures only { IfOk result (λ narrow. (other : NarrowCtor) → IsMet leaves.new.keys other → ctor_of leaves.new.keys other ≡ ctor.now → other ≡ narrow) }
+    ensures leaves { AllByRecursion IsLeaf leaves.new.keys }
+    ensures stay { BeginsWith leaves.new.keys leaves.old.keys }
+{
+    if let Some(literal) = short_literal(ctor) {
+        return Ok(NarrowCtor::Short(literal));
+    }
+    if let Some(branch) = Branch::of(ctor) {
+        return Ok(NarrowCtor::Branch(branch));
+    }
+    let number = leaf_number(leaves, ctor)?;
+    Ok(NarrowCtor::Leaf(number))
+}
+
 /// The key of a vertex. Where it is a leaf that was not met, it is from then on.
 fn key_of(leaves: &mut IndexSet<Ctor, HashSeed>, vertex: &Vertex) -> Result<NarrowVertex, NoMemory>
     requires { AllByRecursion IsLeaf leaves.old.keys }
@@ -61,10 +92,7 @@ fn key_of(leaves: &mut IndexSet<Ctor, HashSeed>, vertex: &Vertex) -> Result<Narr
     ensures leaves { AllByRecursion IsLeaf leaves.new.keys }
     ensures stay { BeginsWith leaves.new.keys leaves.old.keys }
 {
-    let ctor = match Branch::of(&vertex.ctor) {
-        Some(branch) => NarrowCtor::Branch(branch),
-        None => NarrowCtor::Leaf(leaf_number(leaves, &vertex.ctor)?),
-    };
+    let ctor = narrow_ctor(leaves, &vertex.ctor)?;
     Ok(NarrowVertex {
         name: vertex.name,
         ctor,
