@@ -1,4 +1,4 @@
-ghost use Rattle.std.specs.Prelude.{◌≡◌, IfOk, OnOk, count_by};
+ghost use Rattle.std.specs.Prelude.{◌≡◌, IfOk, count_by};
 ghost use Rattle.grove_edits.specs.Graph.{graph, Ascends};
 ghost use Rattle.grove_terms.specs.Lent.{what_of};
 ghost use Rattle.grove_answers.specs.Counts.{AreCounts, is_conflict, with_trees, with_nodes};

@@ -1,6 +1,5 @@
 ghost use Rattle.std.specs.Prelude.{◌≡◌, ◌+◌, ◌-◌, List, ◌∷◌, ◌++◌, [], length, set, slice_get, Some, IfOk, OnOk, IfSome};
 ghost use Rattle.std.specs.Option.{option_map};
-ghost use Rattle.grove_sorts.specs.Ctor.{sort_of_ctor};
 ghost use Rattle.grove_terms.specs.declared.node.LentNode.{LentNode};
 ghost use Rattle.grove_terms.specs.Lent.{node_of, what_of};
 ghost use Rattle.type_core.specs.Typ.{Typ};
