@@ -1,6 +1,6 @@
 ghost use Rattle.std.specs.Prelude.{List, IfOk};
 ghost use Rattle.type_core.specs.Typ.{Typ};
-ghost use Rattle.marking.specs.Numbers.{IsMarkedNodeOf, AreMarkedNodesOf, IsMarkedGroveOf};
+ghost use Rattle.marking.specs.Numbers.{IsAddedOf, AreMarkedNodesOf, IsMarkedGroveOf};
 
 use super::*;
 use grove_edits::{Edge, Vertex};
@@ -8,7 +8,7 @@ use grove_names::Name;
 use grove_sorts::{Ctor, Position, Sort};
 use grove_terms::{LentEdge, LentNode, LentWhat};
 use mark_step::{Mark, Mode};
-use marking::{MarkedGrove, MarkedNode, MarkedTree, MarkedTreeList};
+use marking::{Added, MarkedGrove, MarkedTree, MarkedTreeList};
 use std::alloc::Global;
 use std::test::Fail;
 use type_core::TypeTable;
@@ -29,36 +29,32 @@ fn head_of(vertex: &Vertex) -> LentNode<'_> {
     }
 }
 
-// The tree of the root and another node.
-fn tree_of<'t>(
+// The tree of two nodes, to the first of which nothing is added.
+fn tree_of<'n, 't>(
     alloc: Global,
-    root: LentNode<'t>,
-    node: MarkedNode<'t>,
-) -> Result<MarkedTree<'t>, Fail>
-    ensures { (types : List Typ) → IsMarkedNodeOf types node.entry → IfOk result (AreMarkedNodesOf types) }
+    nodes: &'n [LentNode<'t>; 2],
+    added: Added,
+) -> Result<MarkedTree<'n, 't>, Fail>
+    ensures { (types : List Typ) → IsAddedOf types added → IfOk result (AreMarkedNodesOf types) }
 {
-    let head = MarkedNode {
-        node: root,
+    let nothing = Added {
         mode: None,
         typ: None,
         mark: Mark::None,
     };
-    let mut tree = MarkedTree::new(alloc);
-    tree.push(head)?;
-    tree.push(node)?;
-    Ok(tree)
+    Ok(MarkedTree::new(nodes, vec![in alloc; nothing, added]?))
 }
 
 // The marked grove of that tree alone.
-fn grove_of<'t>(
+fn grove_of<'n, 't>(
     alloc: Global,
-    root: LentNode<'t>,
-    node: MarkedNode<'t>,
-) -> Result<MarkedGrove<'t>, Fail>
-    ensures { (types : List Typ) → IsMarkedNodeOf types node.entry → IfOk result (IsMarkedGroveOf types) }
+    nodes: &'n [LentNode<'t>; 2],
+    added: Added,
+) -> Result<MarkedGrove<'n, 't>, Fail>
+    ensures { (types : List Typ) → IsAddedOf types added → IfOk result (IsMarkedGroveOf types) }
 {
     let mut none = MarkedTreeList::new(alloc);
-    none.push(tree_of(alloc, root, node)?)?;
+    none.push(tree_of(alloc, nodes, added)?)?;
     Ok(MarkedGrove {
         none,
         multi: MarkedTreeList::new(alloc),
@@ -70,20 +66,21 @@ fn grove_of<'t>(
 fn a_marked_grove_is_printed(rt: HostRuntime) -> Result<(), Fail> {
     let types = TypeTable::new(rt.alloc())?;
     let head = Vertex::ROOT;
-    let root = head_of(&head);
-    let node = LentNode {
-        depth: 1,
-        position: Some(Position::Main),
-        edge: None,
-        what: LentWhat::Hole(Sort::Exp),
-    };
-    let hole = MarkedNode {
-        node,
+    let nodes = [
+        head_of(&head),
+        LentNode {
+            depth: 1,
+            position: Some(Position::Main),
+            edge: None,
+            what: LentWhat::Hole(Sort::Exp),
+        },
+    ];
+    let hole = Added {
         mode: Some(Mode::Ana(types.boolean())),
         typ: Some(types.num()),
         mark: Mark::Inconsistent,
     };
-    let marked = grove_of(rt.alloc(), root, hole)?;
+    let marked = grove_of(rt.alloc(), &nodes, hole)?;
     let mut text = Vec::new(rt.alloc());
     print_grove(&marked, &types, &mut text)?;
     assert_eq!(rt;
@@ -103,20 +100,21 @@ cycle 0
 fn a_tree_is_printed_by_itself(rt: HostRuntime) -> Result<(), Fail> {
     let types = TypeTable::new(rt.alloc())?;
     let head = Vertex::ROOT;
-    let root = head_of(&head);
-    let node = LentNode {
-        depth: 1,
-        position: Some(Position::Main),
-        edge: None,
-        what: LentWhat::Hole(Sort::Exp),
-    };
-    let free = MarkedNode {
-        node,
+    let nodes = [
+        head_of(&head),
+        LentNode {
+            depth: 1,
+            position: Some(Position::Main),
+            edge: None,
+            what: LentWhat::Hole(Sort::Exp),
+        },
+    ];
+    let free = Added {
         mode: Some(Mode::Syn),
         typ: Some(types.unknown()),
         mark: Mark::Free,
     };
-    let tree = tree_of(rt.alloc(), root, free)?;
+    let tree = tree_of(rt.alloc(), &nodes, free)?;
     let mut text = Vec::new(rt.alloc());
     print_heading(Section::NoParent, 1, &mut text)?;
     print_tree(&tree, &types, &mut text)?;
@@ -147,20 +145,21 @@ fn a_marked_line_stands_alone(rt: HostRuntime) -> Result<(), Fail> {
         target: choose,
     };
     let head = Vertex::ROOT;
-    let root = head_of(&head);
-    let node = LentNode {
-        depth: 1,
-        position: Some(Position::Main),
-        edge: Some(LentEdge::Whole(&edge)),
-        what: LentWhat::Vertex(&choose),
-    };
-    let marked_node = MarkedNode {
-        node,
+    let nodes = [
+        head_of(&head),
+        LentNode {
+            depth: 1,
+            position: Some(Position::Main),
+            edge: Some(LentEdge::Whole(&edge)),
+            what: LentWhat::Vertex(&choose),
+        },
+    ];
+    let added = Added {
         mode: Some(Mode::Syn),
         typ: Some(types.unknown()),
         mark: Mark::Branches,
     };
-    let marked = grove_of(rt.alloc(), root, marked_node)?;
+    let marked = grove_of(rt.alloc(), &nodes, added)?;
     let mut text = Vec::new(rt.alloc());
     print_marked_lines(&marked, &types, &mut text)?;
     assert_eq!(rt;
@@ -184,20 +183,21 @@ fn an_injection_against_a_number_is_printed(rt: HostRuntime) -> Result<(), Fail>
         target: injection,
     };
     let head = Vertex::ROOT;
-    let root = head_of(&head);
-    let node = LentNode {
-        depth: 2,
-        position: Some(Position::Left),
-        edge: Some(LentEdge::Whole(&edge)),
-        what: LentWhat::Vertex(&injection),
-    };
-    let marked_node = MarkedNode {
-        node,
+    let nodes = [
+        head_of(&head),
+        LentNode {
+            depth: 2,
+            position: Some(Position::Left),
+            edge: Some(LentEdge::Whole(&edge)),
+            what: LentWhat::Vertex(&injection),
+        },
+    ];
+    let added = Added {
         mode: Some(Mode::Ana(types.num())),
         typ: Some(types.num()),
         mark: Mark::InjAgainst,
     };
-    let marked = grove_of(rt.alloc(), root, marked_node)?;
+    let marked = grove_of(rt.alloc(), &nodes, added)?;
     let mut text = Vec::new(rt.alloc());
     print_marked_lines(&marked, &types, &mut text)?;
     assert_eq!(rt;

@@ -6,7 +6,7 @@ use grove_names::Name;
 use grove_sorts::{Ctor, Position, Sort};
 use grove_terms::{Grove, LentNode, LentWhat, Tree, TreeList};
 use mark_step::{Mark, Mode};
-use marking::{MarkedGrove, MarkedNode, MarkedTree, MarkedTreeList};
+use marking::{Added, MarkedGrove, MarkedNode, MarkedTree, MarkedTreeList};
 use std::test::Fail;
 use type_core::TypeTable;
 
@@ -19,13 +19,14 @@ fn a_hole_is_a_hole_again(rt: HostRuntime) -> Result<(), Fail> {
         edge: None,
         what: LentWhat::Hole(Sort::Exp),
     };
-    let mut tree = MarkedTree::new(rt.alloc());
-    tree.push(MarkedNode {
-        node,
+    let nodes = [node];
+    let mut added = Vec::new(rt.alloc());
+    added.push(Added {
         mode: Some(Mode::Syn),
         typ: Some(types.unknown()),
         mark: Mark::None,
     })?;
+    let tree = MarkedTree::new(&nodes, added);
     assert_eq!(rt; tree.len(), 1);
     assert_eq!(rt; tree.get(1), None);
     let mut none = MarkedTreeList::new(rt.alloc());
