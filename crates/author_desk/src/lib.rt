@@ -13,8 +13,6 @@ mod lines;
 mod no_memory;
 mod opening;
 mod starting;
-#[cfg(test)]
-mod tests;
 
 pub use cuts::Cuts;
 pub use laws::{each_turn_stands_together, turns_have_each_line_once};

@@ -9,6 +9,3 @@ mod origin;
 pub use child_index::ChildIndex;
 pub use no_memory::NoMemory;
 pub use origin::Origin;
-
-#[cfg(test)]
-mod tests;

@@ -10,8 +10,6 @@ mod known;
 mod no_memory;
 mod plays;
 mod seat;
-#[cfg(test)]
-mod tests;
 mod words;
 
 pub use board::Board;

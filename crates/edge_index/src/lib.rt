@@ -8,6 +8,3 @@ mod no_memory;
 
 pub use edge_index::{EdgeIndex, Keyed};
 pub use no_memory::NoMemory;
-
-#[cfg(test)]
-mod tests;

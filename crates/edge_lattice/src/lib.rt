@@ -5,6 +5,3 @@
 mod state;
 
 pub use state::{State, join, join_is_a_semilattice, leq};
-
-#[cfg(test)]
-mod tests;

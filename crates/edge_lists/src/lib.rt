@@ -13,6 +13,3 @@ pub use edge_lists::EdgeLists;
 pub use laws::{listed_edges_stay, lists_by_edge_are_in_edge_order};
 pub use list_order::{ByEdge, ByPosition, ListOrder};
 pub use no_memory::NoMemory;
-
-#[cfg(test)]
-mod tests;

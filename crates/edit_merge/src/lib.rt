@@ -11,6 +11,3 @@ mod writing;
 
 pub use merge::merge_lines;
 pub use no_memory::NoMemory;
-
-#[cfg(test)]
-mod tests;

@@ -14,6 +14,3 @@ pub use feed_fault::FeedFault;
 pub use finish_fault::FinishFault;
 pub use laws::{a_stream_reads_its_text, cuts_do_not_matter};
 pub use no_memory::NoMemory;
-
-#[cfg(test)]
-mod tests;

@@ -18,6 +18,3 @@ pub use no_memory::NoMemory;
 pub use text_fault::TextFault;
 pub use version::{header_lines, split_version, write_version};
 pub use write::{write_edits, write_line};
-
-#[cfg(test)]
-mod tests;

@@ -5,24 +5,64 @@ ghost use Rattle.grove_names.specs.Name.{name_text, InRange as NameInRange};
 ghost use Rattle.grove_sorts.specs.declared.ctor.Ctor.{Ctor};
 ghost use Rattle.grove_sorts.specs.declared.position.Position.{Position};
 ghost use Rattle.grove_sorts.specs.Ctor.{ctor_text, InRange as CtorInRange};
+ghost use Rattle.grove_sorts.specs.Branch.{branch_ctor};
 ghost use Rattle.grove_sorts.specs.Position.{position_text};
 ghost use Rattle.grove_edits.specs.declared.edge.Edge.{Edge};
 ghost use Rattle.grove_edits.specs.declared.edit.EditKind.{EditKind};
 ghost use Rattle.grove_edits.specs.declared.vertex.Vertex.{Vertex};
 ghost use Rattle.grove_sorts.specs.Version.{IsCtorOf, IsPositionOf};
 ghost use Rattle.grove_edits.specs.Edge.{EdgeInRange, IsEdgeOf};
+ghost use Rattle.grove_edits.specs.Edit.{edit_edge, edit_kind};
 ghost use Rattle.grove_edits.specs.Vertex.{VertexInRange};
 ghost use Rattle.edit_text.specs.Line.{Spells, HasFault, form, spaced, edge_parts};
 
 use crate::line_fault::LineFault;
 use grove_edits::{Edge, Edit, EditKind, Vertex};
 use grove_names::Name;
-use grove_sorts::{Ctor, Position, Version, read_ctor, read_position};
+use grove_sorts::{Branch, Ctor, Position, Version, read_branch, read_ctor, read_position};
 use text_parts::split_at_next;
 
 /// Reads a line of the version, given without its LF, or answers the first fault that applies. It takes no memory.
 #[inline(always)]
 pub fn read_line(version: Version, line: &[u8]) -> Result<Edit, LineFault>
+    ensures edit { IfOk result (Spells version line.now) }
+    ensures first_fault { IfErr result (HasFault version line.now) }
+{
+    match read_good_line(version, line) {
+        Some(edit) => Ok(edit),
+        None => read_any_line(version, line),
+    }
+}
+
+// The edit of a line that has no fault. Nearly all lines have none, and no edge, which is wide, is made of them. None says nothing of the line.
+#[inline(always)]
+fn read_good_line(version: Version, line: &[u8]) -> Option<Edit>
+    ensures { IfSome result (Spells version line.now) }
+{
+    match line {
+        [b'+', text @ ..] => read_good_edge(version, EditKind::Insert, text),
+        [b'-', text @ ..] => read_good_edge(version, EditKind::Delete, text),
+        _ => None,
+    }
+}
+
+#[inline(always)]
+fn read_good_edge(version: Version, kind: EditKind, text: &[u8]) -> Option<Edit>
+    ensures spelled { IfSome result (λ edit. text.now ≡ spaced (edge_parts (edit_edge edit))) }
+    ensures of_version { IfSome result (λ edit. IsEdgeOf version (edit_edge edit)) }
+    ensures kind { IfSome result (λ edit. edit_kind edit ≡ kind) }
+{
+    let (name, rest) = take_name(text)?;
+    let (source, rest) = take_name(rest)?;
+    let (branch, rest) = take_branch(version, rest)?;
+    let (position, rest) = take_position(version, rest)?;
+    let target = read_vertex(version, rest)?;
+    Edit::of_parts(kind, name, source, branch, position, target).ok()
+}
+
+// Any line, also one with a fault.
+#[inline(never)]
+fn read_any_line(version: Version, line: &[u8]) -> Result<Edit, LineFault>
     ensures edit { IfOk result (Spells version line.now) }
     ensures first_fault { IfErr result (HasFault version line.now) }
 {
@@ -116,6 +156,17 @@ fn take_ctor(version: Version, text: &[u8]) -> Option<(Ctor, &[u8])>
     let (part, rest) = take_part(text)?;
     let ctor = read_ctor(version, part)?;
     Some((ctor, rest))
+}
+
+// The text of a branch and the space behind it, and what stands after them.
+#[inline(always)]
+fn take_branch(version: Version, text: &[u8]) -> Option<(Branch, &[u8])>
+    ensures found { IfSome result (λ read. text.now ≡ ctor_text (branch_ctor read.0) ++ 32 ∷ read.1.now) }
+    ensures of_version { IfSome result (λ read. IsCtorOf version (branch_ctor read.0)) }
+{
+    let (part, rest) = take_part(text)?;
+    let branch = read_branch(version, part)?;
+    Some((branch, rest))
 }
 
 // A position's word and the space behind it, and what stands after them.

@@ -20,6 +20,3 @@ pub use laws::{
 };
 pub use no_memory::NoMemory;
 pub use vertices::Named;
-
-#[cfg(test)]
-mod tests;

@@ -1,5 +1,5 @@
 -- Vertices and their numbers, with one more vertex at a time.
-use Rattle.std.proofs.Common.{Vec, Global, ◌≡◌, ℕ, zero, suc, ◌<◌, Bool, true, false, cond, List, [], ◌∷◌, ◌++◌, length, get_or, slice_get, map, Some, ◌⊎◌, inl, inr, refl, sym, ap, subst, ◌∙◌, arith}
+use Rattle.std.proofs.Common.{Vec, Global, ◌≡◌, ℕ, zero, suc, ◌<◌, Bool, true, false, cond, List, [], ◌∷◌, ◌++◌, length, get_or, take, slice_get, map, Some, ◌⊎◌, inl, inr, refl, sym, ap, subst, ◌∙◌, arith}
 use Rattle.std.specs.Prelude.{◌||◌, not}
 use Rattle.std.specs.List.{IsDistinct, Contains}
 use Rattle.std.specs.Option.{option_map}
@@ -148,6 +148,34 @@ end_numbered f vs ns edits are i n edit here read =
     let count = number_count vs ns (map f edits) are ∙ length-map edits f in
     let within : i < length ns = omega (arith, count, slice_get_within edits i edit here) in
     ap (slice_get vs) read ∙ number_at vs ns (map f edits) are i n within ∙ slice_get-map f edits i ∙ ap (option_map f) here
+
+-- ---- the ends of the edit before
+
+slice_get_taken : (edits : List Edit) (index i : ℕ) → i < index → slice_get (take index edits) i ≡ slice_get edits i
+slice_get_taken [] zero i lt = refl
+slice_get_taken [] (suc index) i lt = refl
+slice_get_taken (edit ∷ edits) zero i lt = absurd (omega (arith, lt))
+slice_get_taken (edit ∷ edits) (suc index) zero lt = refl
+slice_get_taken (edit ∷ edits) (suc index) (suc i) lt = slice_get_taken edits index i (omega (arith, lt))
+
+pub numbered_before : (f : Edit → Vertex) (vs : List Vertex) (ns : List ℕ) (edits : List Edit) (index last n : ℕ) (edit : Edit) (v : Vertex) → AreNumbersOf vs ns (map f (take index edits)) → last < index
+    → slice_get edits last ≡ Some edit → n ≡ get_or ns last n → f edit ≡ v → slice_get vs n ≡ Some v
+numbered_before f vs ns edits index last n edit v are lt here read is =
+    end_numbered f vs ns (take index edits) are last n edit (slice_get_taken edits index last lt ∙ here) read ∙ ap (λ (u : Vertex). Some u) is
+
+stands_at : (vs : List Vertex) (n : ℕ) (v : Vertex) → slice_get vs n ≡ Some v → stands_in v vs ≡ true
+stands_at [] n v is = absurd cc
+stands_at (x ∷ vs) zero v is =
+    let one : x ≡ v = cc in
+    ap (λ b. b || stands_in v vs) (ap (λ (y : Vertex). is_same_vertex y v) one ∙ same_vertex_itself v)
+stands_at (x ∷ vs) (suc n) v is = behind (is_same_vertex x v) (stands_at vs n v is) where
+  behind : (b : Bool) → stands_in v vs ≡ true → (b || stands_in v vs) ≡ true
+  behind true stands = refl
+  behind false stands = stands
+
+-- a list with a vertex that has a number
+pub with_known : (vs : List Vertex) (n : ℕ) (v : Vertex) → slice_get vs n ≡ Some v → vs ≡ with_vertex v vs
+with_known vs n v is = sym (ap (λ (b : Bool). cond b vs (vs ++ v ∷ [])) (stands_at vs n v is))
 
 -- ---- the ends of one more edit
 

@@ -1,11 +1,14 @@
--- Inner model, which no public contract cites: the vertices of a table, listed with their names and numbers.
-use Rattle.std.specs.Prelude.{◌≡◌, List, map}
+-- Inner model, which no public contract cites: vertices of a table, listed with their names and numbers.
+use Rattle.std.specs.Prelude.{◌≡◌, ℕ, List, map}
 use Rattle.grove_edits.specs.declared.vertex.Vertex.{Vertex}
 use Rattle.graph_table.specs.declared.named_vertex.NamedVertex.{NamedVertex}
 use Rattle.graph_table.specs.Table.{Table, vertex_at, IsNumber}
 
 abbrev pub vertices_of : List NamedVertex → List Vertex
 vertices_of list = map (λ n. n.vertex.now) list
+
+abbrev pub numbers_of : List NamedVertex → List ℕ
+numbers_of list = map (λ n. n.number) list
 
 -- a vertex of the table, with its name and its number
 pub record IsNamed (table : Table) (n : NamedVertex) : Type 0 where

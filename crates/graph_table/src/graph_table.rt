@@ -1,12 +1,13 @@
 ghost use Rattle.std.specs.Prelude.{◌≡◌, ◌<◌, true, [], length, map, IfOk, OnOk, OnErr};
 ghost use Rattle.std.specs.List.{AllByRecursion, IsDistinct};
+ghost use Rattle.std.specs.List.Sorted.{IsPermutation, IsSorted};
 ghost use Rattle.grove_edits.specs.declared.vertex.Vertex.{Vertex};
 ghost use Rattle.grove_edits.specs.Edit.{edit_edge};
 ghost use Rattle.grove_edits.specs.Graph.{graph, Ascends};
 ghost use Rattle.walks.specs.Few.{first_two};
 ghost use Rattle.walks.specs.Live.{parents_of, children_of};
-ghost use Rattle.grove_edits.specs.Vertex.{stands_in, is_same_vertex};
-ghost use Rattle.walks.specs.Whole.{AreVertices, AreLive, IsVertexOf};
+ghost use Rattle.grove_edits.specs.Vertex.{vertex_cmp, stands_in, is_same_vertex};
+ghost use Rattle.walks.specs.Whole.{AreLive, IsVertexOf};
 ghost use Rattle.graph_table.specs.ParentIndices.{AreIndices};
 ghost use Rattle.graph_table.specs.Table.{live, vertex_at, edge_at, few_at, IsNumber, IsIndex};
 
@@ -96,12 +97,14 @@ impl GraphTable {
         self.homes.len()
     }
 
-    /// The numbers of all vertices of the graph, in vertex order.
-    pub fn in_order(&self, alloc: Global) -> Result<Vec<u32>, NoMemory>
-        ensures vertices { IfOk result (λ list. AreVertices (graph self.now.edits) (map (vertex_at self.now) list.items)) }
+    /// Some numbers, in the order of their vertices.
+    pub fn sort_numbers(&self, alloc: Global, numbers: &[u32]) -> Result<Vec<u32>, NoMemory>
+        requires { AllByRecursion (IsNumber self.now) numbers.now }
+        ensures same { IfOk result (λ list. IsPermutation numbers.now list.items) }
+        ensures order { IfOk result (λ list. IsSorted vertex_cmp (map (vertex_at self.now) list.items)) }
         ensures numbers { IfOk result (λ list. AllByRecursion (IsNumber self.now) list.items) }
     {
-        in_vertex_order(alloc, self)
+        in_vertex_order(alloc, self, numbers)
     }
 
     /// The edit at an index, where it stands.

@@ -20,6 +20,3 @@ mod vertex_numbers;
 pub use graph_table::GraphTable;
 pub use no_memory::NoMemory;
 pub use parents::Parents;
-
-#[cfg(test)]
-mod tests;

@@ -1,14 +1,14 @@
-ghost use Rattle.std.specs.Prelude.{◌≡◌, ◌++◌, ◌∷◌, [], List, Some, slice_get, not, IfOk, OnOk};
+ghost use Rattle.std.specs.Prelude.{◌≡◌, ◌<◌, ◌+◌, [], List, Some, length, slice_get, take, IfOk, OnOk, IfSome};
 ghost use Rattle.std.specs.List.{IsDistinct};
 ghost use Rattle.grove_edits.specs.declared.edit.Edit.{Edit};
-ghost use Rattle.grove_edits.specs.Vertex.{is_same_vertex, stands_in};
-ghost use Rattle.graph_table.specs.Numbering.{with_vertex, AreNumbered};
+ghost use Rattle.grove_edits.specs.Vertex.{is_same_vertex};
+ghost use Rattle.graph_table.specs.Numbering.{with_vertex, sources_of, targets_of, AreNumbersOf, AreNumbered};
 ghost use Rattle.graph_table.specs.Homes.{vertex_in, AreHomes};
 
 use crate::home::Home;
 use crate::no_memory::NoMemory;
 use crate::vertex_numbers::VertexNumbers;
-use grove_edits::{Edit, Vertex};
+use grove_edits::{Edit, Vertex, is_same_vertex};
 use seeded_hash::HashSeed;
 use std::alloc::Global;
 
@@ -62,6 +62,46 @@ impl Numbering {
         Ok(number)
     }
 
+    /// The number of a vertex that is an end of the edit before the one with an index.
+    fn number_again(&self, edits: &[Edit], index: usize, vertex: &Vertex) -> Option<u32>
+        requires index { index < length edits.now }
+        requires sources { AreNumbersOf self.now.numbers self.now.sources.items (sources_of (take index edits.now)) }
+        requires targets { AreNumbersOf self.now.numbers self.now.targets.items (targets_of (take index edits.now)) }
+        ensures { IfSome result (λ number. slice_get self.now.numbers number ≡ Some vertex.now) }
+    {
+        let last = index.checked_sub(1)?;
+        let before = &edits[last];
+        if is_same_vertex(before.target(), vertex) {
+            return Some(self.targets[last]);
+        }
+        if is_same_vertex(&before.source(), vertex) {
+            return Some(self.sources[last]);
+        }
+        None
+    }
+
+    /// The number of a vertex that is the source of the edit with an index. Mostly it is an end of the edit before, and is not looked up.
+    fn number_next_source(
+        &mut self,
+        edits: &[Edit],
+        index: usize,
+        vertex: Vertex,
+    ) -> Result<u32, NoMemory>
+        requires index { index < length edits.now }
+        requires numbered { AreNumbered (take index edits.now) self.old.numbers self.old.sources.items self.old.targets.items }
+        ensures number { IfOk result (λ number. slice_get self.new.numbers number ≡ Some vertex) }
+        ensures vertices { OnOk result (self.new.numbers ≡ with_vertex vertex self.old.numbers) }
+        ensures homes { OnOk result ((all : List Edit) → AreHomes all self.old.own.items self.old.homes.items self.old.numbers
+            → AreHomes all self.new.own.items self.new.homes.items self.new.numbers) }
+        ensures sources { self.new.sources ≡ self.old.sources }
+        ensures targets { self.new.targets ≡ self.old.targets }
+    {
+        if let Some(number) = self.number_again(edits, index, &vertex) {
+            return Ok(number);
+        }
+        self.number_source(vertex)
+    }
+
     /// The number of a vertex that is the target of the edit with an index. Where it is new, it stands there.
     fn number_target(&mut self, vertex: &Vertex, at: u32) -> Result<u32, NoMemory>
         ensures number { IfOk result (λ number. slice_get self.new.numbers number ≡ Some vertex.now) }
@@ -80,17 +120,19 @@ impl Numbering {
         Ok(number)
     }
 
-    /// Numbers the ends of one more edit, which has an index.
-    fn add(&mut self, edit: &Edit, index: usize) -> Result<(), NoMemory>
-        ensures numbered { OnOk result ((edits : List Edit) → AreNumbered edits self.old.numbers self.old.sources.items self.old.targets.items
-            → AreNumbered (edits ++ edit.now ∷ []) self.new.numbers self.new.sources.items self.new.targets.items) }
-        ensures homes { OnOk result ((edits : List Edit) → slice_get edits index ≡ Some edit.now
-            → AreHomes edits self.old.own.items self.old.homes.items self.old.numbers → AreHomes edits self.new.own.items self.new.homes.items self.new.numbers) }
+    /// Numbers the ends of one more edit, that with an index.
+    fn add(&mut self, edits: &[Edit], index: usize) -> Result<(), NoMemory>
+        requires index { index < length edits.now }
+        requires numbered { AreNumbered (take index edits.now) self.old.numbers self.old.sources.items self.old.targets.items }
+        ensures numbered { OnOk result (AreNumbered (take (index + 1) edits.now) self.new.numbers self.new.sources.items self.new.targets.items) }
+        ensures homes { OnOk result (AreHomes edits.now self.old.own.items self.old.homes.items self.old.numbers
+            → AreHomes edits.now self.new.own.items self.new.homes.items self.new.numbers) }
     {
         let Ok(at) = u32::try_from(index) else {
             return Err(NoMemory);
         };
-        let source = self.number_source(edit.source())?;
+        let edit = &edits[index];
+        let source = self.number_next_source(edits, index, edit.source())?;
         let target = self.number_target(edit.target(), at)?;
         self.sources.push(source)?;
         self.targets.push(target)?;
@@ -103,7 +145,7 @@ impl Numbering {
     {
         let mut numbering = Numbering::of_none(alloc, edits.len(), seed)?;
         for index in 0..edits.len() {
-            numbering.add(&edits[index], index)?;
+            numbering.add(edits, index)?;
         }
         Ok(numbering)
     }

@@ -1,22 +1,27 @@
-ghost use Rattle.std.specs.Prelude.{◌≡◌, length, map, IfOk};
+ghost use Rattle.std.specs.Prelude.{◌≡◌, map, IfOk};
 ghost use Rattle.std.specs.List.{AllByRecursion};
-ghost use Rattle.grove_edits.specs.Graph.{graph};
-ghost use Rattle.walks.specs.Whole.{AreVertices};
+ghost use Rattle.std.specs.List.Sorted.{IsPermutation, IsSorted};
+ghost use Rattle.grove_edits.specs.Vertex.{vertex_cmp};
 ghost use Rattle.graph_table.specs.Table.{vertex_at, IsNumber};
-ghost use Rattle.graph_table.specs.Named.{vertices_of, IsNamed};
+ghost use Rattle.graph_table.specs.Named.{numbers_of, IsNamed};
 
 use crate::graph_table::GraphTable;
 use crate::named_vertex::NamedVertex;
 use crate::no_memory::NoMemory;
 use std::alloc::Global;
 
-// The numbers of a table's vertices, in vertex order.
-pub(crate) fn in_vertex_order(alloc: Global, table: &GraphTable) -> Result<Vec<u32>, NoMemory>
-    ensures vertices { IfOk result (λ list. AreVertices (graph table.now.edits) (map (vertex_at table.now) list.items)) }
+// Some numbers of vertices, in vertex order.
+pub(crate) fn in_vertex_order(
+    alloc: Global,
+    table: &GraphTable,
+    numbers: &[u32],
+) -> Result<Vec<u32>, NoMemory>
+    requires { AllByRecursion (IsNumber table.now) numbers.now }
+    ensures same { IfOk result (λ list. IsPermutation numbers.now list.items) }
+    ensures order { IfOk result (λ list. IsSorted vertex_cmp (map (vertex_at table.now) list.items)) }
     ensures numbers { IfOk result (λ list. AllByRecursion (IsNumber table.now) list.items) }
 {
-    let count = table.number_count();
-    let mut list = named_vertices(alloc, table, count)?;
+    let mut list = named_vertices(alloc, table, numbers)?;
     list.sort_unstable();
     numbers_of(alloc, &list)
 }
@@ -24,29 +29,26 @@ pub(crate) fn in_vertex_order(alloc: Global, table: &GraphTable) -> Result<Vec<u
 fn named_vertices<'t>(
     alloc: Global,
     table: &'t GraphTable,
-    count: usize,
+    numbers: &[u32],
 ) -> Result<Vec<NamedVertex<'t>>, NoMemory>
-    requires { count ≡ length table.now.vertices }
-    ensures vertices { IfOk result (λ list. vertices_of list.items ≡ table.now.vertices) }
+    requires { AllByRecursion (IsNumber table.now) numbers.now }
+    ensures numbers { IfOk result (λ list. numbers_of list.items ≡ numbers.now) }
     ensures named { IfOk result (λ list. AllByRecursion (IsNamed table.now) list.items) }
 {
-    let mut list = Vec::with_capacity(alloc, count)?;
-    for index in 0..count {
-        let Ok(number) = u32::try_from(index) else {
-            return Err(NoMemory);
-        };
-        let vertex = table.vertex(index);
+    let mut list = Vec::with_capacity(alloc, numbers.len())?;
+    for number in numbers {
+        let vertex = table.vertex(*number as usize);
         list.push(NamedVertex {
             name: vertex.name,
             vertex,
-            number,
+            number: *number,
         })?;
     }
     Ok(list)
 }
 
 fn numbers_of(alloc: Global, list: &[NamedVertex]) -> Result<Vec<u32>, NoMemory>
-    ensures { IfOk result (λ numbers. numbers.items ≡ map (λ n. n.number) list.now) }
+    ensures { IfOk result (λ numbers. numbers.items ≡ numbers_of list.now) }
 {
     let mut numbers = Vec::with_capacity(alloc, list.len())?;
     for named in list {

@@ -5,6 +5,7 @@ use Rattle.grove_edits.specs.declared.edge.Edge.{Edge}
 use Rattle.grove_edits.specs.Graph.{graph}
 use Rattle.walks.specs.declared.class.Class.TheVariants.{Cycle as CycleClass}
 use Rattle.walks.specs.Class.{of_class}
+use Rattle.walks.specs.Whole.{AreVertices}
 use Rattle.graph_table.specs.Table.{live}
 use Rattle.grove_terms.specs.declared.node.Node.{Node}
 use Rattle.grove_terms.specs.Grove.{IsTreeOf, AreTreesOf}
@@ -69,21 +70,21 @@ module _ {R : Type 0} (begins : R → Section → ℕ → R → Type 0) (takes :
     };
   }
 
-  pub whole_reported : (program : Program) (cycles : List ℕ) (before x y after : R) → IsProgram program
-      → vertices_of program.table cycles ≡ of_class CycleClass (live program.table) (vertices_of program.table program.vertices.items)
+  pub whole_reported : (program : Program) (vertices : List Vertex) (cycles : List ℕ) (before x y after : R) → IsProgram program → AreVertices (graph program.table.edits) vertices
+      → vertices_of program.table cycles ≡ of_class CycleClass (live program.table) vertices
       → AreReported (TakesSection begins takes NoParent) (live program.table) (vertices_of program.table program.heads.none.items) before x
       → AreReported (TakesSection begins takes Multi) (live program.table) (vertices_of program.table program.heads.multi.items) x y
       → AreReported (TakesSection begins takes Cycle) (live program.table) (vertices_of program.table cycles) y after → IsReported begins takes (graph program.table.edits) before after
-  whole_reported program cycles before x y after is are_cycles none multi cycle = record {
+  whole_reported program vertices cycles before x y after is are are_cycles none multi cycle = record {
     grove = record { none = none.trees; multi = multi.trees; cycle = cycle.trees };
     marked = record { none = none.marked; multi = multi.marked; cycle = cycle.marked };
     is_grove = record {
       live = live program.table;
-      vertices = vertices_of program.table program.vertices.items;
+      vertices = vertices;
       are_live = is.are_live;
-      are_vertices = is.are_vertices;
-      none = trees_along (live program.table) _ _ none.trees is.none none.are_trees;
-      multi = trees_along (live program.table) _ _ multi.trees is.multi multi.are_trees;
+      are_vertices = are;
+      none = trees_along (live program.table) _ _ none.trees (is.none vertices are) none.are_trees;
+      multi = trees_along (live program.table) _ _ multi.trees (is.multi vertices are) multi.are_trees;
       cycle = trees_along (live program.table) _ _ cycle.trees are_cycles cycle.are_trees;
     };
     is_marked = record { none = none.are_marked; multi = multi.are_marked; cycle = cycle.are_marked };

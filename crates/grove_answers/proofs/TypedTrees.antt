@@ -1,5 +1,5 @@
 -- Trees are typed exactly where their marking has no mark.
-use Rattle.std.proofs.Common.{◌≡◌, ◌≢◌, ℕ, ◌+◌, Bool, true, false, cond, List, [], ◌∷◌, inl, inr, refl, sym, ap, subst, ◌∙◌, arith}
+use Rattle.std.proofs.Common.{◌≡◌, ◌≢◌, ℕ, ◌+◌, Bool, true, false, cond, List, [], ◌∷◌, inl, inr, map, refl, sym, ap, subst, ◌∙◌, arith}
 use Rattle.std.specs.Prelude.{count_by}
 use Rattle.std.proofs.lemmas.List.Sums.{sum_by-cons}
 use Rattle.grove_edits.specs.declared.vertex.Vertex.{Vertex}
@@ -10,6 +10,8 @@ use Rattle.type_core.specs.Typ.{Typ}
 use Rattle.marking.specs.Marking.{MarkedNode, has_mark, HasNoMark}
 use Rattle.marking.specs.Grove.{IsMarkedTree}
 use Rattle.marking.specs.Reading.{meant, meant_nodes}
+use Rattle.marking.specs.Added.{added_to}
+use Rattle.marking.specs.declared.added.Added.{Added}
 use Rattle.marking.specs.declared.marked_node.MarkedNode.{MarkedNode as NodeByNumber}
 use Rattle.marking.proofs.ByRows.{alone_only}
 use Rattle.plain_typing.specs.Typed.{IsTyped, IsTypedTree, AreTyped}
@@ -22,10 +24,11 @@ marks ms = count_by (λ m. has_mark m.mark) ms
 marks_of_more : (m : MarkedNode) (ms : List MarkedNode) → marks (m ∷ ms) ≡ cond (has_mark m.mark) 1 0 + marks ms
 marks_of_more m ms = sum_by-cons (λ (x : MarkedNode). cond (has_mark x.mark) 1 0) m ms
 
--- as many as the nodes by number that stand for them
-pub marks_counted : (types : List Typ) (nodes read : List NodeByNumber) (count : ℕ) → read ≡ nodes → count ≡ count_by (λ m. has_mark m.mark) read → marks (meant_nodes types nodes) ≡ count
-marks_counted types nodes read count same is =
-    count_by-map (λ (m : MarkedNode). has_mark m.mark) (meant types) nodes ∙ ap (λ (ms : List NodeByNumber). count_by (λ m. has_mark m.mark) ms) (sym same) ∙ sym is
+-- as many as of what is added to the nodes by number that stand for them
+pub marks_counted : (types : List Typ) (nodes : List NodeByNumber) (added : List Added) (count : ℕ) → added ≡ map added_to nodes → count ≡ count_by (λ a. has_mark a.mark) added → marks (meant_nodes types nodes) ≡ count
+marks_counted types nodes added count beside is =
+    count_by-map (λ (m : MarkedNode). has_mark m.mark) (meant types) nodes ∙ sym (count_by-map (λ (a : Added). has_mark a.mark) added_to nodes)
+    ∙ ap (count_by (λ (a : Added). has_mark a.mark)) (sym beside) ∙ sym is
 
 unmarked_first : (marked : Bool) (others all : ℕ) → all ≡ cond marked 1 0 + others → all ≡ 0 → (marked ≡ false) × (others ≡ 0)
 unmarked_first true others all is none = absurd (omega arith)

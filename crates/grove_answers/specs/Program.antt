@@ -1,6 +1,7 @@
 -- A graph by numbers, and the vertices that head its trees.
-use Rattle.std.specs.Prelude.{◌≡◌, ◌≢◌, ℕ}
+use Rattle.std.specs.Prelude.{◌≡◌, ◌≢◌, ℕ, List}
 use Rattle.std.specs.List.{AllByRecursion}
+use Rattle.grove_edits.specs.declared.vertex.Vertex.{Vertex}
 use Rattle.grove_edits.specs.Graph.{graph}
 use Rattle.walks.specs.declared.class.Class.TheVariants.{NoParent, Multi, Inner}
 use Rattle.walks.specs.Class.{class, of_class}
@@ -17,9 +18,7 @@ pub record IsHead (table : Table) (n : ℕ) : Type 0 where
 -- the lists are those of the table
 pub record IsProgram (program : Program) : Type 0 where
   pub are_live : AreLive (graph program.table.edits) (live program.table)
-  pub are_vertices : AreVertices (graph program.table.edits) (vertices_of program.table program.vertices.items)
-  pub numbers : AllByRecursion (IsNumber program.table) program.vertices.items
-  pub none : vertices_of program.table program.heads.none.items ≡ of_class NoParent (live program.table) (vertices_of program.table program.vertices.items)
-  pub multi : vertices_of program.table program.heads.multi.items ≡ of_class Multi (live program.table) (vertices_of program.table program.vertices.items)
+  pub none : (vertices : List Vertex) → AreVertices (graph program.table.edits) vertices → vertices_of program.table program.heads.none.items ≡ of_class NoParent (live program.table) vertices
+  pub multi : (vertices : List Vertex) → AreVertices (graph program.table.edits) vertices → vertices_of program.table program.heads.multi.items ≡ of_class Multi (live program.table) vertices
   pub none_heads : AllByRecursion (IsHead program.table) program.heads.none.items
   pub multi_heads : AllByRecursion (IsHead program.table) program.heads.multi.items

@@ -74,7 +74,7 @@ impl Report for Checked {
     // By the law of `plain_typing` a tree is typed exactly where its marking has no mark.
     fn take(&mut self, marked: &MarkedTree, types: &TypeTable) -> Result<(), NoMemory> {
         print_marked_lines_of(marked, types, &mut self.text)?;
-        if marks_in(marked.as_slice()) == 0 {
+        if marks_in(marked.added()) == 0 {
             self.typed = self.typed.checked_add(1).ok_or(NoMemory)?;
         }
         Ok(())

@@ -1,6 +1,6 @@
-ghost use Rattle.std.specs.Prelude.{◌≡◌, IfOk, OnOk, count_by};
+ghost use Rattle.std.specs.Prelude.{◌≡◌, IfOk, count_by};
 ghost use Rattle.grove_edits.specs.Graph.{graph, Ascends};
-ghost use Rattle.grove_terms.specs.Lent.{what_of};
+ghost use Rattle.grove_terms.specs.Lent.{node_of};
 ghost use Rattle.grove_answers.specs.Counts.{AreCounts, is_conflict, with_trees, with_nodes};
 ghost use Rattle.grove_answers.specs.Laws.{nodes_none, nodes_more};
 
@@ -12,8 +12,8 @@ use crate::report::Report;
 use crate::reporting::report_program;
 use grove_edits::EditList;
 use grove_printer::Section;
-use grove_terms::LentWhat;
-use marking::{MarkedNode, MarkedTree};
+use grove_terms::{LentNode, LentWhat};
+use marking::MarkedTree;
 use seeded_hash::HashSeed;
 use std::alloc::Global;
 use type_core::TypeTable;
@@ -56,27 +56,24 @@ impl Report for Counts {
 
     // No memory holds so many nodes that their number would not fit.
     fn take(&mut self, marked: &MarkedTree, _types: &TypeTable) -> Result<(), NoMemory> {
-        let conflicts = conflicts_in(marked.as_slice()) as u64;
-        let marks = marks_in(marked.as_slice()) as u64;
+        let conflicts = conflicts_in(marked.nodes()) as u64;
+        let marks = marks_in(marked.added()) as u64;
         self.conflicts = self.conflicts.checked_add(conflicts).ok_or(NoMemory)?;
         self.marks = self.marks.checked_add(marks).ok_or(NoMemory)?;
         Ok(())
     }
 }
 
-fn conflicts_in(nodes: &[MarkedNode]) -> usize
-    ensures { result ≡ count_by (λ m. is_conflict (what_of m.node.what)) nodes.now }
+fn conflicts_in(nodes: &[LentNode]) -> usize
+    ensures { result ≡ count_by (λ n. is_conflict (node_of n).what) nodes.now }
 {
-    nodes
-        .iter()
-        .filter(|node| is_conflict(&node.node.what))
-        .count()
+    nodes.iter().filter(|node| is_conflict(node)).count()
 }
 
-fn is_conflict(what: &LentWhat) -> bool
-    ensures { result ≡ is_conflict (what_of what.now) }
+fn is_conflict(node: &LentNode) -> bool
+    ensures { result ≡ is_conflict (node_of node.now).what }
 {
-    match what {
+    match node.what() {
         LentWhat::Conflict(_, _) => true,
         LentWhat::Vertex(_) | LentWhat::Hole(_) | LentWhat::MultiRef(_) | LentWhat::CycleRef(_) =>
             false,

@@ -22,6 +22,3 @@ pub use counts::Counts;
 pub use laws::same_graphs_have_one_text;
 pub use no_memory::NoMemory;
 pub use show::print_text;
-
-#[cfg(test)]
-mod tests;

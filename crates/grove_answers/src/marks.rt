@@ -1,11 +1,11 @@
 ghost use Rattle.std.specs.Prelude.{◌≡◌, count_by};
 ghost use Rattle.marking.specs.Marking.{has_mark};
 
-use marking::MarkedNode;
+use marking::Added;
 
-/// How many of the nodes have a mark.
-pub(crate) fn marks_in(nodes: &[MarkedNode]) -> usize
-    ensures { result ≡ count_by (λ m. has_mark m.mark) nodes.now }
+/// How many of the nodes to which this is added have a mark.
+pub(crate) fn marks_in(added: &[Added]) -> usize
+    ensures { result ≡ count_by (λ a. has_mark a.mark) added.now }
 {
-    nodes.iter().filter(|node| node.mark.is_some()).count()
+    added.iter().filter(|added| added.mark.is_some()).count()
 }

@@ -15,8 +15,6 @@ pub(crate) struct Program {
     pub(crate) table: GraphTable,
     /// The seed of what is found by hashes.
     pub(crate) seed: HashSeed,
-    /// The numbers of all vertices, in vertex order.
-    pub(crate) vertices: Vec<u32>,
     pub(crate) heads: NumberedHeads,
 }
 
@@ -28,13 +26,7 @@ impl Program {
         ensures edits { IfOk result (λ program. program.table.edits ≡ edits) }
     {
         let table = GraphTable::with_seed(alloc, edits, seed)?;
-        let vertices = table.in_order(alloc)?;
-        let heads = heads_of(alloc, &table, &vertices)?;
-        Ok(Program {
-            table,
-            seed,
-            vertices,
-            heads,
-        })
+        let heads = heads_of(alloc, &table)?;
+        Ok(Program { table, seed, heads })
     }
 }

@@ -44,7 +44,7 @@ pub(crate) fn report_program<R: Report>(
         &mut walk,
         report,
     )?;
-    let cycles = cycle_heads(alloc, table, &program.vertices, &walk.seen)?;
+    let cycles = cycle_heads(alloc, table, &walk.seen)?;
     report_section(alloc, Section::Cycle, table, &cycles, &mut walk, report)
 }
 

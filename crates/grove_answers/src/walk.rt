@@ -56,11 +56,11 @@ impl Walk {
     }
 
     /// The marking of a tree.
-    pub(crate) fn marking<'t>(
+    pub(crate) fn marking<'n, 't>(
         &mut self,
         alloc: Global,
-        tree: &Tree<'t>,
-    ) -> Result<MarkedTree<'t>, NoMemory>
+        tree: &'n Tree<'t>,
+    ) -> Result<MarkedTree<'n, 't>, NoMemory>
         requires { IsSortedTree tree.now }
         ensures marked { IfOk result (λ marked. IsMarkedTree tree.now (meant_nodes self.new.types marked)) }
         ensures numbers { IfOk result (AreMarkedNodesOf self.new.types) }

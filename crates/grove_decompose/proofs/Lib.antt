@@ -8,7 +8,7 @@ pub mod Mapped
 pub mod Listing
 pub mod Noted
 pub mod ByNumber
-pub mod Inserted
+pub mod SortedHeads
 pub mod Vectors
 pub mod Held
 pub mod Marks

@@ -1,5 +1,5 @@
 -- Tasks pushed one by one, the last first.
-use Rattle.std.proofs.Common.{◌≡◌, ℕ, zero, suc, ◌+◌, ◌<◌, List, [], ◌∷◌, ◌++◌, length, take, refl, sym, ap, ◌∙◌, append_assoc, arith, Bor}
+use Rattle.std.proofs.Common.{◌≡◌, ℕ, zero, suc, ◌+◌, ◌<◌, List, [], ◌∷◌, ◌++◌, length, take, refl, sym, ap, ◌∙◌, append_assoc, arith, ◌⊎◌, inl, inr}
 use Rattle.std.specs.Prelude.{Some, slice_get, slice_index_or}
 use Rattle.grove_sorts.specs.declared.position.Position.{Position}
 use Rattle.grove_sorts.specs.declared.sort.Sort.{Sort}
@@ -9,9 +9,9 @@ use Rattle.grove_edits.specs.declared.edge.Edge.{Edge}
 use Rattle.walks.specs.declared.class.Class.{Class}
 use Rattle.walks.specs.declared.class.Class.TheVariants.{NoParent, Multi, Cycle, Inner}
 use Rattle.grove_terms.specs.declared.node.What.TheVariants as whats
-use Rattle.grove_terms.specs.declared.node.LentWhat.{LentWhat}
-use Rattle.grove_terms.specs.declared.node.LentWhat.TheVariants as lent
-use Rattle.grove_terms.specs.Lent.{what_of}
+use Rattle.grove_terms.specs.declared.node.Role.{Role}
+use Rattle.grove_terms.specs.declared.node.Role.TheVariants as roles
+use Rattle.grove_terms.specs.Lent.{what_as}
 use Rattle.grove_decompose.specs.declared.task.Task.TheVariants.{Place, Child}
 use Rattle.grove_decompose.specs.declared.task.Task.{Task}
 use Rattle.grove_decompose.specs.Tasks.{what_by, place_tasks, child_tasks, child_rest}
@@ -45,12 +45,10 @@ rest_of_vertex Cycle t v w d is same = absurd cc
 rest_of_vertex NoParent t v w d is same = ap (λ (x : Vertex). place_tasks x (d + 1) (positions v.ctor)) same ∙ ap (λ (x : Vertex). place_tasks t (d + 1) (positions x.ctor)) (sym (whats_same t v is))
 rest_of_vertex Inner t v w d is same = ap (λ (x : Vertex). place_tasks x (d + 1) (positions v.ctor)) same ∙ ap (λ (x : Vertex). place_tasks t (d + 1) (positions x.ctor)) (sym (whats_same t v is))
 
-pub no_vertex : (w : LentWhat) (v : Vertex) → ((u : Bor Vertex) → w ≡ lent.Vertex u → ⊥) → what_of w ≡ whats.Vertex v → ⊥
-no_vertex (lent.Vertex u) v other is = other u refl
-no_vertex (lent.Hole s) v other is = absurd cc
-no_vertex (lent.Conflict s n) v other is = absurd cc
-no_vertex (lent.MultiRef u) v other is = absurd cc
-no_vertex (lent.CycleRef u) v other is = absurd cc
+-- a reference is no vertex
+pub no_vertex : (r : Role) (t v : Vertex) → (r ≡ roles.MultiRef) ⊎ (r ≡ roles.CycleRef) → what_as r t ≡ whats.Vertex v → ⊥
+no_vertex r t v (inl multi) is = let e : whats.MultiRef t ≡ whats.Vertex v = ap (λ (x : Role). what_as x t) (sym multi) ∙ is in absurd cc
+no_vertex r t v (inr cycle) is = let e : whats.CycleRef t ≡ whats.Vertex v = ap (λ (x : Role). what_as x t) (sym cycle) ∙ is in absurd cc
 
 -- a reference leaves none
 pub rest_of_reference : (c : Class) (t : Vertex) (d : ℕ) → ((v : Vertex) → what_by c t ≡ whats.Vertex v → ⊥) → [] ≡ child_rest c t d

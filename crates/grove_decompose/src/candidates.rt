@@ -1,4 +1,4 @@
-ghost use Rattle.std.specs.Prelude.{◌≡◌, ◌≢◌, false, IfOk};
+ghost use Rattle.std.specs.Prelude.{◌≡◌, ◌≢◌, false, length, IfOk};
 ghost use Rattle.std.specs.List.{AllByRecursion};
 ghost use Rattle.walks.specs.declared.class.Class.TheVariants.{Cycle};
 ghost use Rattle.walks.specs.Class.{class, of_class};
@@ -22,22 +22,22 @@ fn may_be_root(table: &GraphTable, number: usize, seen: &Seen) -> bool
     matches!(table.parents(number), Parents::One(_))
 }
 
-/// Those of some vertices that may be the least of a cycle, by their numbers.
+/// The vertices that may be the least of a cycle, by their numbers.
 pub(crate) fn candidates_of(
     alloc: Global,
     table: &GraphTable,
-    vertices: &[u32],
+    count: u32,
     seen: &Seen,
 ) -> Result<Vec<u32>, NoMemory>
-    requires numbers { AllByRecursion (IsNumber table.now) vertices.now }
+    requires count { count ≡ length table.now.vertices }
     requires seen { OnlyInner table.now seen.now }
-    ensures cycle { IfOk result (λ some. of_class Cycle (live table.now) (vertices_of table.now some.items) ≡ of_class Cycle (live table.now) (vertices_of table.now vertices.now)) }
+    ensures cycle { IfOk result (λ some. of_class Cycle (live table.now) (vertices_of table.now some.items) ≡ of_class Cycle (live table.now) table.now.vertices) }
     ensures numbers { IfOk result (λ some. AllByRecursion (IsNumber table.now) some.items) }
 {
     let mut candidates = Vec::new(alloc);
-    for number in vertices {
-        if may_be_root(table, *number as usize, seen) {
-            candidates.push(*number)?;
+    for number in 0..count {
+        if may_be_root(table, number as usize, seen) {
+            candidates.push(number)?;
         }
     }
     Ok(candidates)

@@ -4,7 +4,7 @@ ghost use Rattle.walks.specs.declared.class.Class.TheVariants.{Inner};
 ghost use Rattle.grove_edits.specs.Vertex.{vertex_cmp, is_same_vertex};
 ghost use Rattle.walks.specs.Live.{holds_edge};
 ghost use Rattle.walks.specs.Class.{class};
-ghost use Rattle.grove_terms.specs.Lent.{edge_of, what_of};
+ghost use Rattle.grove_terms.specs.Lent.{edge_of, what_as};
 ghost use Rattle.grove_terms.specs.Nodes.{child_node};
 ghost use Rattle.grove_decompose.specs.Tasks.{what_by, child_rest, task_at, IsFound, IsUnder};
 
@@ -13,31 +13,30 @@ use crate::no_memory::NoMemory;
 use crate::place::push_places;
 use crate::task::Task;
 use grove_edits::{Vertex, is_same_vertex};
-use grove_terms::{LentEdge, LentNode, LentWhat, Tree};
+use grove_terms::{LentEdge, LentNode, Role, Tree};
 
 // What a child is: under a root only the root itself heads a tree with one parent.
-fn what_of<'g, G: LiveGraph<'g>>(
+fn role_of<'g, G: LiveGraph<'g>>(
     edge: &LentEdge<'g>,
     target: &G::Spot,
     root: &Vertex,
     graph: &G,
     counter: &mut G::Counter,
-) -> LentWhat<'g>
+) -> Role
     requires spot { G.IsSpot graph.now target.now }
     requires target { G.vertex_at graph.now target.now ≡ (edge_of edge.now).target }
     requires outer { class (G.live graph.now) root.now ≢ Inner }
     requires held { holds_edge (edge_of edge.now) (G.live graph.now) ≡ true }
     requires under { IsUnder (G.live graph.now) root.now (edge_of edge.now).source }
-    ensures { what_of result ≡ what_by (class (G.live graph.now) (edge_of edge.now).target) (edge_of edge.now).target }
+    ensures { what_as result (edge_of edge.now).target ≡ what_by (class (G.live graph.now) (edge_of edge.now).target) (edge_of edge.now).target }
 {
-    let vertex = edge.target();
     if graph.is_shared(target, counter) {
-        return LentWhat::MultiRef(vertex);
+        return Role::MultiRef;
     }
-    if is_same_vertex(vertex, root) {
-        LentWhat::CycleRef(vertex)
+    if is_same_vertex(edge.target(), root) {
+        Role::CycleRef
     } else {
-        LentWhat::Vertex(vertex)
+        Role::Vertex
     }
 }
 
@@ -66,20 +65,15 @@ pub(crate) fn list_child<'g, G: LiveGraph<'g>>(
 {
     let edge = graph.edge(link);
     let target = graph.target(link);
-    let what = what_of(&edge, &target, root, graph, counter);
+    let role = role_of(&edge, &target, root, graph, counter);
     // No child is deeper than there are nodes, so one more fits.
     let _nodes = tree.len();
-    tree.push(LentNode {
-        depth,
-        position: Some(edge.position()),
-        edge: Some(edge),
-        what,
-    })?;
-    match what {
-        LentWhat::Vertex(vertex) => {
-            push_places(&target, &vertex.ctor, depth + 1, tasks)?;
+    tree.push(LentNode::child(depth, edge, role))?;
+    match role {
+        Role::Vertex => {
+            push_places(&target, &edge.target().ctor, depth + 1, tasks)?;
             Ok(Some(target))
         }
-        _ => Ok(None),
+        Role::MultiRef | Role::CycleRef => Ok(None),
     }
 }

@@ -18,7 +18,7 @@ use crate::task::Task;
 use child_index::ChildIndex;
 use graph_store::GraphStore;
 use grove_edits::Vertex;
-use grove_terms::{LentNode, LentWhat, Tree, TreeList};
+use grove_terms::{LentNode, Tree, TreeList};
 use parent_index::ParentIndex;
 use std::alloc::Global;
 use std::marker::PhantomData;
@@ -64,12 +64,7 @@ fn take<'g, G: LiveGraph<'g>>(
 fn push_head<'g>(root: &'g Vertex, tree: &mut Tree<'g>) -> Result<(), NoMemory>
     ensures { OnOk result (tree.new ≡ tree.old ++ head_node root.now ∷ []) }
 {
-    tree.push(LentNode {
-        depth: 0,
-        position: None,
-        edge: None,
-        what: LentWhat::Vertex(root),
-    })?;
+    tree.push(LentNode::head(root))?;
     Ok(())
 }
 

@@ -14,6 +14,7 @@ mod heads;
 mod live_graph;
 mod live_indexes;
 mod met;
+mod narrow_count;
 mod no_memory;
 mod place;
 mod seen;
@@ -24,6 +25,3 @@ pub use decomposition::decompose;
 pub use no_memory::NoMemory;
 pub use seen::Seen;
 pub use trees::{NumberedHeads, cycle_heads, heads_of, tree_by_number};
-
-#[cfg(test)]
-mod tests;

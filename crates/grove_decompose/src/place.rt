@@ -5,7 +5,7 @@ ghost use Rattle.grove_decompose.specs.Tasks.{place_tasks, child_tasks, place_he
 use crate::no_memory::NoMemory;
 use crate::task::Task;
 use grove_sorts::{Ctor, Position, Sort, place_at, position_count};
-use grove_terms::{LentNode, LentWhat, Tree};
+use grove_terms::{LentNode, Tree};
 
 /// Adds a task for each position of a vertex, so that the first position is taken first.
 pub(crate) fn push_places<S: Copy, L: Copy>(
@@ -61,21 +61,16 @@ pub(crate) fn list_place<S: Copy, L: Copy>(
     ensures nodes { OnOk result (tree.new ≡ tree.old ++ place_head links.now depth position sort) }
     ensures tasks { OnOk result (tasks.new.items ≡ tasks.old.items ++ place_rest links.now depth) }
 {
-    let what = match links {
-        [] => LentWhat::Hole(sort),
+    let node = match links {
+        [] => LentNode::hole(depth, position, sort),
         [only] => {
             tasks.push(Task::Child { link: *only, depth })?;
             return Ok(());
         }
-        several => LentWhat::Conflict(sort, several.len() as u64),
+        several => LentNode::conflict(depth, position, sort, several.len() as u64),
     };
     // No position is deeper than there are nodes, so one more fits.
     let _nodes = tree.len();
-    tree.push(LentNode {
-        depth,
-        position: Some(position),
-        edge: None,
-        what,
-    })?;
+    tree.push(node)?;
     push_children(links, depth + 1, tasks)
 }

@@ -1,12 +1,14 @@
 -- The orders of vertices, edges and edits: total, exact, and those of the code.
-use Rattle.std.proofs.Common.{◌≡◌, true, refl, sym, ap, ◌∙◌}
+use Rattle.std.proofs.Common.{◌≡◌, Bool, true, false, true≢false, refl, sym, ap, ◌∙◌}
 use Rattle.std.specs.declared.cmp.Ordering.{Ordering}
 use Rattle.std.specs.declared.cmp.Ordering.TheVariants.{Less, Equal, Greater}
 use Rattle.std.specs.Ordering.{ordering_then, is_eq, nat_cmp}
 use Rattle.std.specs.Cmp.{IsTotalOrder, IsEquivalence, eq_by_cmp_equiv}
-use Rattle.std.proofs.lemmas.Cmp.{on_total, then_total}
+use Rattle.std.proofs.lemmas.Cmp.{on_total, then_total, tied_itself}
 use Rattle.grove_names.specs.declared.name.Name.{Name}
 use Rattle.grove_names.specs.Name.{name_cmp}
+use Rattle.grove_names.specs.contracts.name.NamePartialEq.TheImpl as name_eq
+use Rattle.grove_names.specs.contracts.name.NameOrd.TheImpl.Laws as names
 use Rattle.grove_sorts.specs.declared.ctor.Ctor.{Ctor}
 use Rattle.grove_sorts.specs.declared.position.Position.{Position}
 use Rattle.grove_sorts.specs.contracts.position.PositionOrd.TheImpl as position_impl
@@ -132,6 +134,15 @@ cmp_is_edit_cmp a b =
     ∙ ap (ordering_then name) (then_assoc (ordering_then source branch) (ordering_then position target) kind
     ∙ then_assoc source branch (ordering_then (ordering_then position target) kind)
     ∙ ap (λ o. ordering_then source (ordering_then branch o)) (then_assoc position target kind)))
+
+-- edges whose names differ are not one
+pub names_differ : (a b : Edge) → name_eq.eq-value.it a.name b.name ≡ false → is_same_edge a b ≡ false
+names_differ a b differ = by_test (is_same_edge a b) refl where
+  by_test : (t : Bool) → is_same_edge a b ≡ t → t ≡ false
+  by_test false is = refl
+  by_test true is =
+      let same : is_eq (name_cmp a.name b.name) ≡ true = ap (λ (e : Edge). is_eq (name_cmp a.name e.name)) (sym (one_edge a b is)) ∙ ap is_eq (tied_itself name_cmp_total a.name) in
+      absurd (true≢false (sym (names.matches_eq-law a.name b.name ∙ same) ∙ differ))
 
 pub eq_is_same_edge : (a b : Edge) → edge_eq_impl.ghosts.eq a b ≡ is_same_edge a b
 eq_is_same_edge a b = matches_eq-law a b ∙ ap is_eq (cmp_is_edge_cmp a b)

@@ -1,7 +1,7 @@
 ghost use Rattle.std.specs.Prelude.{◌≡◌};
 ghost use Rattle.std.specs.List.Sorted.{IsSorted};
 ghost use Rattle.grove_edits.specs.Edit.{edit_edge};
-ghost use Rattle.grove_edits.specs.Graph.{begins_with, graph, IsCanonical};
+ghost use Rattle.grove_edits.specs.Graph.{begins_with, graph, is_same_edge, IsCanonical};
 
 use crate::edit::Edit;
 
@@ -26,6 +26,13 @@ fn begins_with_edge(edits: &[Edit], edit: &Edit) -> bool
 {
     match edits {
         [] => false,
-        [first, ..] => edit.edge() == first.edge(),
+        [first, ..] => have_same_edge(edit, first),
     }
+}
+
+// Nearly every edge has a name of its own, so no edge is made but of edits that share a name.
+fn have_same_edge(a: &Edit, b: &Edit) -> bool
+    ensures { result ≡ is_same_edge (edit_edge a.now) (edit_edge b.now) }
+{
+    a.name() == b.name() && a.edge() == b.edge()
 }

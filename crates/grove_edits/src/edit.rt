@@ -1,7 +1,7 @@
 ghost use Rattle.std.specs.Prelude.{◌≡◌, IfOk, IfErr, Some};
 ghost use Rattle.grove_edits.specs.Edge.{IsWellFormed, EdgeInRange, edge_fault, edge_from};
 
-use crate::edge::{Edge, EdgeFault, check_edge};
+use crate::edge::{Edge, EdgeFault, check_edge, check_parts};
 use crate::vertex::Vertex;
 use grove_names::Name;
 use grove_sorts::{Branch, Position};
@@ -46,6 +46,36 @@ impl Edit {
             branch,
             position: edge.position,
             target: edge.target,
+            kind,
+        })
+    }
+
+    /// An edit of the edge with this name from a position of a branch to a target, or the edge's first fault. Where these parts are known,
+    /// no edge need be made.
+    #[inline(always)]
+    pub fn of_parts(
+        kind: EditKind,
+        name: Name,
+        source: Name,
+        branch: Branch,
+        position: Position,
+        target: Vertex,
+    ) -> Result<Edit, EdgeFault>
+        ensures edge { IfOk result (λ edit. edit_edge edit ≡ edge_from name source branch position target) }
+        ensures kind { IfOk result (λ edit. edit_kind edit ≡ kind) }
+        ensures first_fault { IfErr result (λ fault. edge_fault (edge_from name source branch position target) ≡ Some fault) }
+    {
+        let from = Vertex {
+            name: source,
+            ctor: branch.ctor(),
+        };
+        check_parts(name, &from, position, &target)?;
+        Ok(Edit {
+            name,
+            source,
+            branch,
+            position,
+            target,
             kind,
         })
     }

@@ -32,6 +32,3 @@ pub use laws::{
 };
 pub use no_memory::NoMemory;
 pub use vertex::{Vertex, compare_vertices, is_same_vertex};
-
-#[cfg(test)]
-mod tests;

@@ -11,6 +11,3 @@ pub use fault::NameFault;
 pub use name::{Name, names_are_ordered};
 pub use no_memory::NoMemory;
 pub use text::{name_has_one_text, read_name, take_name, write_name};
-
-#[cfg(test)]
-mod tests;

@@ -18,20 +18,21 @@ pub(crate) fn append_columns(node: &LentNode, out: &mut Vec<u8>) -> Result<(), N
 {
     append_place(node, out)?;
     out.push(b' ')?;
-    append_vertex(&node.what, out)?;
+    let what = node.what();
+    append_vertex(&what, out)?;
     out.push(b' ')?;
-    append_what(&node.what, out)
+    append_what(&what, out)
 }
 
 fn append_place(node: &LentNode, out: &mut Vec<u8>) -> Result<(), NoMemory>
     ensures appended { OnOk result (out.new.items ≡ out.old.items ++ place_columns (node_of node.now)) }
     ensures in_part { OnErr result (Extends out.old.items out.new.items) }
 {
-    write_number(node.depth, out)?;
+    write_number(node.depth(), out)?;
     out.push(b' ')?;
-    append_position(node.position, out)?;
+    append_position(node.position(), out)?;
     out.push(b' ')?;
-    append_edge(node.edge, out)
+    append_edge(node.edge(), out)
 }
 
 fn append_position(position: Option<Position>, out: &mut Vec<u8>) -> Result<(), NoMemory>

@@ -13,6 +13,3 @@ pub use marked_lines::{print_marked_lines, print_marked_lines_of};
 pub use no_memory::NoMemory;
 pub use print::{print_grove, print_heading, print_tree};
 pub use section::Section;
-
-#[cfg(test)]
-mod tests;

@@ -1,4 +1,5 @@
 ghost use Rattle.std.specs.Prelude.{◌≡◌, ◌++◌, take, OnOk, OnErr};
+ghost use Rattle.marking.specs.Added.{with_added};
 ghost use Rattle.marking.specs.Reading.{meant};
 ghost use Rattle.marking.specs.Numbers.{IsMarkedNodeOf};
 ghost use Rattle.grove_printer.specs.Print.{Extends, node_line};
@@ -6,22 +7,24 @@ ghost use Rattle.grove_printer.specs.Print.{Extends, node_line};
 use crate::columns::append_columns;
 use crate::marks::append_marks;
 use crate::no_memory::NoMemory;
-use marking::MarkedNode;
+use grove_terms::LentNode;
+use marking::Added;
 use type_core::TypeTable;
 
-/// Appends the line of a node; after an error a part of it may stand.
+/// Appends the line of a node and what marking adds to it; after an error a part of it may stand.
 pub(crate) fn append_line(
-    node: &MarkedNode,
+    node: &LentNode,
+    added: &Added,
     types: &TypeTable,
     out: &mut Vec<u8>,
 ) -> Result<(), NoMemory>
-    requires { IsMarkedNodeOf types.now node.now }
-    ensures appended { OnOk result (out.new.items ≡ out.old.items ++ node_line (meant types.now node.now)) }
+    requires { IsMarkedNodeOf types.now (with_added node.now added.now) }
+    ensures appended { OnOk result (out.new.items ≡ out.old.items ++ node_line (meant types.now (with_added node.now added.now))) }
     ensures in_part { OnErr result (Extends out.old.items out.new.items) }
 {
-    append_columns(&node.node, out)?;
+    append_columns(node, out)?;
     out.push(b' ')?;
-    append_marks(node, types, out)?;
+    append_marks(node, added, types, out)?;
     out.push(b'\n')?;
     Ok(())
 }

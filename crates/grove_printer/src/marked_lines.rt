@@ -5,7 +5,7 @@ ghost use Rattle.grove_printer.specs.Print.{Extends, tree_marked_lines, trees_ma
 
 use crate::line::{append_line, whole_or_nothing};
 use crate::no_memory::NoMemory;
-use marking::{MarkedGrove, MarkedNode, MarkedTree};
+use marking::{MarkedGrove, MarkedTree};
 use type_core::TypeTable;
 
 /// Appends the lines of the print text whose nodes have a mark, without headings.
@@ -34,7 +34,7 @@ pub fn print_marked_lines_of(
     ensures unchanged { OnErr result (out.new.items ≡ out.old.items) }
 {
     let start = out.len();
-    let written = append_of_tree(tree.as_slice(), types, out);
+    let written = append_of_tree(tree, types, out);
     whole_or_nothing(written, start, out)
 }
 
@@ -64,23 +64,19 @@ fn append_of_trees(
     ensures in_part { OnErr result (Extends out.old.items out.new.items) }
 {
     for tree in trees {
-        append_of_tree(tree.as_slice(), types, out)?;
+        append_of_tree(tree, types, out)?;
     }
     Ok(())
 }
 
-fn append_of_tree(
-    nodes: &[MarkedNode],
-    types: &TypeTable,
-    out: &mut Vec<u8>,
-) -> Result<(), NoMemory>
-    requires { AreMarkedNodesOf types.now nodes.now }
-    ensures appended { OnOk result (out.new.items ≡ out.old.items ++ tree_marked_lines (meant_nodes types.now nodes.now)) }
+fn append_of_tree(tree: &MarkedTree, types: &TypeTable, out: &mut Vec<u8>) -> Result<(), NoMemory>
+    requires { AreMarkedNodesOf types.now tree.now }
+    ensures appended { OnOk result (out.new.items ≡ out.old.items ++ tree_marked_lines (meant_nodes types.now tree.now)) }
     ensures in_part { OnErr result (Extends out.old.items out.new.items) }
 {
-    for node in nodes {
-        if node.mark.is_some() {
-            append_line(node, types, out)?;
+    for (node, added) in tree.nodes().iter().zip(tree.added()) {
+        if added.mark.is_some() {
+            append_line(node, added, types, out)?;
         }
     }
     Ok(())

@@ -3,15 +3,16 @@ ghost use Rattle.std.specs.Option.{option_map};
 ghost use Rattle.type_core.specs.TypeTable.{IsTypeOf, type_at};
 ghost use Rattle.mark_step.specs.Node.{IsModeOf, wanted_at};
 ghost use Rattle.grove_terms.specs.Lent.{what_of};
+ghost use Rattle.marking.specs.Added.{with_added};
 ghost use Rattle.marking.specs.Reading.{meant};
 ghost use Rattle.marking.specs.Numbers.{IsMarkedNodeOf};
 ghost use Rattle.grove_printer.specs.Print.{Extends, sort_of_node, mode_column, type_column, mark_text, mark_columns};
 
 use crate::no_memory::NoMemory;
 use grove_sorts::{Sort, sort_of, write_sort};
-use grove_terms::LentWhat;
+use grove_terms::{LentNode, LentWhat};
 use mark_step::{Mark, Mode};
-use marking::MarkedNode;
+use marking::Added;
 use type_core::{TypeId, TypeTable};
 
 /// How many levels of a type are printed.
@@ -21,19 +22,20 @@ const LEVELS: u32 = 8;
 
 /// Appends what is wanted of a node, its type and its mark, with a space between each two.
 pub(crate) fn append_marks(
-    node: &MarkedNode,
+    node: &LentNode,
+    added: &Added,
     types: &TypeTable,
     out: &mut Vec<u8>,
 ) -> Result<(), NoMemory>
-    requires { IsMarkedNodeOf types.now node.now }
-    ensures appended { OnOk result (out.new.items ≡ out.old.items ++ mark_columns (meant types.now node.now)) }
+    requires { IsMarkedNodeOf types.now (with_added node.now added.now) }
+    ensures appended { OnOk result (out.new.items ≡ out.old.items ++ mark_columns (meant types.now (with_added node.now added.now))) }
     ensures in_part { OnErr result (Extends out.old.items out.new.items) }
 {
-    append_mode(sort_of_node(&node.node.what), node.mode, types, out)?;
+    append_mode(sort_of_node(&node.what()), added.mode, types, out)?;
     out.push(b' ')?;
-    append_type(node.typ, types, out)?;
+    append_type(added.typ, types, out)?;
     out.push(b' ')?;
-    out.extend_from_slice(mark_word(node.mark))?;
+    out.extend_from_slice(mark_word(added.mark))?;
     Ok(())
 }
 

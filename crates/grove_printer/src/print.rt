@@ -6,7 +6,7 @@ ghost use Rattle.grove_printer.specs.Print.{Extends, tree_text, trees_text, head
 use crate::line::{append_line, whole_or_nothing};
 use crate::no_memory::NoMemory;
 use crate::section::Section;
-use marking::{MarkedGrove, MarkedNode, MarkedTree, MarkedTreeList};
+use marking::{MarkedGrove, MarkedTree, MarkedTreeList};
 use text_parts::write_number;
 use type_core::TypeTable;
 
@@ -42,7 +42,7 @@ pub fn print_tree(tree: &MarkedTree, types: &TypeTable, out: &mut Vec<u8>) -> Re
     ensures unchanged { OnErr result (out.new.items ≡ out.old.items) }
 {
     let start = out.len();
-    let written = append_tree(tree.as_slice(), types, out);
+    let written = append_tree(tree, types, out);
     whole_or_nothing(written, start, out)
 }
 
@@ -89,18 +89,18 @@ fn append_trees(trees: &[MarkedTree], types: &TypeTable, out: &mut Vec<u8>) -> R
     ensures in_part { OnErr result (Extends out.old.items out.new.items) }
 {
     for tree in trees {
-        append_tree(tree.as_slice(), types, out)?;
+        append_tree(tree, types, out)?;
     }
     Ok(())
 }
 
-fn append_tree(nodes: &[MarkedNode], types: &TypeTable, out: &mut Vec<u8>) -> Result<(), NoMemory>
-    requires { AreMarkedNodesOf types.now nodes.now }
-    ensures appended { OnOk result (out.new.items ≡ out.old.items ++ tree_text (meant_nodes types.now nodes.now)) }
+fn append_tree(tree: &MarkedTree, types: &TypeTable, out: &mut Vec<u8>) -> Result<(), NoMemory>
+    requires { AreMarkedNodesOf types.now tree.now }
+    ensures appended { OnOk result (out.new.items ≡ out.old.items ++ tree_text (meant_nodes types.now tree.now)) }
     ensures in_part { OnErr result (Extends out.old.items out.new.items) }
 {
-    for node in nodes {
-        append_line(node, types, out)?;
+    for (node, added) in tree.nodes().iter().zip(tree.added()) {
+        append_line(node, added, types, out)?;
     }
     Ok(())
 }

@@ -23,13 +23,10 @@ pub use laws::{
 };
 pub use no_memory::NoMemory;
 pub use position::Position;
-pub use read::{read_ctor, read_ident, read_position};
+pub use read::{read_branch, read_ctor, read_ident, read_position};
 pub use sort::Sort;
 pub use table::{
     WIDEST, first_position_of_sort, place_at, position_at, position_count, position_sort, sort_of,
 };
 pub use version::{Version, longest_identifier};
 pub use write::{write_ctor, write_ident, write_position, write_sort};
-
-#[cfg(test)]
-mod tests;

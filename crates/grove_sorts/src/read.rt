@@ -4,10 +4,13 @@ ghost use Rattle.grove_sorts.specs.Identifier.{is_inner_byte, is_identifier, IsI
 ghost use Rattle.grove_sorts.specs.Ident.{ident_bytes};
 ghost use Rattle.grove_sorts.specs.Ctor.{InRange, IsPlain, ctor_text};
 ghost use Rattle.grove_sorts.specs.declared.ctor.Ctor.{Ctor};
+ghost use Rattle.grove_sorts.specs.declared.branch.Branch.{Branch};
+ghost use Rattle.grove_sorts.specs.Branch.{branch_ctor};
 ghost use Rattle.grove_sorts.specs.Position.{position_text};
 ghost use Rattle.grove_sorts.specs.declared.position.Position.{Position};
 ghost use Rattle.grove_sorts.specs.Version.{IsCtorOf, IsPositionOf};
 
+use crate::branch::Branch;
 use crate::ctor::Ctor;
 use crate::ident::{Ident, IdentFault};
 use crate::position::Position;
@@ -75,6 +78,7 @@ fn read_any_ctor(bytes: &[u8]) -> Option<Ctor>
     }
 }
 
+#[inline(always)]
 fn read_plain(bytes: &[u8]) -> Option<Ctor>
     ensures found { IfSome result (λ ctor. bytes.now ≡ ctor_text ctor) }
     ensures plain { IfSome result IsPlain }
@@ -102,6 +106,18 @@ fn read_plain(bytes: &[u8]) -> Option<Ctor>
         b"tsum" => Some(Ctor::TSum),
         _ => None,
     }
+}
+
+/// Reads the text of a constructor of the version that has positions.
+#[inline(always)]
+pub fn read_branch(version: Version, bytes: &[u8]) -> Option<Branch>
+    ensures found { IfSome result (λ branch. bytes.now ≡ ctor_text (branch_ctor branch)) }
+    ensures of_version { IfSome result (λ branch. IsCtorOf version (branch_ctor branch)) }
+    ensures none { IfNone result ((branch : Branch) → IsCtorOf version (branch_ctor branch) → bytes.now ≢ ctor_text (branch_ctor branch)) }
+{
+    let ctor = read_plain(bytes)?;
+    let branch = Branch::of(&ctor)?;
+    knows_ctor(version, &ctor).then_some(branch)
 }
 
 /// Reads the word of a position of the version.

@@ -1,13 +1,18 @@
 -- The nodes that lent nodes stand for.
-use Rattle.std.specs.Prelude.{List, map}
-use Rattle.std.specs.Option.{option_map}
+use Rattle.std.specs.Prelude.{List, map, Option, Some, None}
+use Rattle.grove_sorts.specs.declared.position.Position.{Position}
 use Rattle.grove_edits.specs.declared.edge.Edge.{Edge}
+use Rattle.grove_edits.specs.declared.vertex.Vertex.{Vertex}
 use Rattle.grove_edits.specs.Edit.{edit_edge}
 use Rattle.grove_terms.specs.declared.node.LentEdge.{LentEdge}
 use Rattle.grove_terms.specs.declared.node.LentEdge.TheVariants as edges
 use Rattle.grove_terms.specs.declared.node.Node.{Node}
 use Rattle.grove_terms.specs.declared.node.What.{What}
 use Rattle.grove_terms.specs.declared.node.What.TheVariants as whats
+use Rattle.grove_terms.specs.declared.node.Role.{Role}
+use Rattle.grove_terms.specs.declared.node.Role.TheVariants as roles
+use Rattle.grove_terms.specs.declared.node.Place.{Place}
+use Rattle.grove_terms.specs.declared.node.Place.TheVariants as places
 use Rattle.grove_terms.specs.declared.node.LentNode.{LentNode}
 use Rattle.grove_terms.specs.declared.node.LentWhat.{LentWhat}
 use Rattle.grove_terms.specs.declared.node.LentWhat.TheVariants as lent
@@ -24,8 +29,36 @@ abbrev pub edge_of : LentEdge → Edge
 edge_of (edges.Whole e) = e.now
 edge_of (edges.OfEdit edit) = edit_edge edit.now
 
+-- what a child is in a role, where its edge leads to this vertex
+abbrev pub what_as : Role → Vertex → What
+what_as roles.Vertex v = whats.Vertex v
+what_as roles.MultiRef v = whats.MultiRef v
+what_as roles.CycleRef v = whats.CycleRef v
+
+-- the position of a place: that of its edge, for a child
+abbrev pub position_in : Place → Option Position
+position_in (places.Head v) = None
+position_in (places.Whole e role) = Some e.now.position
+position_in (places.OfEdit edit role) = Some (edit_edge edit.now).position
+position_in (places.Hole p sort) = Some p
+position_in (places.Conflict p sort count) = Some p
+
+-- the edge to a place, for a child
+abbrev pub edge_in : Place → Option Edge
+edge_in (places.Whole e role) = Some e.now
+edge_in (places.OfEdit edit role) = Some (edit_edge edit.now)
+edge_in _ = None
+
+-- what stands at a place: the target of its edge in its role, for a child
+abbrev pub what_in : Place → What
+what_in (places.Head v) = whats.Vertex v.now
+what_in (places.Whole e role) = what_as role e.now.target
+what_in (places.OfEdit edit role) = what_as role (edit_edge edit.now).target
+what_in (places.Hole p sort) = whats.Hole sort
+what_in (places.Conflict p sort count) = whats.Conflict sort count
+
 abbrev pub node_of : LentNode → Node
-node_of n = record { depth = n.depth; position = n.position; edge = option_map edge_of n.edge; what = what_of n.what }
+node_of n = record { depth = n.depth; position = position_in n.place; edge = edge_in n.place; what = what_in n.place }
 
 abbrev pub nodes_of : List LentNode → List Node
 nodes_of ns = map node_of ns

@@ -19,9 +19,6 @@ pub use laws::{
 };
 pub use listing::edges;
 pub use no_memory::NoMemory;
-pub use node::{LentEdge, LentNode, LentWhat, Node, What};
+pub use node::{LentEdge, LentNode, LentWhat, Node, Role, What};
 pub use tree::Tree;
 pub use tree_list::TreeList;
-
-#[cfg(test)]
-mod tests;

@@ -32,7 +32,7 @@ fn push_tree(tree: &Tree, edges: &mut EdgeList) -> Result<(), NoMemory>
     ensures { OnOk result (edges.new ≡ edges.old ++ node_edges tree.now) }
 {
     for node in tree.as_slice() {
-        if let Some(edge) = node.edge {
+        if let Some(edge) = node.edge() {
             edges.push(edge.edge())?;
         }
     }

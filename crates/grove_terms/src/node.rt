@@ -32,16 +32,12 @@ pub enum What {
     CycleRef(Vertex),
 }
 
-/// A node of a tree whose edge and vertex are lent by the graph, since both are wide.
+/// What a child is: the vertex to which its edge leads, with what stands under it, or a reference to that vertex. See `What`.
 #[derive(Clone, Copy, Debug, PartialEq, Eq)]
-pub struct LentNode<'g> {
-    /// How deep it stands; the head of a tree stands at depth 0.
-    pub depth: u64,
-    /// The position at which it stands; the head of a tree stands at none.
-    pub position: Option<Position>,
-    /// The edge that leads to it, for a child.
-    pub edge: Option<LentEdge<'g>>,
-    pub what: LentWhat<'g>,
+pub enum Role {
+    Vertex,
+    MultiRef,
+    CycleRef,
 }
 
 /// An edge as the graph that lends it has it.
@@ -106,8 +102,20 @@ pub enum LentWhat<'g> {
     CycleRef(&'g Vertex),
 }
 
-impl LentWhat<'_> {
-    ghost use Rattle.grove_terms.specs.Lent.{what_of};
+impl<'g> LentWhat<'g> {
+    ghost use Rattle.grove_terms.specs.Lent.{what_as, what_of};
+
+    // What a child is in a role, where its edge leads to this vertex.
+    #[inline(always)]
+    fn in_role(role: Role, vertex: &'g Vertex) -> LentWhat<'g>
+        ensures { what_of result ≡ what_as role vertex.now }
+    {
+        match role {
+            Role::Vertex => LentWhat::Vertex(vertex),
+            Role::MultiRef => LentWhat::MultiRef(vertex),
+            Role::CycleRef => LentWhat::CycleRef(vertex),
+        }
+    }
 
     fn owned(&self) -> What
         ensures { result ≡ what_of self.now }
@@ -122,8 +130,119 @@ impl LentWhat<'_> {
     }
 }
 
-impl LentNode<'_> {
-    ghost use Rattle.grove_terms.specs.Lent.{node_of};
+/// A node of a tree whose edge or vertex is lent by the graph, since both are wide.
+#[derive(Clone, Copy, Debug, PartialEq, Eq)]
+pub struct LentNode<'g> {
+    depth: u64,
+    place: Place<'g>,
+}
+
+// Where a node stands, and what it is. A child stands at the position of its edge, and its vertex is the target of its edge, so it tells
+// the edge alone. The two forms of an edge stand here, and no `LentEdge`, whose tag would make each node a word wider.
+#[derive(Clone, Copy, Debug, PartialEq, Eq)]
+enum Place<'g> {
+    Head(&'g Vertex),
+    Whole(&'g Edge, Role),
+    OfEdit(&'g Edit, Role),
+    Hole(Position, Sort),
+    Conflict(Position, Sort, u64),
+}
+
+impl<'g> LentNode<'g> {
+    ghost use Rattle.grove_terms.specs.declared.node.What.TheVariants as whats;
+    ghost use Rattle.grove_terms.specs.Nodes.{child_node, head_node, node_at};
+    ghost use Rattle.grove_terms.specs.Lent.{edge_of, node_of, what_as, what_of};
+
+    /// The node at the head of a tree.
+    #[inline(always)]
+    pub fn head(vertex: &'g Vertex) -> LentNode<'g>
+        ensures { node_of result ≡ head_node vertex.now }
+    {
+        LentNode {
+            depth: 0,
+            place: Place::Head(vertex),
+        }
+    }
+
+    /// The node of a child, at the position of its edge.
+    #[inline(always)]
+    pub fn child(depth: u64, edge: LentEdge<'g>, role: Role) -> LentNode<'g>
+        ensures { let whole = edge_of edge.entry in node_of result ≡ child_node depth whole.position whole (what_as role whole.target) }
+    {
+        let place = match edge {
+            LentEdge::Whole(edge) => Place::Whole(edge, role),
+            LentEdge::OfEdit(edit) => Place::OfEdit(edit, role),
+        };
+        LentNode { depth, place }
+    }
+
+    /// The node of a position, of this sort, without a child.
+    #[inline(always)]
+    pub fn hole(depth: u64, position: Position, sort: Sort) -> LentNode<'g>
+        ensures { node_of result ≡ node_at depth position (whats.Hole sort) }
+    {
+        LentNode {
+            depth,
+            place: Place::Hole(position, sort),
+        }
+    }
+
+    /// The node of a position, of this sort, with so many children.
+    #[inline(always)]
+    pub fn conflict(depth: u64, position: Position, sort: Sort, count: u64) -> LentNode<'g>
+        ensures { node_of result ≡ node_at depth position (whats.Conflict sort count) }
+    {
+        LentNode {
+            depth,
+            place: Place::Conflict(position, sort, count),
+        }
+    }
+
+    /// How deep it stands; the head of a tree stands at depth 0.
+    #[inline(always)]
+    pub fn depth(&self) -> u64
+        ensures { result ≡ (node_of self.now).depth }
+    {
+        self.depth
+    }
+
+    /// The position at which it stands; the head of a tree stands at none.
+    #[inline(always)]
+    pub fn position(&self) -> Option<Position>
+        ensures { result ≡ (node_of self.now).position }
+    {
+        match self.place {
+            Place::Head(_) => None,
+            Place::Whole(edge, _) => Some(edge.position),
+            Place::OfEdit(edit, _) => Some(edit.position()),
+            Place::Hole(position, _) | Place::Conflict(position, _, _) => Some(position),
+        }
+    }
+
+    /// The edge that leads to it, for a child.
+    #[inline(always)]
+    pub fn edge(&self) -> Option<LentEdge<'g>>
+        ensures { option_map edge_of result ≡ (node_of self.now).edge }
+    {
+        match self.place {
+            Place::Whole(edge, _) => Some(LentEdge::Whole(edge)),
+            Place::OfEdit(edit, _) => Some(LentEdge::OfEdit(edit)),
+            Place::Head(_) | Place::Hole(_, _) | Place::Conflict(_, _, _) => None,
+        }
+    }
+
+    #[inline(always)]
+    pub fn what(&self) -> LentWhat<'g>
+        ensures { what_of result ≡ (node_of self.now).what }
+    {
+        match self.place {
+            Place::Head(vertex) => LentWhat::Vertex(vertex),
+            Place::Whole(edge, role) => LentWhat::in_role(role, &edge.target),
+            Place::OfEdit(edit, role) => LentWhat::in_role(role, edit.target()),
+            Place::Hole(_, sort) => LentWhat::Hole(sort),
+            Place::Conflict(_, sort, count) => LentWhat::Conflict(sort, count),
+        }
+    }
 
     /// The node itself.
     pub fn node(&self) -> Node
@@ -131,9 +250,9 @@ impl LentNode<'_> {
     {
         Node {
             depth: self.depth,
-            position: self.position,
-            edge: whole(self.edge),
-            what: self.what.owned(),
+            position: self.position(),
+            edge: whole(self.edge()),
+            what: self.what().owned(),
         }
     }
 }

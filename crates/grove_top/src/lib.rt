@@ -18,6 +18,3 @@ pub use laws::{one_summary_is_due, one_text_is_due, same_edits_same_text};
 pub use limit::{MOST_BYTES, MOST_LOADS};
 pub use outcome::{Fault, Outcome, Status};
 pub use top::{run, run_plain};
-
-#[cfg(test)]
-mod tests;

@@ -14,6 +14,3 @@ pub use frame::{Closed, Frame, Given, GivenRow, OpenVertex};
 pub use laws::taking_all_nodes_marks_the_tree;
 pub use no_memory::NoMemory;
 pub use opening::{demand_at, demand_next, fill, fresh, nothing};
-
-#[cfg(test)]
-mod tests;

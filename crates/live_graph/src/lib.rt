@@ -21,6 +21,3 @@ pub use edges::Edges;
 pub use live_graph::LiveGraph;
 pub use no_memory::NoMemory;
 pub use vertices::Named;
-
-#[cfg(test)]
-mod tests;

@@ -25,6 +25,3 @@ mod way;
 pub use applying::{Applied, OldRecords, is_raised};
 pub use marks::Marks;
 pub use no_memory::NoMemory;
-
-#[cfg(test)]
-mod tests;

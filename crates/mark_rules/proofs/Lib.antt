@@ -1,3 +1,4 @@
 pub mod Kept
 pub mod Walks
+pub mod Innermost
 pub mod Marks

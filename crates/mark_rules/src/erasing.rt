@@ -1,4 +1,4 @@
-ghost use Rattle.std.specs.Prelude.{◌≡◌, ◌++◌, map, IfOk, OnOk};
+ghost use Rattle.std.specs.Prelude.{◌≡◌, map, IfOk};
 ghost use Rattle.marking.specs.Reading.{bare_nodes};
 
 use crate::no_memory::NoMemory;
@@ -7,7 +7,7 @@ use marking::{MarkedGrove, MarkedTree, MarkedTreeList};
 use std::alloc::Global;
 
 /// The grove without what marking added.
-pub fn erase<'t>(alloc: Global, marked: &MarkedGrove<'t>) -> Result<Grove<'t>, NoMemory>
+pub fn erase<'t>(alloc: Global, marked: &MarkedGrove<'_, 't>) -> Result<Grove<'t>, NoMemory>
     ensures none { IfOk result (λ grove. grove.none ≡ map bare_nodes marked.now.none) }
     ensures multi { IfOk result (λ grove. grove.multi ≡ map bare_nodes marked.now.multi) }
     ensures cycle { IfOk result (λ grove. grove.cycle ≡ map bare_nodes marked.now.cycle) }
@@ -18,7 +18,7 @@ pub fn erase<'t>(alloc: Global, marked: &MarkedGrove<'t>) -> Result<Grove<'t>, N
     Ok(Grove { none, multi, cycle })
 }
 
-fn erase_trees<'t>(alloc: Global, marked: &MarkedTreeList<'t>) -> Result<TreeList<'t>, NoMemory>
+fn erase_trees<'t>(alloc: Global, marked: &MarkedTreeList<'_, 't>) -> Result<TreeList<'t>, NoMemory>
     ensures { IfOk result (λ trees. trees ≡ map bare_nodes marked.now) }
 {
     let mut trees = TreeList::new(alloc);
@@ -28,12 +28,12 @@ fn erase_trees<'t>(alloc: Global, marked: &MarkedTreeList<'t>) -> Result<TreeLis
     Ok(trees)
 }
 
-fn erase_tree<'t>(alloc: Global, marked: &MarkedTree<'t>) -> Result<Tree<'t>, NoMemory>
+fn erase_tree<'t>(alloc: Global, marked: &MarkedTree<'_, 't>) -> Result<Tree<'t>, NoMemory>
     ensures { IfOk result (λ tree. tree ≡ bare_nodes marked.now) }
 {
     let mut tree = Tree::new(alloc);
-    for node in marked.as_slice() {
-        tree.push(node.node)?;
+    for node in marked.nodes() {
+        tree.push(*node)?;
     }
     Ok(tree)
 }

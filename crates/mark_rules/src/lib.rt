@@ -11,6 +11,3 @@ pub use erasing::erase;
 pub use marking::{MarkedGrove, MarkedNode, MarkedTree, MarkedTreeList};
 pub use marking_trees::{mark_grove, mark_tree};
 pub use no_memory::NoMemory;
-
-#[cfg(test)]
-mod tests;

@@ -1,4 +1,4 @@
-ghost use Rattle.std.specs.Prelude.{◌≡◌, map, IfOk};
+ghost use Rattle.std.specs.Prelude.{map, IfOk};
 ghost use Rattle.type_core.specs.TypeTable.{KeepsTypes};
 ghost use Rattle.ctx_table.specs.CtxTable.{KeepsContexts};
 ghost use Rattle.marking.specs.Grove.{IsMarkedTree, AreMarkedTrees, IsMarkedGrove};
@@ -16,34 +16,35 @@ use type_core::TypeTable;
 
 /// The nodes of a well-sorted tree with what marking adds to them. The numbers of both tables keep their meaning, also where memory
 /// runs out.
-pub fn mark_tree<'t>(
+pub fn mark_tree<'n, 't>(
     alloc: Global,
-    tree: &Tree<'t>,
+    tree: &'n Tree<'t>,
     types: &mut TypeTable,
     ctxs: &mut CtxTable,
-) -> Result<MarkedTree<'t>, NoMemory>
+) -> Result<MarkedTree<'n, 't>, NoMemory>
     requires sorted { IsSortedTree tree.now }
     ensures marked { IfOk result (λ marked. IsMarkedTree tree.now (meant_nodes types.new marked)) }
     ensures numbers { IfOk result (λ marked. AreMarkedNodesOf types.new marked) }
     ensures types { KeepsTypes types.old types.new }
     ensures contexts { KeepsContexts ctxs.old ctxs.new }
 {
+    let nodes = tree.as_slice();
     let mut walk = Walk {
         frames: Vec::new(alloc),
-        out: MarkedTree::with_capacity(alloc, tree.len())?,
+        added: Vec::with_capacity(alloc, nodes.len())?,
     };
-    for node in tree.as_slice() {
+    for node in nodes {
         take(alloc, types, ctxs, &mut walk, node)?;
     }
-    Ok(walk.out)
+    Ok(MarkedTree::new(nodes, walk.added))
 }
 
-fn mark_trees<'t>(
+fn mark_trees<'n, 't>(
     alloc: Global,
-    trees: &TreeList<'t>,
+    trees: &'n TreeList<'t>,
     types: &mut TypeTable,
     ctxs: &mut CtxTable,
-) -> Result<MarkedTreeList<'t>, NoMemory>
+) -> Result<MarkedTreeList<'n, 't>, NoMemory>
     requires sorted { AreSortedTrees trees.now }
     ensures marked { IfOk result (λ marked. AreMarkedTrees trees.now (map (meant_nodes types.new) marked)) }
     ensures numbers { IfOk result (λ marked. AreMarkedListsOf types.new marked) }
@@ -59,12 +60,12 @@ fn mark_trees<'t>(
 
 /// The trees of a grove of well-sorted trees, each marked by itself. The numbers of both tables keep their meaning, also where memory
 /// runs out.
-pub fn mark_grove<'t>(
+pub fn mark_grove<'n, 't>(
     alloc: Global,
-    grove: &Grove<'t>,
+    grove: &'n Grove<'t>,
     types: &mut TypeTable,
     ctxs: &mut CtxTable,
-) -> Result<MarkedGrove<'t>, NoMemory>
+) -> Result<MarkedGrove<'n, 't>, NoMemory>
     requires sorted { IsSortedGrove grove.now }
     ensures marked { IfOk result (λ marked. IsMarkedGrove grove.now (meant_grove types.new marked)) }
     ensures numbers { IfOk result (λ marked. IsMarkedGroveOf types.new marked) }

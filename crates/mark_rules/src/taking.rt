@@ -1,26 +1,28 @@
-ghost use Rattle.std.specs.Prelude.{◌≡◌, ◌-◌, List, ◌∷◌, ◌++◌, [], length, slice_get, IfOk, OnOk, IfSome};
+ghost use Rattle.std.specs.Prelude.{◌≡◌, ◌+◌, ◌-◌, ◌<◌, List, ◌∷◌, ◌++◌, [], length, set, slice_get, Some, IfOk, OnOk, IfSome};
 ghost use Rattle.std.specs.Option.{option_map};
-ghost use Rattle.grove_sorts.specs.Ctor.{sort_of_ctor};
-ghost use Rattle.grove_terms.specs.Lent.{node_of, what_of};
+ghost use Rattle.grove_terms.specs.declared.node.LentNode.{LentNode};
+ghost use Rattle.grove_sorts.specs.Ctor.{positions};
+ghost use Rattle.grove_terms.specs.Lent.{node_of};
 ghost use Rattle.type_core.specs.Typ.{Typ};
 ghost use Rattle.type_core.specs.TypeTable.{KeepsTypes};
 ghost use Rattle.ctx_table.specs.CtxTable.{KeepsContexts};
 ghost use Rattle.mark_step.specs.Node.{wanted_at, demanded_at, IsModeOf, IsDemandOf};
-ghost use Rattle.marking.specs.Marking.{marked_plain, marked_tree};
+ghost use Rattle.marking.specs.Marking.{marked_plain};
+ghost use Rattle.marking.specs.Added.{with_added, marked_nodes};
 ghost use Rattle.marking.specs.Reading.{meant, meant_nodes};
+ghost use Rattle.marking.specs.Numbers.{IsAddedOf, AreAddedOf};
 ghost use Rattle.judging.specs.Machine as machine;
-ghost use Rattle.judging.specs.Machine.{deliver, opened, taken, step};
-ghost use Rattle.judging.specs.Frames.{given_at, opened_at, left_of, frame_at, frames_at, IsGivenOf, IsOpenOf, IsFrameOf};
-ghost use Rattle.marking.specs.Numbers.{IsMarkedNodeOf, AreMarkedNodesOf};
-ghost use Rattle.mark_rules.specs.Walking.{state_at, given_on, IsWalkOf};
+ghost use Rattle.judging.specs.Machine.{opened, taken, step};
+ghost use Rattle.judging.specs.Frames.{given_at, frames_at, filled_with, IsGivenOf};
+ghost use Rattle.mark_rules.specs.Walking.{state_at, given_on, added_by, IsWalkOf};
 
 use crate::no_memory::NoMemory;
 use ctx_table::CtxTable;
-use grove_sorts::{Sort, position_count, sort_of};
+use grove_sorts::{Ctor, Sort, position_count, sort_of};
 use grove_terms::{LentNode, LentWhat};
-use judging::{Frame, Given, OpenVertex, close, demand_next, fill, fresh, nothing};
+use judging::{Closed, Frame, Given, OpenVertex, close, demand_next, fresh, nothing};
 use mark_step::{Demand, Mark, Mode};
-use marking::{MarkedNode, MarkedTree};
+use marking::Added;
 use std::alloc::Global;
 use type_core::TypeTable;
 
@@ -29,27 +31,27 @@ use type_core::TypeTable;
 pub(crate) struct Walk<'t> {
     /// What is open, innermost last, each with the index of its node.
     pub(crate) frames: Vec<(usize, Frame<'t>)>,
-    pub(crate) out: MarkedTree<'t>,
+    /// What is added to each of the nodes so far. The nodes themselves stand in the tree.
+    pub(crate) added: Vec<Added>,
 }
 
-// The node of an open vertex, which is not marked yet.
-fn unsettled<'t>(node: &LentNode<'t>) -> MarkedNode<'t>
-    ensures node { (types : List Typ) → meant types result ≡ machine.unsettled (node_of node.now) }
-    ensures numbers { (types : List Typ) → IsMarkedNodeOf types result }
+// What is added to the node of an open vertex, which is not marked yet.
+fn unsettled() -> Added
+    ensures node { (types : List Typ) (node : LentNode) → meant types (with_added node result) ≡ machine.unsettled (node_of node) }
+    ensures numbers { (types : List Typ) → IsAddedOf types result }
 {
-    MarkedNode {
-        node: *node,
+    Added {
         mode: None,
         typ: None,
         mark: Mark::None,
     }
 }
 
-// The node of a position without a sole child, or of a reference.
-fn plain<'t>(types: &TypeTable, sort: Sort, mode: Mode, node: &LentNode<'t>) -> MarkedNode<'t>
+// What is added to the node of a position without a sole child, or of a reference.
+fn plain(types: &TypeTable, sort: Sort, mode: Mode) -> Added
     requires { IsModeOf types.now mode }
-    ensures node { meant types.now result ≡ marked_plain sort (wanted_at types.now mode) (node_of node.now) }
-    ensures numbers { IsMarkedNodeOf types.now result }
+    ensures node { (node : LentNode) → meant types.now (with_added node result) ≡ marked_plain sort (wanted_at types.now mode) (node_of node) }
+    ensures numbers { IsAddedOf types.now result }
 {
     let unknown = types.unknown();
     let (mode, typ) = match sort {
@@ -57,91 +59,151 @@ fn plain<'t>(types: &TypeTable, sort: Sort, mode: Mode, node: &LentNode<'t>) -> 
         Sort::Typ => (None, Some(unknown)),
         Sort::Pat | Sort::Top => (None, None),
     };
-    MarkedNode {
-        node: *node,
+    Added {
         mode,
         typ,
         mark: Mark::None,
     }
 }
 
-// Lists such a node, and tells what it gives.
+// Lists what is added to the next node. A `push` makes room for handing it back where memory runs out, on each call.
+fn list(added: &mut Vec<Added>, next: Added) -> Result<(), NoMemory>
+    ensures { OnOk result (added.new.items ≡ added.old.items ++ next ∷ []) }
+{
+    added.reserve(1)?;
+    added.push_reserved(next);
+    Ok(())
+}
+
+// Lists what is added to such a node, and tells what it gives.
 fn list_plain<'t>(
     types: &TypeTable,
-    out: &mut MarkedTree<'t>,
+    added: &mut Vec<Added>,
     sort: Sort,
     mode: Mode,
-    node: &LentNode<'t>,
 ) -> Result<Given<'t>, NoMemory>
     requires mode { IsModeOf types.now mode }
-    requires out { AreMarkedNodesOf types.now out.old }
-    ensures out { OnOk result (meant_nodes types.now out.new ≡ meant_nodes types.now out.old ++ marked_plain sort (wanted_at types.now mode) (node_of node.now) ∷ []) }
-    ensures numbers { OnOk result (AreMarkedNodesOf types.now out.new) }
+    requires added { AreAddedOf types.now added.old.items }
+    ensures listed { OnOk result ((nodes : List LentNode) (node : LentNode) → slice_get nodes (length added.old.items) ≡ Some node
+        → meant_nodes types.now (marked_nodes nodes added.new.items)
+        ≡ meant_nodes types.now (marked_nodes nodes added.old.items) ++ marked_plain sort (wanted_at types.now mode) (node_of node) ∷ []) }
+    ensures count { OnOk result (length added.new.items ≡ length added.old.items + 1) }
+    ensures numbers { OnOk result (AreAddedOf types.now added.new.items) }
     ensures given { IfOk result (λ given. given_at types.now given ≡ machine.nothing) }
     ensures given_number { IfOk result (IsGivenOf types.now) }
 {
-    out.push(plain(types, sort, mode, node))?;
+    list(added, plain(types, sort, mode))?;
     Ok(nothing(types))
 }
 
-// Opens the vertex, whose node has this index, where some of its positions are left, and else closes it and tells what it gives.
-fn go_on<'t>(
+// Puts what is added to the node at an index, if there is one.
+fn settle(added: &mut Vec<Added>, index: usize, settled: Added)
+    ensures { added.new.items ≡ set added.old.items index settled }
+{
+    if index < added.len() {
+        added[index] = settled;
+    }
+}
+
+// What marking adds to the node of a vertex that is closed.
+fn added_by(closed: &Closed) -> Added
+    ensures { result ≡ added_by closed.now }
+{
+    Added {
+        mode: closed.mode,
+        typ: closed.typ,
+        mark: closed.mark,
+    }
+}
+
+// Opens a vertex, whose node has this index, where it has positions, and else closes it at once and tells what it gives.
+fn open<'t>(
     alloc: Global,
     types: &mut TypeTable,
     ctxs: &CtxTable,
     walk: &mut Walk<'t>,
     place: usize,
-    vertex: &OpenVertex<'t>,
+    ctor: &'t Ctor,
+    demand: Demand,
 ) -> Result<Option<Given<'t>>, NoMemory>
     requires walk { IsWalkOf types.old ctxs.now walk.old }
-    requires vertex { IsOpenOf types.old ctxs.now vertex.now }
-    ensures state { IfOk result (λ given. given_on types.new ctxs.now given walk.new ≡ opened place (opened_at types.old ctxs.now vertex.now) (left_of vertex.now)
-        (frames_at types.old ctxs.now walk.old.frames.items) (meant_nodes types.old walk.old.out)) }
+    requires demand { IsDemandOf types.old ctxs.now demand }
+    ensures state { IfOk result (λ given. (nodes : List LentNode)
+        → given_on types.new ctxs.now nodes given walk.new ≡ opened place (machine.fresh ctor.now (demanded_at types.old ctxs.now demand)) (positions ctor.now)
+        (frames_at types.old ctxs.now walk.old.frames.items) (meant_nodes types.old (marked_nodes nodes walk.old.added.items))) }
+    ensures count { OnOk result (length walk.new.added.items ≡ length walk.old.added.items) }
     ensures given { IfOk result (λ given. IfSome given (IsGivenOf types.new)) }
-    ensures shorter { IfOk result (λ given. IfSome given (λ g. length walk.new.frames.items ≡ length walk.old.frames.items)) }
     ensures walk { OnOk result (IsWalkOf types.new ctxs.now walk.new) }
     ensures kept { KeepsTypes types.old types.new }
 {
-    if vertex.next < position_count(vertex.ctor) {
-        walk.frames.push((place, Frame::Open(*vertex)))?;
+    if position_count(ctor) > 0 {
+        walk.frames.reserve(1)?;
+        walk.frames
+            .push_reserved((place, Frame::Open(fresh(types, ctor, demand))));
         return Ok(None);
     }
-    let closed = close(alloc, types, ctxs, vertex)?;
-    walk.out.settle(place, closed.mode, closed.typ, closed.mark);
+    let closed = close(alloc, types, ctxs, &fresh(types, ctor, demand))?;
+    settle(&mut walk.added, place, added_by(&closed));
     Ok(Some(closed.given))
 }
 
-// Gives something to a frame that was the innermost, and tells what that gives to the next one.
+// Gives a vertex what the child at its next position has given, as `judging::fill` does, which writes the whole wide row: here only that
+// position is written.
+fn fill<'t>(vertex: &mut OpenVertex<'t>, given: Given<'t>)
+    requires { vertex.old.next < length (positions vertex.old.ctor.now) }
+    ensures { vertex.new ≡ filled_with given.entry vertex.old }
+{
+    match vertex.next {
+        0 => vertex.given.first = given,
+        1 => vertex.given.second = given,
+        2 => vertex.given.third = given,
+        3 => vertex.given.fourth = given,
+        4 => vertex.given.fifth = given,
+        _ => {}
+    }
+    vertex.next += 1;
+}
+
+// Gives something to the innermost frame where it stands. Where that was the last thing to be given, takes the frame off and tells what it
+// gives to the next one.
 fn pass<'t>(
     alloc: Global,
     types: &mut TypeTable,
     ctxs: &CtxTable,
     walk: &mut Walk<'t>,
-    place: usize,
-    frame: &mut Frame<'t>,
     given: Given<'t>,
 ) -> Result<Option<Given<'t>>, NoMemory>
     requires walk { IsWalkOf types.old ctxs.now walk.old }
-    requires frame { IsFrameOf types.old ctxs.now frame.old }
     requires given { IsGivenOf types.old given }
-    ensures state { IfOk result (λ g. given_on types.new ctxs.now g walk.new ≡ deliver (given_at types.old given.entry)
-        (frame_at types.old ctxs.now place frame.old ∷ frames_at types.old ctxs.now walk.old.frames.items) (meant_nodes types.old walk.old.out)) }
+    ensures state { IfOk result (λ g. (nodes : List LentNode)
+        → given_on types.new ctxs.now nodes g walk.new ≡ given_on types.old ctxs.now nodes (Some given.entry) walk.old) }
+    ensures count { OnOk result (length walk.new.added.items ≡ length walk.old.added.items) }
     ensures given { IfOk result (λ given. IfSome given (IsGivenOf types.new)) }
-    ensures shorter { IfOk result (λ given. IfSome given (λ g. length walk.new.frames.items ≡ length walk.old.frames.items)) }
+    ensures shorter { IfOk result (λ given. IfSome given (λ g. length walk.new.frames.items < length walk.old.frames.items)) }
     ensures walk { OnOk result (IsWalkOf types.new ctxs.now walk.new) }
     ensures kept { KeepsTypes types.old types.new }
 {
+    let Some(last) = walk.frames.len().checked_sub(1) else {
+        return Ok(None);
+    };
+    let (place, frame) = &mut walk.frames[last];
     match frame {
         Frame::Open(vertex) => {
             fill(vertex, given);
-            go_on(alloc, types, ctxs, walk, place, vertex)
-        }
-        Frame::Several(demand, left) => {
-            if *left > 1 {
-                walk.frames
-                    .push((place, Frame::Several(*demand, *left - 1)))?;
+            if vertex.next < position_count(vertex.ctor) {
                 return Ok(None);
             }
+            let closed = close(alloc, types, ctxs, vertex)?;
+            settle(&mut walk.added, *place, added_by(&closed));
+            walk.frames.truncate(last);
+            Ok(Some(closed.given))
+        }
+        Frame::Several(_, left) => {
+            if *left > 1 {
+                *left -= 1;
+                return Ok(None);
+            }
+            walk.frames.truncate(last);
             Ok(Some(nothing(types)))
         }
     }
@@ -157,21 +219,19 @@ fn hand_on<'t>(
 ) -> Result<(), NoMemory>
     requires walk { IsWalkOf types.old ctxs.now walk.old }
     requires given { IfSome given (IsGivenOf types.old) }
-    ensures state { OnOk result (state_at types.new ctxs.now walk.new ≡ given_on types.old ctxs.now given.entry walk.old) }
+    ensures state { OnOk result ((nodes : List LentNode) → state_at types.new ctxs.now nodes walk.new ≡ given_on types.old ctxs.now nodes given.entry walk.old) }
+    ensures count { OnOk result (length walk.new.added.items ≡ length walk.old.added.items) }
     ensures walk { OnOk result (IsWalkOf types.new ctxs.now walk.new) }
     ensures kept { KeepsTypes types.old types.new }
 {
     let mut pending = given;
     while let Some(given) = pending {
-        let Some((place, mut frame)) = walk.frames.pop() else {
-            return Ok(());
-        };
-        pending = pass(alloc, types, ctxs, walk, place, &mut frame, given)?;
+        pending = pass(alloc, types, ctxs, walk, given)?;
     }
     Ok(())
 }
 
-// Marks a node, of which this is demanded, as far as it can be, and tells what it gives.
+// Marks the next node, of which this is demanded, as far as it can be, and tells what it gives.
 fn begin<'t>(
     alloc: Global,
     types: &mut TypeTable,
@@ -182,33 +242,36 @@ fn begin<'t>(
 ) -> Result<Option<Given<'t>>, NoMemory>
     requires walk { IsWalkOf types.old ctxs.now walk.old }
     requires demand { IsDemandOf types.old ctxs.now demand }
-    ensures state { IfOk result (λ g. given_on types.new ctxs.now g walk.new ≡ taken (what_of node.now.what) (node_of node.now) (demanded_at types.old ctxs.now demand)
-        (frames_at types.old ctxs.now walk.old.frames.items) (meant_nodes types.old walk.old.out)) }
+    ensures state { IfOk result (λ g. (nodes : List LentNode) → slice_get nodes (length walk.old.added.items) ≡ Some node.now
+        → given_on types.new ctxs.now nodes g walk.new ≡ taken (node_of node.now).what (node_of node.now) (demanded_at types.old ctxs.now demand)
+        (frames_at types.old ctxs.now walk.old.frames.items) (meant_nodes types.old (marked_nodes nodes walk.old.added.items))) }
+    ensures count { OnOk result (length walk.new.added.items ≡ length walk.old.added.items + 1) }
     ensures given { IfOk result (λ given. IfSome given (IsGivenOf types.new)) }
     ensures walk { OnOk result (IsWalkOf types.new ctxs.now walk.new) }
     ensures kept { KeepsTypes types.old types.new }
 {
     let mode = demand.mode;
-    let place = walk.out.len();
-    match node.what {
+    let place = walk.added.len();
+    match node.what() {
         LentWhat::Vertex(vertex) => {
-            walk.out.push(unsettled(node))?;
-            let begun = fresh(types, &vertex.ctor, demand);
-            go_on(alloc, types, ctxs, walk, place, &begun)
+            list(&mut walk.added, unsettled())?;
+            open(alloc, types, ctxs, walk, place, &vertex.ctor, demand)
         }
-        LentWhat::Hole(sort) => Ok(Some(list_plain(types, &mut walk.out, sort, mode, node)?)),
+        LentWhat::Hole(sort) => Ok(Some(list_plain(types, &mut walk.added, sort, mode)?)),
         LentWhat::Conflict(sort, count) => {
-            list_plain(types, &mut walk.out, sort, mode, node)?;
+            list_plain(types, &mut walk.added, sort, mode)?;
             let each = Demand {
                 ctx: demand.ctx,
                 mode: Mode::Syn,
             };
-            walk.frames.push((place, Frame::Several(each, count)))?;
+            walk.frames.reserve(1)?;
+            walk.frames
+                .push_reserved((place, Frame::Several(each, count)));
             Ok(None)
         }
         LentWhat::MultiRef(vertex) | LentWhat::CycleRef(vertex) => {
             let sort = sort_of(&vertex.ctor);
-            Ok(Some(list_plain(types, &mut walk.out, sort, mode, node)?))
+            Ok(Some(list_plain(types, &mut walk.added, sort, mode)?))
         }
     }
 }
@@ -229,7 +292,9 @@ pub(crate) fn take<'t>(
     node: &LentNode<'t>,
 ) -> Result<(), NoMemory>
     requires walk { IsWalkOf types.old ctxs.old walk.old }
-    ensures state { OnOk result (state_at types.new ctxs.new walk.new ≡ step (state_at types.old ctxs.old walk.old) (node_of node.now)) }
+    ensures state { OnOk result ((nodes : List LentNode) → slice_get nodes (length walk.old.added.items) ≡ Some node.now
+        → state_at types.new ctxs.new nodes walk.new ≡ step (state_at types.old ctxs.old nodes walk.old) (node_of node.now)) }
+    ensures count { OnOk result (length walk.new.added.items ≡ length walk.old.added.items + 1) }
     ensures walk { OnOk result (IsWalkOf types.new ctxs.new walk.new) }
     ensures types { KeepsTypes types.old types.new }
     ensures contexts { KeepsContexts ctxs.old ctxs.new }

@@ -17,6 +17,3 @@ pub use laws::{
 pub use no_memory::NoMemory;
 pub use node::{Binder, Demand, Mark, Mode, NodeView, Settled};
 pub use settling::settle;
-
-#[cfg(test)]
-mod tests;

@@ -12,6 +12,3 @@ pub use mark_store::MarkStore;
 pub use no_memory::NoMemory;
 pub use record::Record;
 pub use vertex_map::VertexMap;
-
-#[cfg(test)]
-mod tests;

@@ -1,6 +1,6 @@
 -- By the rules each expression of a tree has exactly one type.
 use Rattle.std.proofs.Common.{◌≡◌, ℕ, zero, suc, Bool, true, false, cond, List, [], ◌∷◌, ◌++◌, length, refl, sym, ap, subst, ◌∙◌, append-nil, append_assoc, arith}
-use Rattle.std.specs.Prelude.{◌+◌, fold, if◌then◌else◌, Some, None}
+use Rattle.std.specs.Prelude.{◌+◌, fold, if◌then◌else◌, Some}
 use Rattle.std.specs.List.{AllByRecursion}
 use Rattle.grove_sorts.specs.declared.position.Position.{Position}
 use Rattle.grove_sorts.specs.declared.sort.Sort.{Sort}

@@ -2,6 +2,7 @@
 //! there is exactly one marking. What marks trees, tests them and prints them stands on this crate.
 #![tactic(auto)]
 
+mod added;
 mod laws;
 mod marked_grove;
 mod marked_node;
@@ -9,6 +10,7 @@ mod marked_tree;
 mod marked_tree_list;
 mod no_memory;
 
+pub use added::Added;
 pub use laws::{
     each_expression_has_one_type, each_tree_has_one_marking, every_grove_has_one_marking,
     functions_mark_by_the_rows, marking_erases, trees_are_marked_as_by_hand,

@@ -1,67 +1,38 @@
-ghost use Rattle.std.specs.Prelude.{◌≡◌, ◌<◌, ◌^◌, [], ◌∷◌, ◌++◌, length, set, slice_get, Some, None, IfOk, OnOk, OnErr};
-ghost use Rattle.marking.specs.declared.marked_node.MarkedNode.{MarkedNode};
+ghost use Rattle.std.specs.Prelude.{◌≡◌, ◌<◌, ◌^◌, length, map, slice_get};
+ghost use Rattle.marking.specs.Added.{added_to, marked_nodes};
 
+use crate::added::Added;
 use crate::marked_node::MarkedNode;
-use crate::no_memory::NoMemory;
-use mark_step::{Mark, Mode};
-use std::alloc::Global;
+use grove_terms::LentNode;
 use std::marker::Model;
-use type_core::TypeId;
 
-/// The nodes of a marked tree in preorder. Edges and vertices are lent by the graph, as those of the tree.
+/// The nodes of a marked tree in preorder. The tree lends them, with edges and vertices lent by the graph, and what marking adds to each
+/// stands beside them.
 #[derive(Debug, Drop)]
-pub struct MarkedTree<'t> {
-    nodes: Vec<MarkedNode<'t>>,
+pub struct MarkedTree<'n, 't: 'n> {
+    nodes: &'n [LentNode<'t>],
+    added: Vec<Added>,
 }
 
-impl<'t> Model for MarkedTree<'t> {
-    ghost use Rattle.std.specs.Prelude.{List};
+impl<'n, 't: 'n> Model for MarkedTree<'n, 't> {
+    ghost use Rattle.std.specs.Prelude.{◌≡◌, List, length};
     ghost use Rattle.marking.specs.declared.marked_node.MarkedNode.{MarkedNode};
+    ghost use Rattle.marking.specs.Added.{marked_nodes};
 
     ghost Value = { List MarkedNode };
 
-    ghost view = { λ tree. tree.nodes.items };
+    ghost view = { λ tree. marked_nodes tree.nodes.now tree.added.items };
+
+    ghost invariant = { λ tree. length tree.added.items ≡ length tree.nodes.now };
 }
 
-impl<'t> MarkedTree<'t> {
-    /// A tree without nodes, to which they are pushed in preorder.
-    pub fn new(alloc: Global) -> MarkedTree<'t>
-        ensures empty { result ≡ [] }
+impl<'n, 't: 'n> MarkedTree<'n, 't> {
+    /// These nodes, with what marking adds to each.
+    pub fn new(nodes: &'n [LentNode<'t>], added: Vec<Added>) -> MarkedTree<'n, 't>
+        requires { length added.items ≡ length nodes.now }
+        ensures { result ≡ marked_nodes nodes.now added.items }
     {
-        MarkedTree {
-            nodes: Vec::new(alloc),
-        }
-    }
-
-    /// The same, with room for so many nodes.
-    pub fn with_capacity(alloc: Global, count: usize) -> Result<MarkedTree<'t>, NoMemory>
-        ensures empty { IfOk result (λ tree. tree ≡ []) }
-    {
-        Ok(MarkedTree {
-            nodes: Vec::with_capacity(alloc, count)?,
-        })
-    }
-
-    /// Appends a node.
-    pub fn push(&mut self, node: MarkedNode<'t>) -> Result<(), NoMemory>
-        ensures appended { OnOk result (self.new ≡ self.old ++ node.entry ∷ []) }
-        ensures unchanged { OnErr result (self.new ≡ self.old) }
-    {
-        self.nodes.push(node)?;
-        Ok(())
-    }
-
-    /// Puts what marking adds to the node at an index, if there is one.
-    pub fn settle(&mut self, index: usize, mode: Option<Mode>, typ: Option<TypeId>, mark: Mark)
-        ensures placed { (marked : MarkedNode) → slice_get self.old index ≡ Some marked
-            → self.new ≡ set self.old index (record { node = marked.node; mode = mode; typ = typ; mark = mark }) }
-        ensures past { slice_get self.old index ≡ None → self.new ≡ self.old }
-    {
-        if let Some(marked) = self.nodes.get_mut(index) {
-            marked.mode = mode;
-            marked.typ = typ;
-            marked.mark = mark;
-        }
+        MarkedTree { nodes, added }
     }
 
     pub fn len(&self) -> usize
@@ -75,12 +46,24 @@ impl<'t> MarkedTree<'t> {
     pub fn get(&self, index: usize) -> Option<MarkedNode<'t>>
         ensures { result ≡ slice_get self.now index }
     {
-        self.nodes.get(index).copied()
+        if index < self.nodes.len() {
+            Some(MarkedNode::new(&self.nodes[index], &self.added[index]))
+        } else {
+            None
+        }
     }
 
-    pub fn as_slice(&self) -> &[MarkedNode<'t>]
-        ensures { result.now ≡ self.now }
+    /// The nodes without what marking adds.
+    pub fn nodes(&self) -> &'n [LentNode<'t>]
+        ensures { result.now ≡ map (λ m. m.node) self.now }
     {
-        &self.nodes
+        self.nodes
+    }
+
+    /// What marking adds to each node, in their order.
+    pub fn added(&self) -> &[Added]
+        ensures { result.now ≡ map added_to self.now }
+    {
+        &self.added
     }
 }

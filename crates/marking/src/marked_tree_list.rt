@@ -8,11 +8,11 @@ use std::marker::Model;
 
 /// Marked trees in order.
 #[derive(Debug, Drop)]
-pub struct MarkedTreeList<'t> {
-    trees: Vec<MarkedTree<'t>>,
+pub struct MarkedTreeList<'n, 't: 'n> {
+    trees: Vec<MarkedTree<'n, 't>>,
 }
 
-impl<'t> Model for MarkedTreeList<'t> {
+impl<'n, 't: 'n> Model for MarkedTreeList<'n, 't> {
     ghost use Rattle.std.specs.Prelude.{List};
     ghost use Rattle.marking.specs.declared.marked_node.MarkedNode.{MarkedNode};
 
@@ -21,8 +21,8 @@ impl<'t> Model for MarkedTreeList<'t> {
     ghost view = { λ list. list.trees.items };
 }
 
-impl<'t> MarkedTreeList<'t> {
-    pub fn new(alloc: Global) -> MarkedTreeList<'t>
+impl<'n, 't: 'n> MarkedTreeList<'n, 't> {
+    pub fn new(alloc: Global) -> MarkedTreeList<'n, 't>
         ensures empty { result ≡ [] }
     {
         MarkedTreeList {
@@ -31,7 +31,7 @@ impl<'t> MarkedTreeList<'t> {
     }
 
     /// Appends a tree.
-    pub fn push(&mut self, tree: MarkedTree<'t>) -> Result<(), NoMemory>
+    pub fn push(&mut self, tree: MarkedTree<'n, 't>) -> Result<(), NoMemory>
         ensures appended { OnOk result (self.new ≡ self.old ++ tree.entry ∷ []) }
         ensures unchanged { OnErr result (self.new ≡ self.old) }
     {
@@ -46,13 +46,13 @@ impl<'t> MarkedTreeList<'t> {
     }
 
     /// The tree at an index, or None past the end.
-    pub fn get(&self, index: usize) -> Option<&MarkedTree<'t>>
+    pub fn get(&self, index: usize) -> Option<&MarkedTree<'n, 't>>
         ensures { option_map (λ tree. tree.now) result ≡ slice_get self.now index }
     {
         self.trees.get(index)
     }
 
-    pub fn as_slice(&self) -> &[MarkedTree<'t>]
+    pub fn as_slice(&self) -> &[MarkedTree<'n, 't>]
         ensures { result.now ≡ self.now }
     {
         &self.trees

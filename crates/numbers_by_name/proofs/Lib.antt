@@ -1,5 +1,4 @@
-pub mod Authors
-pub mod Edits
-pub mod Joined
-pub mod Kept
-pub mod Places
+pub mod Added
+pub mod Found
+pub mod Last
+pub mod Listed

@@ -1,2 +1,2 @@
 pub mod ByName
-pub mod Counters
+pub mod Pages

@@ -2,14 +2,13 @@
 //! first, each with its numbers. It is for what keeps a graph as lists of numbers, and finds the edges or the vertices with a name.
 #![tactic(auto)]
 
-mod counters;
-mod newest;
+mod guesses;
+mod lists;
 mod no_memory;
 mod numbers_by_name;
-mod others;
+mod on_page;
+mod page;
+mod pages;
 
 pub use no_memory::NoMemory;
 pub use numbers_by_name::NumbersByName;
-
-#[cfg(test)]
-mod tests;

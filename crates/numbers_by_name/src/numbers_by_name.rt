@@ -3,32 +3,28 @@ ghost use Rattle.std.specs.Option.{option_map};
 ghost use Rattle.grove_names.specs.declared.name.Name.{Name};
 ghost use Rattle.numbers_by_name.specs.ByName.{all_numbers, numbers_of, name_by, with_number, IsLastBefore, HasNoneBefore};
 
-use crate::counters::Counters;
 use crate::no_memory::NoMemory;
+use crate::pages::Pages;
 use grove_names::Name;
 use std::alloc::Global;
-use std::collections::BTreeMap;
 use std::marker::Model;
 
 /// Numbers, each under a name. The greatest name comes first, and the numbers of a name stand in the order in which they were added.
 #[derive(Drop)]
 pub struct NumbersByName {
     alloc: Global,
-    // The counters of each author in whose names there are numbers.
-    authors: BTreeMap<u32, Counters>,
+    pages: Pages,
 }
 
 impl Model for NumbersByName {
-    ghost use Rattle.std.specs.BTreeMap.{IsOrdered};
-    ghost use Rattle.std.specs.Ordering.{nat_cmp};
     ghost use Rattle.numbers_by_name.specs.ByName.{Lists};
-    ghost use Rattle.numbers_by_name.specs.Counters.{lists_of};
+    ghost use Rattle.numbers_by_name.specs.Pages.{lists_of, IsWhole};
 
     ghost Value = { Lists };
 
-    ghost view = { λ numbers. lists_of numbers.authors.entries };
+    ghost view = { λ numbers. lists_of numbers.pages };
 
-    ghost invariant = { λ numbers. IsOrdered nat_cmp numbers.authors };
+    ghost invariant = { λ numbers. IsWhole numbers.pages };
 }
 
 impl NumbersByName {
@@ -38,7 +34,7 @@ impl NumbersByName {
     {
         NumbersByName {
             alloc,
-            authors: BTreeMap::new(alloc),
+            pages: Pages::new(alloc),
         }
     }
 
@@ -47,26 +43,14 @@ impl NumbersByName {
         ensures added { OnOk result ((n : Name) → numbers_of self.new n ≡ with_number name number (numbers_of self.old) n) }
         ensures unchanged { OnErr result (self.new ≡ self.old) }
     {
-        match self.authors.get_mut(&name.author) {
-            Some(counters) => counters.add(self.alloc, name.counter, number),
-            None => {
-                // The author is put in with the number, so that nothing is left of it where memory runs out.
-                let mut counters = Counters::new(self.alloc);
-                counters.add(self.alloc, name.counter, number)?;
-                self.authors.insert(name.author, counters)?;
-                Ok(())
-            }
-        }
+        self.pages.add(self.alloc, name, number)
     }
 
     /// The numbers of a name.
     pub fn with_name(&self, name: Name) -> &[u32]
         ensures { result.now ≡ numbers_of self.now name }
     {
-        match self.authors.get(&name.author) {
-            Some(counters) => counters.numbers(name.counter),
-            None => &[],
-        }
+        self.pages.numbers(name)
     }
 
     /// All numbers: those of the least name first, and then those of each greater one.
@@ -74,9 +58,7 @@ impl NumbersByName {
         ensures { IfOk result (λ numbers. numbers.items ≡ all_numbers self.now) }
     {
         let mut numbers = Vec::new(alloc);
-        for counters in self.authors.values() {
-            counters.append_in_order(&mut numbers)?;
-        }
+        self.pages.append_all(&mut numbers)?;
         Ok(numbers)
     }
 
@@ -88,6 +70,6 @@ impl NumbersByName {
         ensures none { IfNone result (HasNoneBefore self.now author before) }
         ensures only { (counter : ℕ) → IsLastBefore self.now author before counter → option_map (λ found. found.0) result ≡ Some counter }
     {
-        self.authors.get(&author)?.last_before(before)
+        self.pages.last_before(author, before)
     }
 }

@@ -9,6 +9,3 @@ mod target;
 pub use no_memory::NoMemory;
 pub use parent_index::ParentIndex;
 pub use target::Target;
-
-#[cfg(test)]
-mod tests;

@@ -4,4 +4,3 @@ pub mod Typings
 mod Places
 mod Steps
 mod Checked
-mod Samples

@@ -233,11 +233,11 @@ stands_plain types ctxs g walk sort n d gives s stands =
     }
 
 -- what a lent hole or reference stands for is one
-pub leaf_of : (w : LentWhat) → ((sort : Sort) × (w ≡ lent.Hole sort)) ⊎ (((v : Bor Vertex) × (w ≡ lent.MultiRef v)) ⊎ ((v : Bor Vertex) × (w ≡ lent.CycleRef v)))
-    → ((sort : Sort) × (what_of w ≡ whats.Hole sort)) ⊎ (((v : Vertex) × (what_of w ≡ whats.MultiRef v)) ⊎ ((v : Vertex) × (what_of w ≡ whats.CycleRef v)))
-leaf_of w (inl (sort, is)) = inl (sort, ap what_of is)
-leaf_of w (inr (inl (v, is))) = inr (inl (v.now, ap what_of is))
-leaf_of w (inr (inr (v, is))) = inr (inr (v.now, ap what_of is))
+pub leaf_of : (w : LentWhat) (n : What) → what_of w ≡ n → ((sort : Sort) × (w ≡ lent.Hole sort)) ⊎ (((v : Bor Vertex) × (w ≡ lent.MultiRef v)) ⊎ ((v : Bor Vertex) × (w ≡ lent.CycleRef v)))
+    → ((sort : Sort) × (n ≡ whats.Hole sort)) ⊎ (((v : Vertex) × (n ≡ whats.MultiRef v)) ⊎ ((v : Vertex) × (n ≡ whats.CycleRef v)))
+leaf_of w n lends (inl (sort, is)) = inl (sort, sym lends ∙ ap what_of is)
+leaf_of w n lends (inr (inl (v, is))) = inr (inl (v.now, sym lends ∙ ap what_of is))
+leaf_of w n lends (inr (inr (v, is))) = inr (inr (v.now, sym lends ∙ ap what_of is))
 
 -- a hole or a reference is a node without children
 pub stands_leaf : (types : List Typ) (ctxs : List Context) (g : Given) (walk : Walk) (n : Node) (w : What) (d : Demanded) → given_at types g ≡ machine.nothing

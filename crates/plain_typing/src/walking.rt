@@ -132,7 +132,7 @@ fn begin<'t>(
     ensures frames { OnOk result (AreFramesOf types.new ctxs.now walk.new.frames.items) }
     ensures kept { KeepsTypes types.old types.new }
 {
-    match node.what {
+    match node.what() {
         LentWhat::Vertex(vertex) => {
             let begun = fresh(types, &vertex.ctor, demand);
             go_on(alloc, types, ctxs, walk, &begun)

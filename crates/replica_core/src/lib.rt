@@ -21,8 +21,3 @@ pub use laws::{
 pub use marked::MarkedReplica;
 pub use no_memory::NoMemory;
 pub use replica::Replica;
-
-#[cfg(test)]
-mod marked_tests;
-#[cfg(test)]
-mod tests;

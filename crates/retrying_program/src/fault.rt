@@ -71,12 +71,6 @@ impl<T: Drop> From<AllocFailed<T>> for Fault {
     }
 }
 
-impl From<marking::NoMemory> for Fault {
-    fn from(_error: marking::NoMemory) -> Fault {
-        Fault::NoMemory
-    }
-}
-
 impl From<grove_printer::NoMemory> for Fault {
     fn from(_error: grove_printer::NoMemory) -> Fault {
         Fault::NoMemory

@@ -3,9 +3,9 @@ ghost use Rattle.mark_incremental.specs.Reading.{AreRecordsOf};
 use crate::fault::Fault;
 use grove_edits::{Edit, Vertex};
 use grove_printer::print_tree;
-use grove_terms::{LentNode, LentWhat};
+use grove_terms::LentNode;
 use mark_incremental::Marks;
-use marking::{MarkedNode, MarkedTree};
+use marking::{Added, MarkedTree};
 use replica_core::MarkedReplica;
 use std::alloc::{AllocFailed, Global};
 
@@ -54,19 +54,13 @@ fn append_kept(
     let Some(record) = marks.kept(vertex) else {
         return Ok(());
     };
-    let node = LentNode {
-        depth: 0,
-        position: None,
-        edge: None,
-        what: LentWhat::Vertex(vertex),
-    };
-    let mut tree = MarkedTree::new(alloc);
-    tree.push(MarkedNode {
-        node,
+    let nodes = [LentNode::head(vertex)];
+    let mut added = Vec::new(alloc);
+    added.push(Added {
         mode: record.mode,
         typ: record.typ,
         mark: record.mark,
     })?;
-    print_tree(&tree, marks.types(), out)?;
+    print_tree(&MarkedTree::new(&nodes, added), marks.types(), out)?;
     Ok(())
 }

@@ -7,6 +7,3 @@ mod seed;
 
 pub use hasher::SeededHasher;
 pub use seed::HashSeed;
-
-#[cfg(test)]
-mod tests;

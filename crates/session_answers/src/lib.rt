@@ -17,6 +17,3 @@ pub use laws::{one_summary_of_each_size, without_meetings_there_is_one_course};
 pub use no_memory::NoMemory;
 pub use ran::{Ran, run_session};
 pub use summarizing::summarize_session;
-
-#[cfg(test)]
-mod tests;

@@ -8,6 +8,3 @@ mod session;
 
 pub use laws::{generated_sessions_have_these_parts, one_generated_session};
 pub use session::generate;
-
-#[cfg(test)]
-mod tests;

@@ -16,6 +16,3 @@ pub use at_work::authors_at_work;
 pub use block::run_block;
 pub use laws::{blocks_of_sessions_can_run, calls_differ_in_order_alone};
 pub use no_memory::NoMemory;
-
-#[cfg(test)]
-mod tests;

@@ -37,6 +37,3 @@ pub use script_kind::{ScriptFault, ScriptKind};
 pub use session::Session;
 pub use statement::{SendText, Statement};
 pub use writing::write_action;
-
-#[cfg(test)]
-mod tests;

@@ -14,8 +14,6 @@ mod no_memory;
 mod pass;
 mod shared;
 mod solo;
-#[cfg(test)]
-mod tests;
 
 pub use journal::{Entry, Journal};
 pub use laws::{an_entry_is_the_step_at_its_place, turns_extend_what_was_seen};

@@ -9,6 +9,3 @@ mod separated;
 pub use no_memory::NoMemory;
 pub use number::{read_number, take_number, write_number};
 pub use separated::{split_at_first, split_at_next};
-
-#[cfg(test)]
-mod tests;

@@ -12,8 +12,6 @@ mod no_memory_with;
 mod plays;
 mod seat;
 mod steps;
-#[cfg(test)]
-mod tests;
 mod turn;
 
 pub use kept::Kept;

@@ -25,6 +25,3 @@ pub use laws::{
 pub use no_memory::NoMemory;
 pub use table::TypeTable;
 pub use type_id::TypeId;
-
-#[cfg(test)]
-mod tests;

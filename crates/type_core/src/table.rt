@@ -17,11 +17,11 @@ use std::collections::BTreeMap;
 use std::marker::Model;
 
 // The places of the base types in every table.
-const UNKNOWN: u64 = 0;
+const UNKNOWN: u32 = 0;
 
-const NUM: u64 = 1;
+const NUM: u32 = 1;
 
-const BOOLEAN: u64 = 2;
+const BOOLEAN: u32 = 2;
 
 /// A table of types, each of which stands once. Its numbers keep their types for as long as the table lives.
 #[derive(Drop)]
@@ -61,15 +61,19 @@ fn base_nodes(alloc: Global, seed: HashSeed) -> Result<IndexSet<Node, HashSeed>,
 }
 
 // The place of a node, which goes last where it is new.
-fn place_of(nodes: &mut IndexSet<Node, HashSeed>, node: Node) -> Result<usize, NoMemory>
+fn place_of(nodes: &mut IndexSet<Node, HashSeed>, node: Node) -> Result<u32, NoMemory>
     ensures within { IfOk result (λ place. place < length nodes.new.keys) }
     ensures node { IfOk result (λ place. node_at nodes.new.keys place ≡ node) }
     ensures added { OnOk result (HasAddedNode node nodes.old.keys nodes.new.keys) }
     ensures once { StandOnce nodes.new.keys }
     ensures unchanged { OnErr result (nodes.new.keys ≡ nodes.old.keys) }
 {
+    // A number of a type has 32 bits.
+    if nodes.len() > u32::MAX as usize {
+        return Err(NoMemory);
+    }
     let (place, _) = nodes.insert_full(node)?;
-    Ok(place)
+    Ok(place as u32)
 }
 
 impl TypeTable {
@@ -233,6 +237,6 @@ impl TypeTable {
         ensures unchanged { OnErr result (self.new ≡ self.old) }
     {
         let place = place_of(&mut self.nodes, Node::Pair(former, first, second))?;
-        Ok(TypeId(place as u64))
+        Ok(TypeId(place))
     }
 }

@@ -15,6 +15,3 @@ pub use classes::class_of;
 pub use no_memory::NoMemory;
 pub use roots::cycle_roots;
 pub use walks::Class;
-
-#[cfg(test)]
-mod tests;

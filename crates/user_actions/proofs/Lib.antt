@@ -7,7 +7,6 @@ pub mod EditLists
 pub mod OnePlace
 pub mod Accepted
 pub mod PlanLaws
-pub mod OneMore
 pub mod Meant
 pub mod Below
 pub mod OnePlan
@@ -30,4 +29,3 @@ pub mod MadeEdges
 pub mod LiveEdges
 pub mod CarriedLists
 pub mod FlaggedEdges
-pub mod Raised

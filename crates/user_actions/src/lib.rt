@@ -15,8 +15,6 @@ mod place;
 mod plan_view;
 mod planned;
 mod planning;
-#[cfg(test)]
-mod tests;
 mod vertices;
 mod view;
 mod walk_up;

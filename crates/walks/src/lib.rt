@@ -12,6 +12,3 @@ pub use class::Class;
 pub use few::{Few, ParentOf};
 pub use laws::a_walk_ends;
 pub use steps::Steps;
-
-#[cfg(test)]
-mod tests;

@@ -1,31 +1,34 @@
-use Rattle.std.proofs.Common.{Vec, Global, map, ap, ◌∙◌, ◌≡◌, ℕ}
+use Rattle.std.proofs.Common.{Vec, Global, map, ap, ◌∙◌, ℕ}
 use Rattle.std.specs.List.{AllByRecursion}
+use Rattle.std.specs.List.Sorted.{IsPermutation, IsSorted}
 use Rattle.std.proofs.lemmas.Result.{IfOk-weaker}
-use Rattle.grove_edits.specs.Graph.{graph}
-use Rattle.walks.specs.Whole.{AreVertices}
-use Rattle.graph_table.specs.declared.named_vertex.NamedVertex.{NamedVertex}
+use Rattle.grove_edits.specs.Vertex.{vertex_cmp}
 use Rattle.graph_table.specs.Table.{vertex_at, IsNumber}
-use Rattle.graph_table.proofs.VertexOrder.{numbers_in_order, numbers_of_table}
+use Rattle.graph_table.specs.Named.{numbers_of}
+use Rattle.graph_table.proofs.VertexOrder.{same_numbers, numbers_in_order, numbers_of_table}
 use Rattle.graph_table.proofs.ordering.in_vertex_order.Goals as goal
 
-pub returns-clause-vertices : goal.returns-clause-vertices
-returns-clause-vertices c =
-    let table = c.args.table.now in
-    let count = c.number_count-count.ensures in
-    let xs = c.in_ok-list.list.items in
-    let ys = c.sort_unstable.new.self.items in
-    IfOk-weaker c.numbers_of.result (λ (list : Vec ℕ Global). list.items ≡ map (λ (n : NamedVertex). n.number) c.deref.result.now) (λ (list : Vec ℕ Global). AreVertices (graph table.edits) (map (vertex_at table) list.items))
-    (λ list is. numbers_in_order table count.once count.each count.no_other xs ys c.in_ok-list.ensures.vertices c.in_ok-list.ensures.named c.sort_unstable.ensures.permutation c.sort_unstable.ensures.sorted list.items
-    (is ∙ ap (map (λ (n : NamedVertex). n.number)) c.deref.ensures.value))
+pub returns-clause-same : goal.returns-clause-same
+returns-clause-same c =
+    let named = c.in_ok-list.ensures in
+    let sorted = c.sort_unstable.ensures in
+    IfOk-weaker c.numbers_of.result _ (λ (list : Vec ℕ Global). IsPermutation c.args.numbers.now list.items)
+    (λ list read. same_numbers c.args.table.now c.in_ok-list.list.items c.sort_unstable.new.self.items named.named sorted.permutation sorted.sorted list.items (read ∙ ap numbers_of c.deref.ensures.value)
+    c.args.numbers.now named.numbers)
+    c.numbers_of.ensures
+
+pub returns-clause-order : goal.returns-clause-order
+returns-clause-order c =
+    let named = c.in_ok-list.ensures in
+    let sorted = c.sort_unstable.ensures in
+    IfOk-weaker c.numbers_of.result _ (λ (list : Vec ℕ Global). IsSorted vertex_cmp (map (vertex_at c.args.table.now) list.items))
+    (λ list read. numbers_in_order c.args.table.now c.in_ok-list.list.items c.sort_unstable.new.self.items named.named sorted.permutation sorted.sorted list.items (read ∙ ap numbers_of c.deref.ensures.value))
     c.numbers_of.ensures
 
 pub returns-clause-numbers : goal.returns-clause-numbers
 returns-clause-numbers c =
-    let table = c.args.table.now in
-    let count = c.number_count-count.ensures in
-    let xs = c.in_ok-list.list.items in
-    let ys = c.sort_unstable.new.self.items in
-    IfOk-weaker c.numbers_of.result (λ (list : Vec ℕ Global). list.items ≡ map (λ (n : NamedVertex). n.number) c.deref.result.now) (λ (list : Vec ℕ Global). AllByRecursion (IsNumber table) list.items)
-    (λ list is. numbers_of_table table count.once count.each count.no_other xs ys c.in_ok-list.ensures.vertices c.in_ok-list.ensures.named c.sort_unstable.ensures.permutation c.sort_unstable.ensures.sorted list.items
-    (is ∙ ap (map (λ (n : NamedVertex). n.number)) c.deref.ensures.value))
+    let named = c.in_ok-list.ensures in
+    let sorted = c.sort_unstable.ensures in
+    IfOk-weaker c.numbers_of.result _ (λ (list : Vec ℕ Global). AllByRecursion (IsNumber c.args.table.now) list.items)
+    (λ list read. numbers_of_table c.args.table.now c.in_ok-list.list.items c.sort_unstable.new.self.items named.named sorted.permutation sorted.sorted list.items (read ∙ ap numbers_of c.deref.ensures.value))
     c.numbers_of.ensures

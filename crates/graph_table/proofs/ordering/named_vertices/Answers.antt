@@ -1,20 +1,30 @@
-use Rattle.std.proofs.Common.{◌≡◌, ◌∙◌, ap, sym, refl, arith, rules}
+use Rattle.std.proofs.Common.{ℕ, ◌<◌, ◌+◌, List, length, get_or, take, sym, refl}
+use Rattle.std.specs.List.{AllByRecursion}
+use Rattle.std.proofs.lemmas.List.{take_more}
+use Rattle.std.proofs.lemmas.List.Elements.{All-from_recursion}
 use Rattle.graph_table.specs.declared.named_vertex.NamedVertex.{NamedVertex}
-use Rattle.graph_table.specs.Table.{vertex_at, IsNumber}
+use Rattle.graph_table.specs.Table.{IsNumber}
 use Rattle.graph_table.specs.Named.{IsNamed}
-use Rattle.graph_table.proofs.VertexOrder.{vertices-pushed, named-pushed}
+use Rattle.graph_table.proofs.VertexOrder.{numbers-pushed, named-pushed}
 use Rattle.graph_table.proofs.ordering.named_vertices.Goals as goal
 
-pub loop-index-preserved : goal.loop-index-preserved
-loop-index-preserved c =
+number_within : (P : ℕ → Type 0) (numbers : List ℕ) (i : ℕ) → AllByRecursion P numbers → i < length numbers → P (get_or numbers i 0)
+number_within P numbers i all lt = All-from_recursion P numbers all i 0 lt
+
+pub vertex-vertex-requires : goal.vertex-vertex-requires
+vertex-vertex-requires c = number_within (IsNumber c.args.table.now) c.args.numbers.now c.loop-number.number-index c.requires c.loop-number-test.true
+
+pub loop-number-preserved : goal.loop-number-preserved
+loop-number-preserved c =
     let table = c.args.table.now in
-    let index = c.loop-index.index in
-    let within : IsNumber table index = omega (arith, c.loop-index-test.true, c.requires) in
-    let same : c.in-Ok.number ≡ index = search rules in
+    let numbers : List ℕ = c.args.numbers.now in
+    let i = c.loop-number.number-index in
+    let number = get_or numbers i 0 in
     let vertex = c.vertex-vertex.result in
-    let named : NamedVertex = record { name = vertex.now.name; vertex = vertex; number = c.in-Ok.number } in
-    let is_named : IsNamed table named = record { name = refl; number = omega (arith, within, same); vertex = ap (vertex_at table) same ∙ sym c.vertex-vertex.ensures } in
+    let named : NamedVertex = record { name = vertex.now.name; vertex = vertex; number = number } in
+    let is_named : IsNamed table named = record { name = refl; number = number_within (IsNumber table) numbers i c.requires c.loop-number-test.true; vertex = sym c.vertex-vertex.ensures } in
     record {
-      vertices = vertices-pushed table c.loop-index.list.items c.push.new.self.items index named within c.vertex-vertex.ensures c.in_ok-push.ensures.items c.loop-index.invariant.vertices;
-      named = named-pushed table c.loop-index.list.items c.push.new.self.items named is_named c.in_ok-push.ensures.items c.loop-index.invariant.named;
+      numbers = numbers-pushed c.loop-number.list.items c.push.new.self.items named (take i numbers) (take (i + 1) numbers) c.in_ok-push.ensures.items
+          (take_more numbers i 0 c.loop-number-test.true) c.loop-number.invariant.numbers;
+      named = named-pushed table c.loop-number.list.items c.push.new.self.items named is_named c.in_ok-push.ensures.items c.loop-number.invariant.named;
     }

@@ -1,9 +1,11 @@
 use Rattle.std.proofs.Common.{◌≡◌, ◌++◌, ◌+◌, List, map, sym, ap, ◌∙◌, append-nil}
 use Rattle.grove_sorts.specs.Ctor.{positions}
 use Rattle.grove_edits.specs.declared.edge.Edge.{Edge}
+use Rattle.grove_edits.specs.declared.vertex.Vertex.{Vertex}
 use Rattle.walks.specs.Class.{class}
 use Rattle.grove_terms.specs.declared.node.What.TheVariants as whats
-use Rattle.grove_terms.specs.Lent.{what_of}
+use Rattle.grove_terms.specs.declared.node.Role.{Role}
+use Rattle.grove_terms.specs.Lent.{edge_of, what_as}
 use Rattle.grove_decompose.specs.Tasks.{Task, what_by, task_at}
 use Rattle.grove_decompose.proofs.Pushing.{rest_of_vertex, rest_of_reference, no_vertex}
 use Rattle.grove_decompose.proofs.Under.{inner_of_vertex}
@@ -13,27 +15,31 @@ use Rattle.grove_decompose.proofs.child.list_child.Goals as goal
 pub returns-in_ok-push_places-in-Vertex-clause-tasks : goal.returns-in_ok-push_places-in-Vertex-clause-tasks
 returns-in_ok-push_places-in-Vertex-clause-tasks g c =
     let child = g.G.LiveGraph.edge_at c.args.graph.now c.args.link.now in
-    let is : what_by (class (g.G.LiveGraph.live c.args.graph.now) child.target) child.target ≡ whats.Vertex c.in-Vertex.vertex.now =
-    ap (λ (e : Edge). what_by (class (g.G.LiveGraph.live c.args.graph.now) e.target) e.target) (sym c.edge-edge.ensures) ∙ sym c.what_of-what.ensures ∙ ap what_of c.in-Vertex.is in
-    places_pushed (g.G.LiveGraph.vertex_at c.args.graph.now) (g.G.LiveGraph.edge_at c.args.graph.now) c.args.tasks.now.items c.push_places.new.tasks.items c.target-target.result (c.args.depth + 1) (positions c.in-Vertex.vertex.now.ctor)
-    _ c.in_ok-push_places-in-Vertex.ensures (rest_of_vertex (class (g.G.LiveGraph.live c.args.graph.now) child.target) child.target c.in-Vertex.vertex.now _ c.args.depth is c.target-target.ensures.target)
+    let is : what_by (class (g.G.LiveGraph.live c.args.graph.now) child.target) child.target ≡ whats.Vertex c.target.result.now =
+    ap (λ (e : Edge). what_by (class (g.G.LiveGraph.live c.args.graph.now) e.target) e.target) (sym c.edge-edge.ensures) ∙ sym c.role_of-role.ensures
+    ∙ ap (λ (r : Role). what_as r (edge_of c.edge-edge.result).target) c.in-Vertex.is ∙ ap (λ (v : Vertex). whats.Vertex v) (sym c.target.ensures) in
+    places_pushed (g.G.LiveGraph.vertex_at c.args.graph.now) (g.G.LiveGraph.edge_at c.args.graph.now) c.args.tasks.now.items c.push_places.new.tasks.items c.target-target.result (c.args.depth + 1) (positions c.target.result.now.ctor)
+    _ c.in_ok-push_places-in-Vertex.ensures (rest_of_vertex (class (g.G.LiveGraph.live c.args.graph.now) child.target) child.target c.target.result.now _ c.args.depth is c.target-target.ensures.target)
 
 pub returns-in_ok-push_places-in-Vertex-clause-inner : goal.returns-in_ok-push_places-in-Vertex-clause-inner
 returns-in_ok-push_places-in-Vertex-clause-inner g c =
     let child = g.G.LiveGraph.edge_at c.args.graph.now c.args.link.now in
-    let is : what_by (class (g.G.LiveGraph.live c.args.graph.now) child.target) child.target ≡ whats.Vertex c.in-Vertex.vertex.now =
-    ap (λ (e : Edge). what_by (class (g.G.LiveGraph.live c.args.graph.now) e.target) e.target) (sym c.edge-edge.ensures) ∙ sym c.what_of-what.ensures ∙ ap what_of c.in-Vertex.is in
-    inner_of_vertex (g.G.LiveGraph.live c.args.graph.now) child c.in-Vertex.vertex.now _ c.requires.held is c.target-target.ensures.target
+    let is : what_by (class (g.G.LiveGraph.live c.args.graph.now) child.target) child.target ≡ whats.Vertex c.target.result.now =
+    ap (λ (e : Edge). what_by (class (g.G.LiveGraph.live c.args.graph.now) e.target) e.target) (sym c.edge-edge.ensures) ∙ sym c.role_of-role.ensures
+    ∙ ap (λ (r : Role). what_as r (edge_of c.edge-edge.result).target) c.in-Vertex.is ∙ ap (λ (v : Vertex). whats.Vertex v) (sym c.target.ensures) in
+    inner_of_vertex (g.G.LiveGraph.live c.args.graph.now) child c.target.result.now _ c.requires.held is c.target-target.ensures.target
 
 pub returns-in_ok-push_places-in-Vertex-clause-found : goal.returns-in_ok-push_places-in-Vertex-clause-found
 returns-in_ok-push_places-in-Vertex-clause-found g c =
-    found_with_places (g.G.LiveGraph.IsSpot c.args.graph.now) (g.G.LiveGraph.IsLink c.args.graph.now) c.args.tasks.now.items c.push_places.new.tasks.items c.target-target.result (c.args.depth + 1) (positions c.in-Vertex.vertex.now.ctor)
+    found_with_places (g.G.LiveGraph.IsSpot c.args.graph.now) (g.G.LiveGraph.IsLink c.args.graph.now) c.args.tasks.now.items c.push_places.new.tasks.items c.target-target.result (c.args.depth + 1) (positions c.target.result.now.ctor)
     c.in_ok-push_places-in-Vertex.ensures c.target-target.ensures.spot c.requires.found
 
-pub returns-in_default-clause-tasks : goal.returns-in_default-clause-tasks
-returns-in_default-clause-tasks g c =
+pub returns-in-MultiRef-clause-tasks : goal.returns-in-MultiRef-clause-tasks
+returns-in-MultiRef-clause-tasks g c =
     let child = g.G.LiveGraph.edge_at c.args.graph.now c.args.link.now in
     let at = map (task_at (g.G.LiveGraph.vertex_at c.args.graph.now) (g.G.LiveGraph.edge_at c.args.graph.now)) c.args.tasks.now.items in
-    let is : what_of c.what_of-what.result ≡ what_by (class (g.G.LiveGraph.live c.args.graph.now) child.target) child.target =
-    c.what_of-what.ensures ∙ ap (λ (e : Edge). what_by (class (g.G.LiveGraph.live c.args.graph.now) e.target) e.target) c.edge-edge.ensures in
-    sym (append-nil at) ∙ ap (λ (ts : List Task). at ++ ts) (rest_of_reference (class (g.G.LiveGraph.live c.args.graph.now) child.target) child.target c.args.depth (λ v are. no_vertex c.what_of-what.result v c.in_default.not-Vertex (is ∙ are)))
+    let is : what_as c.role_of-role.result (edge_of c.edge-edge.result).target ≡ what_by (class (g.G.LiveGraph.live c.args.graph.now) child.target) child.target =
+    c.role_of-role.ensures ∙ ap (λ (e : Edge). what_by (class (g.G.LiveGraph.live c.args.graph.now) e.target) e.target) c.edge-edge.ensures in
+    sym (append-nil at)
+    ∙ ap (λ (ts : List Task). at ++ ts)
+    (rest_of_reference (class (g.G.LiveGraph.live c.args.graph.now) child.target) child.target c.args.depth (λ v are. no_vertex c.role_of-role.result (edge_of c.edge-edge.result).target v c.in-MultiRef.is (is ∙ are)))

@@ -1,35 +1,88 @@
-use Rattle.std.proofs.Common.{◌≡◌, ◌-◌, arith}
+use Rattle.std.proofs.Common.{◌≤◌, length, set, ap, ◌∙◌, arith}
+use Rattle.std.proofs.lemmas.List.{take-set}
+use Rattle.grove_sorts.specs.Ctor.{positions}
 use Rattle.judging.specs.declared.frame.Frame.TheVariants.{Open, Several}
+use Rattle.judging.specs.Frames.{given_at, IsOpenOf}
+use Rattle.judging.proofs.Kept.{types-itself}
+use Rattle.marking.specs.Added.{marked_nodes}
 use Rattle.marking.specs.Reading.{meant_nodes}
-use Rattle.judging.specs.Frames.{given_at, frames_at}
-use Rattle.judging.proofs.Results.{if_ok_then}
-use Rattle.judging.proofs.Frames.{given_is, given_fills, given_several, several_is, placed}
-use Rattle.mark_rules.specs.Walking.{given_on}
+use Rattle.mark_rules.proofs.Walks.{still_added}
+use Rattle.mark_rules.proofs.Innermost.{last_of, open_is, filled_is, filled_stands, filled_are, vertex_off, fewer_stand, fewer_are, conflict_off, rest_kept}
 use Rattle.mark_rules.proofs.taking.pass.Goals as goal
 
-pub go_on-requires-clause-vertex : goal.go_on-requires-clause-vertex
-go_on-requires-clause-vertex c =
-    let is : c.args.frame.now ≡ Open c.in-Open.vertex = cc in
-    given_is c.args.types.now c.args.ctxs.now c.args.frame.now c.in-Open.vertex c.fill.new.vertex c.args.given is c.fill.ensures c.requires.frame c.requires.given
+pub fill-requires : goal.fill-requires
+fill-requires c =
+    let last = last_of c.args.walk.now c.in-Some.last c.index_mut.result.now c.requires.walk (omega arith) c.index_mut.ensures.value in
+    (open_is last c.in-Open.vertex c.in-Open.is).1
+
+pub returns-then-vertex-position_count-clause-state : goal.returns-then-vertex-position_count-clause-state
+returns-then-vertex-position_count-clause-state c = λ nodes.
+    let last = last_of c.args.walk.now c.in-Some.last c.index_mut.result.now c.requires.walk (omega arith) c.index_mut.ensures.value in
+    filled_stands last c.in-Open.vertex c.fill.new.vertex c.args.given (meant_nodes c.args.types.now (marked_nodes nodes c.args.walk.now.added.items)) c.in-Open.is c.fill.ensures (omega arith)
+
+pub returns-then-vertex-position_count-clause-walk : goal.returns-then-vertex-position_count-clause-walk
+returns-then-vertex-position_count-clause-walk c =
+    let last = last_of c.args.walk.now c.in-Some.last c.index_mut.result.now c.requires.walk (omega arith) c.index_mut.ensures.value in
+    record {
+      frames = filled_are last c.in-Open.vertex c.fill.new.vertex c.args.given c.in-Open.is c.fill.ensures c.requires.given (omega arith);
+      added = c.requires.walk.added;
+    }
+
+pub close-requires-clause-vertex : goal.close-requires-clause-vertex
+close-requires-clause-vertex c =
+    let last = last_of c.args.walk.now c.in-Some.last c.index_mut.result.now c.requires.walk (omega arith) c.index_mut.ensures.value in
+    filled_is last c.in-Open.vertex c.fill.new.vertex c.args.given c.in-Open.is c.fill.ensures c.requires.given
+
+pub close-requires-clause-whole : goal.close-requires-clause-whole
+close-requires-clause-whole c =
+    let last = last_of c.args.walk.now c.in-Some.last c.index_mut.result.now c.requires.walk (omega arith) c.index_mut.ensures.value in
+    let filled : IsOpenOf c.args.types.now c.args.ctxs.now c.fill.new.vertex = filled_is last c.in-Open.vertex c.fill.new.vertex c.args.given c.in-Open.is c.fill.ensures c.requires.given in
+    let within : c.fill.new.vertex.next ≤ length (positions c.fill.new.vertex.ctor.now) = filled.filled.within in
+    omega arith
+
+pub returns-in_ok-closed-in-Open-clause-state : goal.returns-in_ok-closed-in-Open-clause-state
+returns-in_ok-closed-in-Open-clause-state c = λ nodes.
+    let last = last_of c.args.walk.now c.in-Some.last c.index_mut.result.now c.requires.walk (omega arith) c.index_mut.ensures.value in
+    vertex_off last c.close.new.types c.in-Open.vertex c.fill.new.vertex c.args.given c.in_ok-closed-in-Open.closed
+    c.truncate.new.self.items nodes c.args.walk.now.added.items c.settle.new.added.items c.in-Open.is c.fill.ensures c.in_ok-closed-in-Open.ensures.kept c.requires.walk.added (omega arith)
+    c.in_ok-closed-in-Open.ensures.added c.in_ok-closed-in-Open.ensures.given (c.settle.ensures ∙ ap (set c.args.walk.now.added.items c.index_mut.result.now.0) c.added_by.ensures)
+    (c.truncate.ensures.items ∙ take-set c.args.walk.now.frames.items c.in-Some.last (c.index_mut.result.now.0, Open c.fill.new.vertex))
+
+pub returns-in_ok-closed-in-Open-clause-walk : goal.returns-in_ok-closed-in-Open-clause-walk
+returns-in_ok-closed-in-Open-clause-walk c =
+    let last = last_of c.args.walk.now c.in-Some.last c.index_mut.result.now c.requires.walk (omega arith) c.index_mut.ensures.value in
+    record {
+      frames = rest_kept last c.close.new.types c.truncate.new.self.items c.in_ok-closed-in-Open.ensures.kept
+          (c.truncate.ensures.items ∙ take-set c.args.walk.now.frames.items c.in-Some.last (c.index_mut.result.now.0, Open c.fill.new.vertex));
+      added = still_added c.args.types.now c.close.new.types c.index_mut.result.now.0 c.in_ok-closed-in-Open.closed c.args.walk.now.added.items c.settle.new.added.items c.in_ok-closed-in-Open.ensures.kept c.requires.walk.added
+          c.in_ok-closed-in-Open.ensures.numbers (c.settle.ensures ∙ ap (set c.args.walk.now.added.items c.index_mut.result.now.0) c.added_by.ensures);
+    }
 
 pub returns-then-left-gt1-clause-state : goal.returns-then-left-gt1-clause-state
-returns-then-left-gt1-clause-state c =
-    let is : c.args.frame.now ≡ Several c.in-Several.demand c.in-Several.left = cc in
-    given_several c.args.types.now c.args.ctxs.now c.args.place c.args.frame.now c.in-Several.demand c.in-Several.left (given_at c.args.types.now c.args.given) c.args.walk.now.frames.items c.push.new.self.items
-    (meant_nodes c.args.types.now c.args.walk.now.out) is (omega arith) c.in_ok-push-in-Several.ensures.items
+returns-then-left-gt1-clause-state c = λ nodes.
+    let last = last_of c.args.walk.now c.in-Some.last c.index_mut.result.now c.requires.walk (omega arith) c.index_mut.ensures.value in
+    fewer_stand last c.in-Several.field-0 c.in-Several.left (given_at c.args.types.now c.args.given) (meant_nodes c.args.types.now (marked_nodes nodes c.args.walk.now.added.items)) c.in-Several.is (omega arith)
 
 pub returns-then-left-gt1-clause-walk : goal.returns-then-left-gt1-clause-walk
 returns-then-left-gt1-clause-walk c =
-    let is : c.args.frame.now ≡ Several c.in-Several.demand c.in-Several.left = cc in
+    let last = last_of c.args.walk.now c.in-Some.last c.index_mut.result.now c.requires.walk (omega arith) c.index_mut.ensures.value in
     record {
-      frames = placed c.args.types.now c.args.ctxs.now c.args.walk.now.frames.items c.push.new.self.items c.args.place (Several c.in-Several.demand (c.in-Several.left - 1)) c.requires.walk.frames
-          (several_is c.args.types.now c.args.ctxs.now c.args.frame.now c.in-Several.demand c.in-Several.left (c.in-Several.left - 1) is c.requires.frame) c.in_ok-push-in-Several.ensures.items;
-      out = c.requires.walk.out;
+      frames = fewer_are last c.in-Several.field-0 c.in-Several.left c.in-Several.is;
+      added = c.requires.walk.added;
     }
 
-pub returns-in-Open-clause-state : goal.returns-in-Open-clause-state
-returns-in-Open-clause-state c =
-    let is : c.args.frame.now ≡ Open c.in-Open.vertex = cc in
-    if_ok_then c.go_on.result (λ g. given_on c.go_on.new.types c.args.ctxs.now g c.go_on.new.walk) _ _ c.go_on.ensures.state
-    (given_fills c.args.types.now c.args.ctxs.now c.args.place c.args.frame.now c.in-Open.vertex c.fill.new.vertex c.args.given (frames_at c.args.types.now c.args.ctxs.now c.args.walk.now.frames.items)
-    (meant_nodes c.args.types.now c.args.walk.now.out) is c.fill.ensures c.requires.frame)
+pub returns-else-left-gt1-clause-state : goal.returns-else-left-gt1-clause-state
+returns-else-left-gt1-clause-state c = λ nodes.
+    let last = last_of c.args.walk.now c.in-Some.last c.index_mut.result.now c.requires.walk (omega arith) c.index_mut.ensures.value in
+    conflict_off last c.in-Several.field-0 c.in-Several.left (given_at c.args.types.now c.args.given)
+    (given_at c.args.types.now c.nothing.result) c.truncate-in-Several.new.self.items (meant_nodes c.args.types.now (marked_nodes nodes c.args.walk.now.added.items)) c.in-Several.is (omega arith) c.nothing.ensures.given
+    (c.truncate-in-Several.ensures.items ∙ take-set c.args.walk.now.frames.items c.in-Some.last (c.index_mut.result.now.0, Several c.in-Several.field-0 c.in-Several.left))
+
+pub returns-else-left-gt1-clause-walk : goal.returns-else-left-gt1-clause-walk
+returns-else-left-gt1-clause-walk c =
+    let last = last_of c.args.walk.now c.in-Some.last c.index_mut.result.now c.requires.walk (omega arith) c.index_mut.ensures.value in
+    record {
+      frames = rest_kept last c.args.types.now c.truncate-in-Several.new.self.items (types-itself c.args.types.now)
+          (c.truncate-in-Several.ensures.items ∙ take-set c.args.walk.now.frames.items c.in-Some.last (c.index_mut.result.now.0, Several c.in-Several.field-0 c.in-Several.left));
+      added = c.requires.walk.added;
+    }

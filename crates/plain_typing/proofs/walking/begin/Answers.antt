@@ -1,7 +1,6 @@
-use Rattle.std.proofs.Common.{◌≡◌, refl, ap}
+use Rattle.std.proofs.Common.{◌≡◌, refl, sym}
 use Rattle.grove_terms.specs.declared.node.What.TheVariants as whats
-use Rattle.grove_terms.specs.declared.node.LentWhat.TheVariants as lent
-use Rattle.grove_terms.specs.Lent.{what_of, node_of}
+use Rattle.grove_terms.specs.Lent.{node_of}
 use Rattle.mark_step.specs.declared.node.Demand.{Demand}
 use Rattle.mark_step.specs.declared.node.Mode.TheVariants.{Syn}
 use Rattle.mark_step.specs.Node.{demanded_at}
@@ -12,17 +11,15 @@ use Rattle.plain_typing.proofs.walking.begin.Goals as goal
 
 pub returns-in-Vertex-clause-state : goal.returns-in-Vertex-clause-state
 returns-in-Vertex-clause-state c =
-    let lends : c.args.node.now.what ≡ lent.Vertex c.in-Vertex.vertex = cc in
-    let is : what_of c.args.node.now.what ≡ whats.Vertex c.in-Vertex.vertex.now = ap what_of lends in
-    stands_begun_with c.args.types.now c.go_on.new.types c.args.ctxs.now c.fresh-begun.result c.in-Vertex.vertex.now (node_of c.args.node.now) (what_of c.args.node.now.what)
+    let is : (node_of c.args.node.now).what ≡ whats.Vertex c.in-Vertex.vertex.now = sym c.in-Vertex.ensures in
+    stands_begun_with c.args.types.now c.go_on.new.types c.args.ctxs.now c.fresh-begun.result c.in-Vertex.vertex.now (node_of c.args.node.now) (node_of c.args.node.now).what
     (demanded_at c.args.types.now c.args.ctxs.now c.args.demand) c.args.walk.now c.go_on.new.walk c.go_on.result (c.fresh-begun.ensures.opened c.args.ctxs.now) c.fresh-begun.ensures.left is c.go_on.ensures.state
 
 pub returns-in_ok-push-in-Conflict-clause-state : goal.returns-in_ok-push-in-Conflict-clause-state
 returns-in_ok-push-in-Conflict-clause-state c = λ s stands.
-    let lends : c.args.node.now.what ≡ lent.Conflict c.in-Conflict.field-0 c.in-Conflict.count = cc in
-    let is : what_of c.args.node.now.what ≡ whats.Conflict c.in-Conflict.field-0 c.in-Conflict.count = ap what_of lends in
+    let is : (node_of c.args.node.now).what ≡ whats.Conflict c.in-Conflict.field-0 c.in-Conflict.count = sym c.in-Conflict.ensures in
     let each : Demand = record { ctx = c.args.demand.ctx; mode = Syn } in
-    stands_conflict c.args.types.now c.args.ctxs.now each c.in-Conflict.count c.in-Conflict.field-0 (node_of c.args.node.now) (what_of c.args.node.now.what) (demanded_at c.args.types.now c.args.ctxs.now c.args.demand) c.args.walk.now
+    stands_conflict c.args.types.now c.args.ctxs.now each c.in-Conflict.count c.in-Conflict.field-0 (node_of c.args.node.now) (node_of c.args.node.now).what (demanded_at c.args.types.now c.args.ctxs.now c.args.demand) c.args.walk.now
     (record { frames = c.push.new.self; has_mark = c.args.walk.now.has_mark }) is refl c.in_ok-push-in-Conflict.ensures.items refl s stands
 
 pub returns-in_ok-push-in-Conflict-clause-frames : goal.returns-in_ok-push-in-Conflict-clause-frames
@@ -34,8 +31,8 @@ returns-in_ok-push-in-Conflict-clause-frames c =
 pub returns-in-Hole : goal.returns-in-Hole
 returns-in-Hole c = record {
   state = λ s stands.
-      stands_leaf c.args.types.now c.args.ctxs.now c.nothing.result c.args.walk.now (node_of c.args.node.now) (what_of c.args.node.now.what) (demanded_at c.args.types.now c.args.ctxs.now c.args.demand)
-      c.nothing.ensures.given (leaf_of c.args.node.now.what c.in-Hole.is) s stands;
+      stands_leaf c.args.types.now c.args.ctxs.now c.nothing.result c.args.walk.now (node_of c.args.node.now) (node_of c.args.node.now).what (demanded_at c.args.types.now c.args.ctxs.now c.args.demand)
+      c.nothing.ensures.given (leaf_of c.what.result _ c.what.ensures c.in-Hole.is) s stands;
   given = c.nothing.ensures.number;
   frames = c.requires.frames;
   kept = types-itself c.args.types.now;

@@ -5,6 +5,9 @@ use Rattle.type_core.proofs.NodeEq.{reflexive, sound}
 use Rattle.type_core.proofs.NodeLemmas.{StandOnce-from_distinct}
 use Rattle.type_core.proofs.table.place_of.Goals as goal
 
+pub returns-then-len-clause-once : goal.returns-then-len-clause-once
+returns-then-len-clause-once c = StandOnce-from_distinct _ reflexive _ c.len.ensures.unique
+
 pub returns-in_err-place-clause-once : goal.returns-in_err-place-clause-once
 returns-in_err-place-clause-once c = StandOnce-from_distinct _ reflexive _ c.in_err-place.ensures.unique
 

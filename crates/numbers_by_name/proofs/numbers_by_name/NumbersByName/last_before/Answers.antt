@@ -1,35 +1,23 @@
-use Rattle.std.proofs.Common.{◌≡◌, ℕ, sym, ap, ◌∙◌}
-use Rattle.numbers_by_name.specs.ByName.{numbers_of, name_by, HasNoneBefore}
-use Rattle.numbers_by_name.specs.Counters.{numbers_at}
-use Rattle.numbers_by_name.proofs.Joined.{if_some, if_none, if_none_some}
-use Rattle.numbers_by_name.proofs.Authors.{numbers_in, numbers_of_authors, is_last_before, only_last}
+use Rattle.std.proofs.Common.{◌≡◌, ◌≢◌, ℕ, [], sym, ap, subst, ◌∙◌}
+use Rattle.numbers_by_name.specs.ByName.{numbers_of, name_by}
+use Rattle.numbers_by_name.specs.Pages.{numbers_in}
+use Rattle.numbers_by_name.proofs.Found.{if_some, if_none_some}
+use Rattle.numbers_by_name.proofs.Last.{only_last}
+use Rattle.numbers_by_name.proofs.Listed.{numbers_listed}
 use Rattle.numbers_by_name.proofs.numbers_by_name.NumbersByName.last_before.Goals as goal
 
--- ---- the author has no names
-
-no_numbers : (c : goal.After-from_residual) → HasNoneBefore c.args.self.now c.args.author c.args.before
-no_numbers c counter before =
-    ap (λ lists. numbers_of lists (name_by c.args.author counter)) (sym c.self.view_is)
-    ∙ numbers_of_authors c.self.inside.authors.entries c.self.invariant (name_by c.args.author counter)
-    ∙ ap (λ o. numbers_in o counter) (sym c.in_err-get.ensures.value)
-
-pub returns-in_err-get-clause-none : goal.returns-in_err-get-clause-none
-returns-in_err-get-clause-none c = if_none c.from_residual.result (no_numbers c)
-
-pub returns-in_err-get-clause-only : goal.returns-in_err-get-clause-only
-returns-in_err-get-clause-only c counter last = absurd (last.numbers (no_numbers c counter last.before))
-
--- ---- the author has names
-
-numbers_are : (c : goal.After-last_before) (counter : ℕ) → numbers_of c.args.self.now (name_by c.args.author counter) ≡ numbers_at c.in_ok-get.field-0.now counter
-numbers_are c counter =
-    ap (λ lists. numbers_of lists (name_by c.args.author counter)) (sym c.self.view_is)
-    ∙ numbers_of_authors c.self.inside.authors.entries c.self.invariant (name_by c.args.author counter)
-    ∙ ap (λ o. numbers_in o counter) (sym c.in_ok-get.ensures.value)
+numbers_are : (c : goal.After-last_before) (counter : ℕ) → numbers_of c.args.self.now (name_by c.args.author counter) ≡ numbers_in c.self.inside.pages (name_by c.args.author counter)
+numbers_are c counter = ap (λ lists. numbers_of lists (name_by c.args.author counter)) (sym c.self.view_is) ∙ numbers_listed c.self.inside.pages (name_by c.args.author counter)
 
 pub returns-clause-counter : goal.returns-clause-counter
 returns-clause-counter c =
-    if_some _ _ c.last_before.result (λ found last. is_last_before c.args.self.now c.args.author (numbers_at c.in_ok-get.field-0.now) (numbers_are c) c.args.before found.0 last) c.last_before.ensures.last
+    if_some _ _ c.last_before.result
+    (λ found last. record {
+      before = last.before;
+      numbers = subst (λ ns. ns ≢ []) (sym (numbers_are c found.0)) last.has;
+      no_greater = λ d before has. last.no_greater d before (subst (λ ns. ns ≢ []) (numbers_are c d) has);
+    })
+    c.last_before.ensures.last
 
 pub returns-clause-numbers : goal.returns-clause-numbers
 returns-clause-numbers c = if_some _ _ c.last_before.result (λ found same. same ∙ sym (numbers_are c found.0)) c.last_before.ensures.numbers

@@ -1,0 +1,45 @@
+ghost use Rattle.std.specs.Prelude.{◌≡◌, ◌<◌, ◌^◌, []};
+ghost use Rattle.edge_numbers.specs.Numbered.{IsEdgeNumber};
+ghost use Rattle.edge_lists.specs.Lists.{numbers_at, places_at, HasVertex};
+
+use edge_lists::*;
+use edge_numbers::EdgeNumbers;
+use grove_edits::Edge;
+use std::test::Fail;
+
+// Puts the first edge at the vertex.
+fn put_first(lists: &mut EdgeLists<ByPosition>, edge: usize, edges: &EdgeNumbers)
+    requires vertex { HasVertex lists.old 0 }
+    requires numbers { numbers_at lists.old 0 ≡ [] }
+    requires place { 0 < places_at lists.old 0 }
+    requires edge { IsEdgeNumber edges.now edge }
+    requires fits { edge < 2 ^ 32 }
+    ensures { HasVertex lists.new 0 }
+{
+    lists.put(0, edge, edges);
+}
+
+#[test]
+fn an_edge_is_listed_by_its_number(rt: HostRuntime) -> Result<(), Fail> {
+    let mut edges = EdgeNumbers::new(rt.alloc());
+    let edge = Edge::default();
+    let source = edges.enter_vertex(&edge.source)?;
+    let target = edges.enter_vertex(&edge.target)?;
+    let number = edges.enter(&edge, source, target)?;
+    assert!(rt; number == 0);
+    let mut lists = EdgeLists::<ByPosition>::new(rt.alloc());
+    lists.add_vertex()?;
+    lists.promise(0)?;
+    put_first(&mut lists, number, &edges);
+    assert!(rt; lists.at(0) == [0].as_slice());
+    Ok(())
+}
+
+#[test]
+fn a_new_vertex_has_no_edges(rt: HostRuntime) -> Result<(), Fail> {
+    let mut lists = EdgeLists::<ByEdge>::new(rt.alloc());
+    lists.add_vertex()?;
+    assert!(rt; lists.vertex_count() == 1);
+    assert!(rt; lists.at(0).len() == 0);
+    Ok(())
+}

@@ -1,0 +1,203 @@
+use graph_table::*;
+use grove_edits::{Edge, Edit, EditKind, EditList, Vertex};
+use grove_names::Name;
+use grove_sorts::{Ctor, Position, Version, read_ident};
+use std::alloc::Global;
+use std::test::Fail;
+
+fn vertex(counter: u64, ctor: Ctor) -> Vertex {
+    Vertex {
+        name: Name { author: 1, counter },
+        ctor,
+    }
+}
+
+fn edit(
+    kind: EditKind,
+    counter: u64,
+    source: Vertex,
+    position: Position,
+    target: Vertex,
+) -> Result<Edit, Fail> {
+    let name = Name { author: 1, counter };
+    let edge = Edge {
+        name,
+        source,
+        position,
+        target,
+    };
+    Ok(Edit::new(kind, edge)?)
+}
+
+// A sum with two children on its left, one of which is on its right too, and a third child that was deleted.
+fn sum(alloc: Global) -> Result<GraphTable, Fail> {
+    let plus = vertex(1, Ctor::Plus);
+    let seven = vertex(9, Ctor::Num(7));
+    let nine = vertex(5, Ctor::Num(9));
+    let mut list = EditList::new(alloc);
+    list.extend_from_slice(&[
+        edit(EditKind::Delete, 12, plus, Position::Right, nine)?,
+        edit(EditKind::Insert, 13, plus, Position::Right, seven)?,
+        edit(EditKind::Insert, 10, plus, Position::Left, seven)?,
+        edit(EditKind::Insert, 12, plus, Position::Right, nine)?,
+        edit(
+            EditKind::Insert,
+            11,
+            plus,
+            Position::Left,
+            vertex(3, Ctor::Num(8)),
+        )?,
+        edit(EditKind::Insert, 2, Vertex::ROOT, Position::Main, plus)?,
+    ])?;
+    Ok(GraphTable::of(alloc, list.into_canonical())?)
+}
+
+#[test]
+fn vertices_have_numbers_and_an_order(rt: HostRuntime) -> Result<(), Fail> {
+    let table = sum(rt.alloc())?;
+    assert!(rt; table.number_count() == 5);
+    assert!(rt; table.number_count() == 5);
+    let numbers = table.sort_numbers(rt.alloc(), &[4, 3, 2, 1, 0])?;
+    assert!(rt; numbers.as_slice() == [0, 1, 3, 4, 2].as_slice());
+    assert!(rt; *table.vertex(0) == Vertex::ROOT);
+    assert!(rt; *table.vertex(1) == vertex(1, Ctor::Plus));
+    Ok(())
+}
+
+#[test]
+fn live_edges_are_told_by_number(rt: HostRuntime) -> Result<(), Fail> {
+    let table = sum(rt.alloc())?;
+    assert!(rt; table.number_count() == 5);
+    // The sum, and the 7.
+    let (plus, seven) = (1, 2);
+    let mut out = Vec::new(rt.alloc());
+    out.push(7)?;
+    table.children(plus, Position::Left, &mut out)?;
+    assert!(rt; out.as_slice() == [1, 2].as_slice());
+    assert!(rt; table.parents(plus) == Parents::One(0));
+    assert!(rt; table.parents(seven) == Parents::More(1, 4));
+    assert!(rt; table.source(1) == plus);
+    assert!(rt; table.target(1) == seven);
+    Ok(())
+}
+
+// The root with three children that share a name.
+fn namesakes(alloc: Global) -> Result<GraphTable, Fail> {
+    let mut list = EditList::new(alloc);
+    for (counter, ctor) in [(2, Ctor::Num(7)), (3, Ctor::Plus), (4, Ctor::Num(3))] {
+        list.push(edit(
+            EditKind::Insert,
+            counter,
+            Vertex::ROOT,
+            Position::Main,
+            vertex(1, ctor),
+        )?)?;
+    }
+    Ok(GraphTable::of(alloc, list.into_canonical())?)
+}
+
+#[test]
+fn vertices_of_one_name_are_in_vertex_order(rt: HostRuntime) -> Result<(), Fail> {
+    let table = namesakes(rt.alloc())?;
+    assert!(rt; table.number_count() == 4);
+    let list = table.sort_numbers(rt.alloc(), &[0, 1, 2, 3])?;
+    assert!(rt; list.len() == 4);
+    for i in 1..list.len() {
+        assert!(rt; table.vertex(list[i - 1] as usize) < table.vertex(list[i] as usize));
+    }
+    Ok(())
+}
+
+#[test]
+fn children_are_in_edge_order(rt: HostRuntime) -> Result<(), Fail> {
+    let table = namesakes(rt.alloc())?;
+    assert!(rt; table.number_count() == 4);
+    let root = 0;
+    let mut out = Vec::new(rt.alloc());
+    table.children(root, Position::Main, &mut out)?;
+    assert!(rt; out.as_slice() == [0, 1, 2].as_slice());
+    for index in &out {
+        assert!(rt; table.edit_ref(*index).source() == Vertex::ROOT);
+    }
+    table.children(root, Position::Left, &mut out)?;
+    assert!(rt; out.is_empty());
+    Ok(())
+}
+
+// A sum with four children on its left: a variable twice, another variable of the same name, and a function whose body is the sum.
+fn variables(alloc: Global) -> Result<GraphTable, Fail> {
+    let plus = vertex(1, Ctor::Plus);
+    let lam = vertex(8, Ctor::Lam);
+    let x = vertex(9, Ctor::Var(read_ident(Version::Two, b"x")?));
+    let y = vertex(9, Ctor::Var(read_ident(Version::Two, b"y")?));
+    let mut list = EditList::new(alloc);
+    list.extend_from_slice(&[
+        edit(EditKind::Insert, 10, Vertex::ROOT, Position::Main, plus)?,
+        edit(EditKind::Insert, 11, plus, Position::Left, x)?,
+        edit(EditKind::Insert, 12, plus, Position::Left, y)?,
+        edit(EditKind::Insert, 13, plus, Position::Left, x)?,
+        edit(EditKind::Insert, 14, lam, Position::Body, plus)?,
+        edit(EditKind::Insert, 15, plus, Position::Left, lam)?,
+    ])?;
+    Ok(GraphTable::of(alloc, list.into_canonical())?)
+}
+
+#[test]
+fn a_vertex_has_one_number_wherever_it_stands(rt: HostRuntime) -> Result<(), Fail> {
+    let table = variables(rt.alloc())?;
+    assert!(rt; table.number_count() == 5);
+    let plus = 1;
+    assert!(rt; *table.vertex(plus) == vertex(1, Ctor::Plus));
+    let mut left = Vec::new(rt.alloc());
+    table.children(plus, Position::Left, &mut left)?;
+    assert!(rt; left.as_slice() == [1, 2, 3, 5].as_slice());
+    for index in &left {
+        let target = table.target(*index);
+        assert!(rt; table.source(*index) == plus);
+        assert!(rt; table.vertex(target) == table.edit_ref(*index).target());
+    }
+    // The variable that stands twice, and the one that shares its name.
+    assert!(rt; table.target(1) == table.target(3));
+    assert!(rt; table.target(1) != table.target(2));
+    // The function is a source before it is a target, and the sum a target before it is a source.
+    let lam = table.target(5);
+    let mut body = Vec::new(rt.alloc());
+    table.children(lam, Position::Body, &mut body)?;
+    assert!(rt; body.as_slice() == [4].as_slice());
+    assert!(rt; table.target(4) == plus);
+    Ok(())
+}
+
+#[test]
+fn names_that_follow_each_other_have_numbers_of_their_own(rt: HostRuntime) -> Result<(), Fail> {
+    let mut list = EditList::new(rt.alloc());
+    for counter in 1..=40 {
+        // The last literal has the same lower half as the first.
+        for ctor in [
+            Ctor::Plus,
+            Ctor::Fst,
+            Ctor::Num(7),
+            Ctor::Num(0x1_0000_0007),
+        ] {
+            let target = vertex(counter, ctor);
+            list.push(edit(
+                EditKind::Insert,
+                100 + counter,
+                Vertex::ROOT,
+                Position::Main,
+                target,
+            )?)?;
+        }
+    }
+    let table = GraphTable::of(rt.alloc(), list.into_canonical())?;
+    assert!(rt; table.number_count() == 161);
+    let root = 0;
+    let mut out = Vec::new(rt.alloc());
+    table.children(root, Position::Main, &mut out)?;
+    assert!(rt; out.len() == 160);
+    for index in &out {
+        let target = table.target(*index);
+        assert!(rt; table.vertex(target) == table.edit_ref(*index).target());
+    }
+    Ok(())
+}

@@ -1,4 +1,0 @@
-use Rattle.live_graph.proofs.tests.check_children.Given as goal
-
-abbrev pub ghosts-check_root_children : goal.ghosts-check_root_children
-ghosts-check_root_children g a = record { name = a.blank.name; parts = a.blank.parts }

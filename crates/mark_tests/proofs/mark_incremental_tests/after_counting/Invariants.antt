@@ -1,0 +1,11 @@
+-- The marks stand for the graph of the lines so far.
+use Rattle.graph_store.specs.Store.{state_in}
+use Rattle.mark_incremental.specs.Raising.{AreIndexed}
+use Rattle.mark_incremental.specs.Standing.{StandFor}
+use Rattle.mark_tests.proofs.mark_incremental_tests.after_counting.Given as goal
+
+abbrev pub invariant-loop-line : goal.invariant-loop-line
+invariant-loop-line g l = record {
+  indexed : AreIndexed l.live.store l.live.children l.live.parents;
+  stand : StandFor (state_in l.live.store) l.live.marks;
+}

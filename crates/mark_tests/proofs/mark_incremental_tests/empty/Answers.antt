@@ -1,0 +1,8 @@
+-- The store of no entries has the empty graph.
+use Rattle.std.proofs.Common.{sym, subst}
+use Rattle.graph_store.specs.Store.{Entries, state_in}
+use Rattle.mark_incremental.specs.Standing.{StandFor}
+use Rattle.mark_tests.proofs.mark_incremental_tests.empty.Goals as goal
+
+pub returns-clause-stand : goal.returns-clause-stand
+returns-clause-stand c = subst (λ (entries : Entries). StandFor (state_in entries) c.in_ok-new.field-0) (sym c.new.ensures.empty) c.in_ok-new.ensures

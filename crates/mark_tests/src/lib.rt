@@ -1,0 +1,23 @@
+//! Tests of marks: types, contexts, single steps, whole trees, kept marks, and how they print. Each test calls what a crate makes public.
+#![tactic(auto)]
+
+#[cfg(test)]
+mod ctx_table_tests;
+#[cfg(test)]
+mod grove_answers_tests;
+#[cfg(test)]
+mod grove_printer_tests;
+#[cfg(test)]
+mod judging_tests;
+#[cfg(test)]
+mod mark_incremental_tests;
+#[cfg(test)]
+mod mark_rules_tests;
+#[cfg(test)]
+mod mark_step_tests;
+#[cfg(test)]
+mod mark_store_tests;
+#[cfg(test)]
+mod plain_typing_tests;
+#[cfg(test)]
+mod type_core_tests;

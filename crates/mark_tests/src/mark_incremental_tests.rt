@@ -1,0 +1,298 @@
+ghost use Rattle.std.specs.Prelude.{◌≡◌, ◌<◌, IfOk};
+ghost use Rattle.graph_store.specs.Store.{state_in};
+ghost use Rattle.mark_incremental.specs.Raising.{AreIndexed};
+ghost use Rattle.mark_incremental.specs.Standing.{StandFor};
+ghost use Rattle.mark_incremental.specs.Applying.{CanTakeBack};
+
+use child_index::ChildIndex;
+use edit_text::read_line;
+use graph_store::GraphStore;
+use grove_edits::Edit;
+use grove_sorts::Version;
+use mark_incremental::*;
+use mark_step::{Mark, Mode};
+use parent_index::ParentIndex;
+use std::alloc::Global;
+use std::marker::Brand;
+use std::sync::ledger::{Blank, Ledger};
+use std::test::Fail;
+use type_core::{TypeId, TypeTable};
+use walks::Steps;
+
+// A graph with its indexes and its marks.
+#[derive(Drop)]
+struct Live {
+    store: GraphStore,
+    children: ChildIndex,
+    parents: ParentIndex,
+    marks: Marks,
+}
+
+// What is wanted of a vertex and its type, in words, and its mark, where it has a record.
+type Told = Option<(&'static str, &'static str, Mark)>;
+
+fn mode_word(types: &TypeTable, mode: Option<Mode>) -> &'static str {
+    match mode {
+        None => "-",
+        Some(Mode::Syn) => "syn",
+        Some(Mode::Ana(t)) if t == types.num() => "ana:num",
+        Some(Mode::Ana(_)) => "ana:other",
+    }
+}
+
+fn type_word(types: &TypeTable, typ: Option<TypeId>) -> &'static str {
+    match typ {
+        None => "-",
+        Some(t) if t == types.unknown() => "?",
+        Some(t) if t == types.num() => "num",
+        Some(_) => "other",
+    }
+}
+
+fn empty(alloc: Global) -> Result<Live, Fail>
+    ensures indexed { IfOk result (λ live. AreIndexed live.store live.children live.parents) }
+    ensures stand { IfOk result (λ live. StandFor (state_in live.store) live.marks) }
+{
+    Ok(Live {
+        store: GraphStore::new(alloc),
+        children: ChildIndex::new(alloc),
+        parents: ParentIndex::new(alloc),
+        marks: Marks::new(alloc)?,
+    })
+}
+
+fn edit(line: &str) -> Result<Edit, Fail> {
+    Ok(read_line(Version::One, line.as_bytes())?)
+}
+
+impl Live {
+    fn apply<L: Ledger>(&mut self, line: &str, steps: &mut Steps<L>) -> Result<(), Fail>
+        requires indexed { AreIndexed self.old.store self.old.children self.old.parents }
+        requires stand { StandFor (state_in self.old.store) self.old.marks }
+        ensures indexed { AreIndexed self.new.store self.new.children self.new.parents }
+        ensures stand { StandFor (state_in self.new.store) self.new.marks }
+    {
+        let edit = edit(line)?;
+        self.marks.apply(
+            &edit,
+            &mut self.store,
+            &mut self.children,
+            &mut self.parents,
+            steps,
+        )?;
+        Ok(())
+    }
+
+    // What is told of the vertex to which the edge of a line leads.
+    fn told(&self, line: &str) -> Result<Told, Fail> {
+        let edge = edit(line)?.edge();
+        let types = self.marks.types();
+        let Some(record) = self.marks.kept(&edge.target) else {
+            return Ok(None);
+        };
+        let wanted = mode_word(types, record.mode);
+        Ok(Some((wanted, type_word(types, record.typ), record.mark)))
+    }
+
+    fn take_back(&mut self, edit: &Edit, applied: &Applied)
+        requires indexed { AreIndexed self.old.store self.old.children self.old.parents }
+        requires can { CanTakeBack edit.now applied.now self.old.store self.old.children self.old.parents self.old.marks }
+    {
+        self.marks.take_back(
+            edit,
+            applied,
+            &mut self.store,
+            &mut self.children,
+            &mut self.parents,
+        );
+    }
+
+    // Whether there was memory for all of these edits.
+    fn apply_all<L: Ledger>(&mut self, edits: &[Edit], steps: &mut Steps<L>) -> bool
+        requires indexed { AreIndexed self.old.store self.old.children self.old.parents }
+        requires stand { StandFor (state_in self.old.store) self.old.marks }
+    {
+        let applied = self.marks.apply_all(
+            edits,
+            &mut self.store,
+            &mut self.children,
+            &mut self.parents,
+            steps,
+        );
+        applied.is_ok()
+    }
+}
+
+fn after_counting<L: Ledger>(alloc: Global, lines: &[&str], blank: Blank) -> Result<Live, Fail>
+    requires name { blank.name ≡ L.name }
+    requires parts { blank.parts ≡ L.parts }
+    requires some { 0 < blank.parts }
+    ensures indexed { IfOk result (λ live. AreIndexed live.store live.children live.parents) }
+    ensures stand { IfOk result (λ live. StandFor (state_in live.store) live.marks) }
+{
+    let mut steps = Steps::<L>::new(blank);
+    let mut live = empty(alloc)?;
+    for line in lines {
+        live.apply(line, &mut steps)?;
+    }
+    Ok(live)
+}
+
+fn after(alloc: Global, lines: &[&str]) -> Result<Live, Fail>
+    ensures indexed { IfOk result (λ live. AreIndexed live.store live.children live.parents) }
+    ensures stand { IfOk result (λ live. StandFor (state_in live.store) live.marks) }
+{
+    after_counting::<Brand>(alloc, lines, Blank::new(1))
+}
+
+// Applies an edit, and answers its receipt.
+fn applied_counting<L: Ledger>(live: &mut Live, edit: &Edit, blank: Blank) -> Result<Applied, Fail>
+    requires name { blank.name ≡ L.name }
+    requires parts { blank.parts ≡ L.parts }
+    requires some { 0 < blank.parts }
+    requires indexed { AreIndexed live.old.store live.old.children live.old.parents }
+    requires stand { StandFor (state_in live.old.store) live.old.marks }
+    ensures indexed { AreIndexed live.new.store live.new.children live.new.parents }
+    ensures can { IfOk result (λ applied. CanTakeBack edit.now applied live.new.store live.new.children live.new.parents live.new.marks) }
+{
+    let mut steps = Steps::<L>::new(blank);
+    let applied = live.marks.apply(
+        edit,
+        &mut live.store,
+        &mut live.children,
+        &mut live.parents,
+        &mut steps,
+    )?;
+    Ok(applied)
+}
+
+fn all_counting<L: Ledger>(live: &mut Live, edits: &[Edit], blank: Blank) -> bool
+    requires name { blank.name ≡ L.name }
+    requires parts { blank.parts ≡ L.parts }
+    requires some { 0 < blank.parts }
+    requires indexed { AreIndexed live.old.store live.old.children live.old.parents }
+    requires stand { StandFor (state_in live.old.store) live.old.marks }
+{
+    let mut steps = Steps::<L>::new(blank);
+    live.apply_all(edits, &mut steps)
+}
+
+fn told_after(alloc: Global, lines: &[&str], line: &str) -> Result<Told, Fail> {
+    let live = after(alloc, lines)?;
+    live.told(line)
+}
+
+// What is told while the edit of one more line is applied, and once that is taken back.
+fn told_with(
+    alloc: Global,
+    lines: &[&str],
+    edited: &str,
+    line: &str,
+) -> Result<(Told, Told), Fail> {
+    let mut live = after(alloc, lines)?;
+    let edit = edit(edited)?;
+    let applied = applied_counting::<Brand>(&mut live, &edit, Blank::new(1))?;
+    let told = live.told(line)?;
+    live.take_back(&edit, &applied);
+    Ok((told, live.told(line)?))
+}
+
+// What is told once all edits of further lines are applied, or none for want of memory, and whether they are.
+fn told_after_all(
+    alloc: Global,
+    lines: &[&str],
+    further: &[&str],
+    line: &str,
+) -> Result<(bool, Told), Fail> {
+    let mut live = after(alloc, lines)?;
+    let mut edits = Vec::new(alloc);
+    for text in further {
+        edits.push(edit(text)?)?;
+    }
+    let applied = all_counting::<Brand>(&mut live, &edits, Blank::new(1));
+    Ok((applied, live.told(line)?))
+}
+
+const FUNCTION: [&str; 4] = [
+    "+1.2 0.0 root main 1.1 lam",
+    "+1.4 1.1 lam param 1.3 pvar:x",
+    "+2.2 1.1 lam param 2.1 pvar:y",
+    "+1.6 1.1 lam body 1.5 var:x",
+];
+
+#[test]
+fn a_use_is_free_under_a_conflict(rt: HostRuntime) -> Result<(), Fail> {
+    let told = told_after(rt.alloc(), &FUNCTION, FUNCTION[3])?;
+    assert!(rt; told == Some(("syn", "?", Mark::Free)));
+    Ok(())
+}
+
+#[test]
+fn a_use_is_bound_while_the_conflict_is_cut(rt: HostRuntime) -> Result<(), Fail> {
+    let cut = "-2.2 1.1 lam param 2.1 pvar:y";
+    let (cut, back) = told_with(rt.alloc(), &FUNCTION, cut, FUNCTION[3])?;
+    assert!(rt; cut == Some(("syn", "?", Mark::None)));
+    assert!(rt; back == Some(("syn", "?", Mark::Free)));
+    Ok(())
+}
+
+#[test]
+fn a_fourth_child_of_a_conflict_comes_and_goes(rt: HostRuntime) -> Result<(), Fail> {
+    let fourth = "+4.2 1.1 lam body 4.1 var:x";
+    let lines = [
+        FUNCTION[0],
+        FUNCTION[1],
+        FUNCTION[3],
+        "+2.2 1.1 lam body 2.1 num:1",
+        "+3.2 1.1 lam body 3.1 num:2",
+        fourth,
+    ];
+    let cut = "-4.2 1.1 lam body 4.1 var:x";
+    let (alone, back) = told_with(rt.alloc(), &lines, cut, fourth)?;
+    assert!(rt; alone == Some(("syn", "?", Mark::Free)));
+    assert!(rt; back == Some(("syn", "?", Mark::None)));
+    let (first, first_back) = told_with(rt.alloc(), &lines, cut, FUNCTION[3])?;
+    assert!(rt; first == Some(("syn", "?", Mark::None)));
+    assert!(rt; first_back == Some(("syn", "?", Mark::None)));
+    Ok(())
+}
+
+#[test]
+fn a_shared_vertex_is_judged_by_itself(rt: HostRuntime) -> Result<(), Fail> {
+    let left = "+1.4 1.1 plus left 1.3 num:7";
+    let shared = "+1.5 1.1 plus right 1.3 num:7";
+    let lines = ["+1.2 0.0 root main 1.1 plus", left];
+    let (alone, back) = told_with(rt.alloc(), &lines, shared, left)?;
+    assert!(rt; alone == Some(("syn", "num", Mark::None)));
+    assert!(rt; back == Some(("ana:num", "num", Mark::None)));
+    Ok(())
+}
+
+#[test]
+fn edits_are_applied_all_or_none(rt: HostRuntime) -> Result<(), Fail> {
+    let cut = "-2.2 1.1 lam param 2.1 pvar:y";
+    let lines = [FUNCTION[0], FUNCTION[1], FUNCTION[2]];
+    let further = [FUNCTION[3], FUNCTION[1], cut, cut];
+    let (applied, told) = told_after_all(rt.alloc(), &lines, &further, FUNCTION[3])?;
+    if applied {
+        assert!(rt; told == Some(("syn", "?", Mark::None)));
+    } else {
+        assert!(rt; told == None);
+    }
+    Ok(())
+}
+
+#[test]
+fn two_moves_made_apart_leave_a_cycle(rt: HostRuntime) -> Result<(), Fail> {
+    let moved = "+2.1 1.5 snd of 1.3 fst";
+    let lines = [
+        "+1.2 0.0 root main 1.1 pair",
+        "-1.4 1.1 pair first 1.3 fst",
+        "-1.6 1.1 pair second 1.5 snd",
+        moved,
+        "+3.1 1.3 fst of 1.5 snd",
+    ];
+    let told = told_after(rt.alloc(), &lines, moved)?;
+    assert!(rt; told == Some(("syn", "?", Mark::None)));
+    Ok(())
+}

@@ -1,4 +1,0 @@
-use Rattle.replica_core.proofs.marked_tests.after.Given as goal
-
-abbrev pub ghosts-after_counting : goal.ghosts-after_counting
-ghosts-after_counting a = record { name = a.blank.name; parts = a.blank.parts }

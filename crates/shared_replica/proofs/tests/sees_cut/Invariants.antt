@@ -1,6 +1,0 @@
-use Rattle.std.proofs.Common.{◌≡◌}
-use Rattle.shared_replica.proofs.tests.sees_cut.Given as goal
-
--- the seat stays at its board, with its parts
-abbrev pub invariant-loop : goal.invariant-loop
-invariant-loop l = (l.seat.board ≡ l.initial.seat.board) × (l.seat.parts ≡ l.initial.seat.parts)

@@ -1,5 +1,0 @@
-use Rattle.type_core.specs.TypeTable.{IsTypeOf, KeepsTypes}
-use Rattle.type_core.proofs.tests.chain.Given as goal
-
-abbrev pub invariant-loop-i : goal.invariant-loop-i
-invariant-loop-i l = IsTypeOf l.table l.t × KeepsTypes l.fn.table l.table

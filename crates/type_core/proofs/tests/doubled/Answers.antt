@@ -1,6 +1,0 @@
-use Rattle.type_core.proofs.NodeLemmas.{KeepsTypes-trans}
-use Rattle.type_core.proofs.tests.doubled.Goals as goal
-
-pub loop-i-preserved : goal.loop-i-preserved
-loop-i-preserved c =
-    (c.in_ok-t.ensures.number, KeepsTypes-trans _ _ _ c.loop-i.invariant.1 c.in_ok-t.ensures.kept)

@@ -1,4 +1,0 @@
-use Rattle.unicycle_roots.proofs.tests.roots_are_found.Given as goal
-
-abbrev pub ghosts-find : goal.ghosts-find
-ghosts-find g a = record { name = a.blank.name; parts = a.blank.parts }
