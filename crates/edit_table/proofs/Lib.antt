@@ -1,0 +1,4 @@
+pub mod Lists
+pub mod KeyEq
+pub mod Ctors
+pub mod Keys

@@ -23,13 +23,13 @@ pub(crate) fn keep_last_of_each_edge(records: &mut Vec<Record>)
 }
 
 // Whether the first of the records has the same edge as this one.
-fn begins_with_edge(records: &[Record], record: &Record) -> bool
-    ensures { (vertices : List Vertex) → AreOf vertices (record.now ∷ records.now)
-        → result ≡ begins_with (edge_of vertices record.now) (edits_of vertices records.now) }
+fn begins_with_edge(records: &[Record], edit: &Record) -> bool
+    ensures { (vertices : List Vertex) → AreOf vertices (edit.now ∷ records.now)
+        → result ≡ begins_with (edge_of vertices edit.now) (edits_of vertices records.now) }
 {
     match records {
         [] => false,
-        [first, ..] => have_same_edge(record, first),
+        [first, ..] => have_same_edge(edit, first),
     }
 }
 
