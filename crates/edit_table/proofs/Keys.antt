@@ -9,13 +9,16 @@ use Rattle.indexmap.specs.IndexSet.{insert_key}
 use Rattle.grove_names.specs.declared.name.Name.{Name}
 use Rattle.grove_sorts.specs.declared.ctor.Ctor.{Ctor}
 use Rattle.grove_sorts.specs.declared.ctor.Ctor.TheVariants.{Root}
+use Rattle.grove_sorts.specs.declared.branch.Branch.{Branch}
+use Rattle.grove_sorts.specs.Branch.{branch_ctor}
 use Rattle.grove_edits.specs.declared.vertex.Vertex.{Vertex}
 use Rattle.grove_edits.specs.Vertex.{is_same_vertex, stands_in}
 use Rattle.grove_edits.proofs.Orders.{vertex_from_fields}
 use Rattle.grove_edits.proofs.Vertices.{same_vertex_laws, same_vertex_exact, same_vertex_itself}
 use Rattle.edit_table.specs.declared.vertex_key.VertexKey.{VertexKey}
-use Rattle.edit_table.specs.Keys.{ctor_at, vertex_of, vertices_of, with_vertex, AreCtors, AreKeys, BeginsWith, HasCtor}
+use Rattle.edit_table.specs.Keys.{branch_key, ctor_at, vertex_of, vertices_of, with_vertex, AreCtors, AreKeys, BeginsWith, HasCtor}
 use Rattle.edit_table.proofs.Lists.{all_pushed, read_at, read_stays, stands_within, within_from}
+use Rattle.edit_table.proofs.Ctors.{branch_stands}
 use Rattle.edit_table.proofs.KeyEq.{key_eq, key_exact, key_itself}
 
 -- ---- where more constructors are met, keys stand for the same
@@ -144,3 +147,9 @@ by_result (Err e) f g ok err = g err
 pub on_ok_both : {X E : Type 0} (r : Result X E) {P Q S R : Type 0} → (P → Q → S → R) → OnOk r P → OnOk r Q → S → OnOk r R
 on_ok_both (Ok x) f p q s = f p q s
 on_ok_both (Err e) f p q s = tt
+
+-- the key of a vertex whose constructor is a branch
+pub branch_key_is : (ctors : List Ctor) (key : VertexKey) (v : Vertex) → AreCtors ctors → (branch : Branch) × (key ≡ branch_key v.name branch) × (branch_ctor branch ≡ v.ctor) → IsKeyOf ctors key v
+branch_key_is ctors key v are found =
+    (ap (λ (k : VertexKey). k.name) found.1,
+    ap (λ (k : VertexKey). slice_get ctors k.ctor) found.1 ∙ branch_stands ctors found.0 are ∙ ap (λ (c : Ctor). Some c) found.2)

@@ -2,3 +2,6 @@ pub mod Lists
 pub mod KeyEq
 pub mod Ctors
 pub mod Keys
+pub mod Ends
+pub mod Made
+pub mod Records
