@@ -10,7 +10,7 @@ use Rattle.grove_sorts.specs.declared.branch.Branch.{Branch}
 use Rattle.grove_sorts.specs.declared.branch.Branch.TheVariants as branch
 use Rattle.grove_sorts.specs.Branch.{branch_ctor}
 use Rattle.edit_table.specs.Keys.{branches, branch_ctors, branch_number, AreCtors, BeginsWith, StandOnce}
-use Rattle.edit_table.proofs.Lists.{all_at, begins_further, begins_inserted, begins_itself, still_stands_at}
+use Rattle.edit_table.proofs.Lists.{all_at, begins_alike, begins_further, begins_inserted, begins_itself, still_stands_at}
 use Rattle.edit_table.proofs.KeyEq.{ctor_eq, ctor_exact, ctor_itself}
 
 -- no constructor of a set has two numbers
@@ -102,7 +102,11 @@ pub branches_after : (before after : List Ctor) (i : ℕ) (c : Ctor) → i < 15 
 branches_after before after i c within is so_far inserted =
     inserted ∙ ap (λ xs. insert_key ctor_eq xs c) so_far ∙ ap (insert_key ctor_eq (first_branches i)) is ∙ next_branch i within ∙ ap first_branches (sym (add-one i))
 
-pub all_branches : (i : ℕ) → 15 ≤ i → i ≤ 15 → first_branches i ≡ branch_ctors
-all_branches i past within =
-    let is : i ≡ 15 = omega (arith, past, within) in
-    ap first_branches is
+pub no_branches : (ctors : List Ctor) → ctors ≡ [] → (ctors ≡ first_branches 0) × StandOnce ctors
+no_branches ctors none = (none, subst StandOnce (sym none) (λ m n c first second. absurd cc))
+
+-- where all branches were inserted
+pub all_branches : (ctors : List Ctor) (i : ℕ) → 15 ≤ i → i ≤ 15 → ctors ≡ first_branches i → StandOnce ctors → AreCtors ctors
+all_branches ctors i past within is once =
+    let last : i ≡ 15 = omega (arith, past, within) in
+    record { begin = begins_alike ctors branch_ctors (is ∙ ap first_branches last); once = once }

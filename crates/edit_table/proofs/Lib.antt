@@ -5,3 +5,5 @@ pub mod Keys
 pub mod Ends
 pub mod Made
 pub mod Records
+pub mod Orders
+pub mod Reading

@@ -1,7 +1,11 @@
 -- The edits that records stand for, as vertices and records are added.
 use Rattle.std.proofs.Common.{◌≡◌, ℕ, ◌<◌, ◌^◌, true, List, [], ◌∷◌, ◌++◌, length, map, slice_get, Some, refl, sym, ap, subst, ◌∙◌, arith}
-use Rattle.std.specs.Prelude.{slice_index_or, option_map}
-use Rattle.std.specs.List.{AllByRecursion}
+use Rattle.std.specs.Prelude.{slice_index_or, option_map, Result, Ok, Err, OnErr}
+use Rattle.std.specs.Result.{is_err}
+use Rattle.std.specs.List.{AllByRecursion, IsDistinct}
+use Rattle.indexmap.specs.IndexSet.{insert_key}
+use Rattle.grove_sorts.specs.declared.ctor.Ctor.TheVariants.{Root}
+use Rattle.grove_sorts.specs.declared.branch.Branch.TheVariants as branch
 use Rattle.std.proofs.lemmas.List.{length-append, map-append}
 use Rattle.grove_sorts.specs.declared.ctor.Ctor.{Ctor}
 use Rattle.grove_sorts.specs.declared.position.Position.{Position}
@@ -10,7 +14,7 @@ use Rattle.grove_edits.specs.declared.edge.Edge.{Edge}
 use Rattle.grove_edits.specs.declared.edit.Edit.{Edit}
 use Rattle.grove_edits.specs.declared.edit.EditKind.{EditKind}
 use Rattle.grove_edits.specs.Edit.{edit_edge, edit_kind}
-use Rattle.grove_edits.specs.Vertex.{root}
+use Rattle.grove_edits.specs.Vertex.{root, is_same_vertex}
 use Rattle.grove_edits.proofs.Orders.{edge_from_fields}
 use Rattle.edit_table.specs.declared.vertex_key.VertexKey.{VertexKey}
 use Rattle.edit_table.specs.declared.record.Record.{Record}
@@ -20,7 +24,9 @@ use Rattle.edit_table.specs.Records.{edge_of, edit_of, edits_of, numbered, table
 use Rattle.edit_table.specs.Table.{Table, AreEnds}
 use Rattle.edit_table.proofs.Lists.{all_pushed, begins_alike, begins_further, read_at, read_stays, taken_back, within_from}
 use Rattle.edit_table.proofs.Keys.{keys_stay, same_vertices}
-use Rattle.edit_table.proofs.Ends.{begins_with_before, ends_after}
+use Rattle.edit_table.proofs.Ctors.{branch_stands}
+use Rattle.edit_table.proofs.KeyEq.{key_eq}
+use Rattle.edit_table.proofs.Ends.{begins_with_before, ends_after, ends_of_none}
 use Rattle.edit_table.proofs.Made.{edit_is_good, made_again}
 
 -- ---- more vertices
@@ -126,3 +132,38 @@ module _ (ctors met : List Ctor) (keys more : List VertexKey) (records : List Re
 
   pub records_back : (rest : List VertexKey) (same : List Record) → rest ≡ keys → same ≡ records → AreRecords met rest same
   records_back rest same rest_is same_is = subst (λ ks. AreRecords met ks same) (sym rest_is) (subst (AreRecords met keys) (sym same_is) records_alike)
+
+pub if_err : {X E : Type 0} (r : Result X E) {P : Type 0} → is_err r ≡ true → OnErr r P → P
+if_err (Ok x) failed p = absurd cc
+if_err (Err e) failed p = p
+
+-- ---- no records
+
+abbrev pub root_key : VertexKey
+root_key = record { name = record { author = 0; counter = 0 }; ctor = 0 }
+
+module _ (ctors : List Ctor) (none keys : List VertexKey) (records : List Record) (are : AreCtors ctors) (empty : none ≡ []) (one : keys ≡ insert_key key_eq none root_key) (no_records : records ≡ []) where
+  key_alone : keys ≡ root_key ∷ []
+  key_alone = one ∙ ap (λ ks. insert_key key_eq ks root_key) empty
+
+  root_is : vertices_of ctors (root_key ∷ []) ≡ root ∷ []
+  root_is = ap (λ (c : Ctor). record { name = record { author = 0; counter = 0 }; ctor = c } ∷ []) (read_at ctors 0 Root Root (branch_stands ctors branch.Root are))
+
+  pub root_alone : vertices_of ctors keys ≡ root ∷ []
+  root_alone = ap (vertices_of ctors) key_alone ∙ root_is
+
+  alone : AreRecords ctors (root_key ∷ []) []
+  alone = record {
+    keys_are = record {
+      ctors_are = are;
+      have_ctors = (within_from ctors 0 Root (branch_stands ctors branch.Root are), tt);
+      once = subst (IsDistinct is_same_vertex) (sym root_is) ends_of_none.once;
+      few = omega arith;
+    };
+    records_are = record { once = subst (IsDistinct is_same_vertex) (sym root_is) ends_of_none.once; each = tt };
+    few = omega arith;
+    ends = subst (AreEnds []) (sym root_is) ends_of_none;
+  }
+
+  pub first_records : AreRecords ctors keys records
+  first_records = subst (λ ks. AreRecords ctors ks records) (sym key_alone) (subst (AreRecords ctors (root_key ∷ [])) (sym no_records) alone)

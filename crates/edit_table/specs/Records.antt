@@ -62,3 +62,7 @@ record_cmp vertices a b = ordering_then (edge_cmp (edge_of vertices a) (edge_of 
 -- the records are of these vertices, and in order
 abbrev pub AreInOrder : List Vertex → List Record → Type 0
 AreInOrder vertices records = AreOf vertices records × IsSorted (record_cmp vertices) records
+
+-- the records have one edge, by its parts
+abbrev pub HaveSameParts : Record → Record → Type 0
+HaveSameParts a b = (a.name ≡ b.name) × (a.source ≡ b.source) × (a.position ≡ b.position) × (a.target ≡ b.target)

@@ -34,11 +34,10 @@ fn compare_namesakes(ctors: &[Ctor], keys: &[VertexKey], a: &Record, b: &Record)
     ensures { result ≡ record_cmp (vertices_of ctors.now keys.now) a.now b.now }
 {
     let sources = compare_numbered(ctors, keys, a.source, b.source);
+    let positions = a.position.cmp(&b.position);
     let targets = compare_numbered(ctors, keys, a.target, b.target);
-    sources
-        .then(a.position.cmp(&b.position))
-        .then(targets)
-        .then(a.kind.cmp(&b.kind))
+    let kinds = a.kind.cmp(&b.kind);
+    sources.then(positions).then(targets).then(kinds)
 }
 
 // The order of the vertices with two numbers, of which one that no vertex has counts as the root's.

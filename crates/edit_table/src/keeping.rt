@@ -1,7 +1,7 @@
-ghost use Rattle.std.specs.Prelude.{◌≡◌, ◌≤◌, [], ◌∷◌, length, List};
+ghost use Rattle.std.specs.Prelude.{◌≡◌, ◌↔◌, ◌≤◌, ◌∷◌, length, IsTrue, List};
 ghost use Rattle.grove_edits.specs.declared.vertex.Vertex.{Vertex};
-ghost use Rattle.grove_edits.specs.Graph.{begins_with, graph, is_same_edge, IsCanonical};
-ghost use Rattle.edit_table.specs.Records.{edge_of, edits_of, AreInOrder, AreOf};
+ghost use Rattle.grove_edits.specs.Graph.{begins_with, graph, IsCanonical};
+ghost use Rattle.edit_table.specs.Records.{edge_of, edits_of, AreInOrder, AreOf, HaveSameParts};
 
 use crate::record::Record;
 
@@ -35,8 +35,7 @@ fn begins_with_edge(records: &[Record], edit: &Record) -> bool
 
 // A vertex has one number, so none is looked up.
 fn have_same_edge(a: &Record, b: &Record) -> bool
-    ensures { (vertices : List Vertex) → AreOf vertices (a.now ∷ b.now ∷ [])
-        → result ≡ is_same_edge (edge_of vertices a.now) (edge_of vertices b.now) }
+    ensures { IsTrue result ↔ HaveSameParts a.now b.now }
 {
     a.name == b.name
         && a.source == b.source

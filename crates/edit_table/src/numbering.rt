@@ -3,7 +3,7 @@ ghost use Rattle.indexmap.specs.IndexSet.{insert_key};
 ghost use Rattle.grove_sorts.specs.Branch.{branch_ctor};
 ghost use Rattle.grove_edits.specs.Edit.{edit_edge};
 ghost use Rattle.edit_table.specs.declared.vertex_key.VertexKey.{VertexKey};
-ghost use Rattle.edit_table.specs.Keys.{branch_ctors, branch_key, branch_number, vertices_of, with_vertex, AreCtors, AreKeys, BeginsWith};
+ghost use Rattle.edit_table.specs.Keys.{branch_key, branch_number, vertices_of, with_vertex, AreCtors, AreKeys, BeginsWith};
 ghost use Rattle.edit_table.specs.Records.{edits_of, AreRecords};
 
 use crate::no_memory::NoMemory;
@@ -45,7 +45,7 @@ pub(crate) fn branch_ctors(
     alloc: Global,
     seed: HashSeed,
 ) -> Result<IndexSet<Ctor, HashSeed>, NoMemory>
-    ensures { IfOk result (λ ctors. ctors.keys ≡ branch_ctors) }
+    ensures { IfOk result (λ ctors. AreCtors ctors.keys) }
 {
     let mut ctors = IndexSet::with_hasher(alloc, seed);
     for number in 0..BRANCHES.len() {
