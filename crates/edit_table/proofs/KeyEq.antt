@@ -1,6 +1,11 @@
 -- The comparison of keys is equality, and so is that of constructors.
 use Rattle.std.proofs.Common.{◌≡◌, Bool, true, rules, is_eq, sym, ap, ◌∙◌}
+use Rattle.std.specs.Prelude.{◌&&◌}
 use Rattle.std.proofs.lemmas.Cmp.{tied_itself}
+use Rattle.grove_names.specs.contracts.name.NamePartialEq.TheImpl as name_eq_impl
+use Rattle.grove_edits.specs.declared.vertex.Vertex.{Vertex}
+use Rattle.grove_edits.specs.Vertex.{is_same_vertex}
+use Rattle.grove_edits.proofs.Vertices.{eq_is_same_vertex}
 use Rattle.grove_sorts.specs.declared.ctor.Ctor.{Ctor}
 use Rattle.grove_sorts.specs.Ctor.{ctor_cmp}
 use Rattle.grove_sorts.specs.contracts.ctor.CtorPartialEq.TheImpl as ctor_eq_impl
@@ -33,3 +38,7 @@ key_exact a b same =
     let counter : a.name.counter ≡ b.name.counter = search rules in
     let ctor : a.ctor ≡ b.ctor = search rules in
     λ j. record { name = record { author = author j; counter = counter j }; ctor = ctor j }
+
+-- vertices of one name are told by their constructors
+pub same_parts : (v w : Vertex) (b : Bool) → true ≡ name_eq_impl.eq-value.it v.name w.name → b ≡ ctor_eq v.ctor w.ctor → b ≡ is_same_vertex v w
+same_parts v w b named same = same ∙ ap (λ n. n && ctor_eq v.ctor w.ctor) named ∙ eq_is_same_vertex v w

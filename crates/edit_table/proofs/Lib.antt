@@ -7,3 +7,4 @@ pub mod Made
 pub mod Records
 pub mod Orders
 pub mod Reading
+pub mod KeptRecords
