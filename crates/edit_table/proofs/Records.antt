@@ -81,16 +81,16 @@ module _ (vs : List Vertex) (r : Record) (edit : Edit) (is : IsRecordOf vs r edi
   }
 
 module _ (ctors met : List Ctor) (keys more : List VertexKey) (records pushed : List Record) (r : Record) (edit : Edit)
-  (are : AreRecords ctors keys records) (keys_are : AreKeys met more)
-  (grown : vertices_of met more ≡ with_vertex (edit_edge edit).target (with_vertex (edit_edge edit).source (vertices_of ctors keys)))
-  (is : IsRecordOf (vertices_of met more) r edit) (pushed_is : pushed ≡ records ++ r ∷ []) where
+    (are : AreRecords ctors keys records) (keys_are : AreKeys met more)
+    (grown : vertices_of met more ≡ with_vertex (edit_edge edit).target (with_vertex (edit_edge edit).source (vertices_of ctors keys)))
+    (is : IsRecordOf (vertices_of met more) r edit) (pushed_is : pushed ≡ records ++ r ∷ []) where
   begins : BeginsWith (vertices_of met more) (vertices_of ctors keys)
   begins = begins_further (vertices_of met more) between (vertices_of ctors keys)
       (begins_further (vertices_of met more) (with_vertex (edit_edge edit).target between) between (begins_alike (vertices_of met more) (with_vertex (edit_edge edit).target between) grown)
       (begins_with_before (edit_edge edit).target between))
       (begins_with_before (edit_edge edit).source (vertices_of ctors keys)) where
-    between : List Vertex
-    between = with_vertex (edit_edge edit).source (vertices_of ctors keys)
+        between : List Vertex
+        between = with_vertex (edit_edge edit).source (vertices_of ctors keys)
 
   pub pushed_edits : edits_of (vertices_of met more) pushed ≡ edits_of (vertices_of ctors keys) records ++ edit ∷ []
   pushed_edits =
@@ -115,7 +115,7 @@ module _ (ctors met : List Ctor) (keys more : List VertexKey) (records pushed : 
 -- ---- what a push that found no memory left
 
 module _ (ctors met : List Ctor) (keys more : List VertexKey) (records : List Record) (met_are : AreCtors met) (begins : BeginsWith met ctors) (begin : BeginsWith more keys)
-  (are : AreRecords ctors keys records) where
+    (are : AreRecords ctors keys records) where
   same_table : table_of met keys records ≡ table_of ctors keys records
   same_table = ap (λ (vs : List Vertex). record { edits = edits_of vs records; vertices = vs }) (same_vertices met ctors begins keys are.keys_are)
 

@@ -32,7 +32,6 @@ returns-in_err-push-clause-keys_stay c =
     begins_further c.target_number.new.keys.keys c.source_number.new.keys.keys c.args.keys.now.keys c.in_ok-target.ensures.keys_stay
     (begins_inserted key_eq c.source_number.new.keys.keys c.args.keys.now.keys c.source_key.result c.in_ok-source.ensures.keys)
 
-
 abbrev pushed : goal.In_ok-push → Record
 pushed c = record { name = c.name.result; source = c.in_ok-source.source; target = c.in_ok-target.target; position = c.position.result; kind = c.kind.result }
 
