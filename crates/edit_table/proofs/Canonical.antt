@@ -1,10 +1,9 @@
 -- The table whose records were sorted, and of each edge the last was kept.
-use Rattle.std.proofs.Common.{◌≡◌, ◌<◌, ◌≤◌, ◌^◌, List, length, sym, subst, arith}
+use Rattle.std.proofs.Common.{◌≤◌, List, length, arith}
 use Rattle.std.specs.List.Sorted.{IsPermutation, IsSorted}
 use Rattle.std.proofs.lemmas.List.Sorted.{IsPermutation-map, length_permutation}
 use Rattle.grove_sorts.specs.declared.ctor.Ctor.{Ctor}
 use Rattle.grove_edits.specs.declared.vertex.Vertex.{Vertex}
-use Rattle.grove_edits.specs.declared.edit.Edit.{Edit}
 use Rattle.grove_edits.specs.Graph.{graph, IsCanonical}
 use Rattle.grove_edits.proofs.Unique.{canonical_moved}
 use Rattle.edit_table.specs.declared.vertex_key.VertexKey.{VertexKey}

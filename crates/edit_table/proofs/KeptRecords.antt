@@ -9,10 +9,9 @@ use Rattle.std.proofs.lemmas.List.Sorted.{All-permutation}
 use Rattle.std.proofs.lemmas.Map.Keys.{IsDistinct-head, IsDistinct-tail}
 use Rattle.grove_edits.specs.declared.vertex.Vertex.{Vertex}
 use Rattle.grove_edits.specs.declared.edge.Edge.{Edge}
-use Rattle.grove_edits.specs.declared.edit.Edit.{Edit}
 use Rattle.grove_edits.specs.contracts.edit.EditOrd.TheImpl as edit_impl
 use Rattle.grove_edits.specs.Edge.{edge_cmp}
-use Rattle.grove_edits.specs.Edit.{edit_edge, edit_kind, kind_number, edit_cmp}
+use Rattle.grove_edits.specs.Edit.{edit_edge, kind_number}
 use Rattle.grove_edits.specs.Graph.{begins_with, graph, is_same_edge, IsCanonical}
 use Rattle.grove_edits.specs.Vertex.{root, is_same_vertex}
 use Rattle.grove_edits.proofs.CanonicalLists.{AreCompacted, compacted_first, compacted_skipped, compacted_pushed, compacted_all}
@@ -20,7 +19,7 @@ use Rattle.grove_edits.proofs.Orders.{cmp_is_edit_cmp, edge_from_fields, one_edg
 use Rattle.grove_edits.proofs.Vertices.{same_vertex_itself}
 use Rattle.edit_table.specs.declared.record.Record.{Record}
 use Rattle.edit_table.specs.Records.{edge_of, edit_of, edits_of, numbered, record_cmp, AreInOrder, AreOf, HaveSameParts, IsRecord}
-use Rattle.edit_table.proofs.Lists.{all_at, stands_within, within_from}
+use Rattle.edit_table.proofs.Lists.{all_at, stands_within}
 use Rattle.edit_table.proofs.Made.{made-edge, made-kind}
 
 -- ---- one number for each vertex

@@ -1,6 +1,6 @@
 -- The edits that records stand for, as vertices and records are added.
-use Rattle.std.proofs.Common.{◌≡◌, ℕ, ◌<◌, ◌^◌, true, List, [], ◌∷◌, ◌++◌, length, map, slice_get, Some, refl, sym, ap, subst, ◌∙◌, arith}
-use Rattle.std.specs.Prelude.{slice_index_or, option_map, Result, Ok, Err, OnErr}
+use Rattle.std.proofs.Common.{◌≡◌, ℕ, ◌<◌, ◌^◌, true, List, [], ◌∷◌, ◌++◌, length, slice_get, Some, refl, sym, ap, subst, ◌∙◌, arith}
+use Rattle.std.specs.Prelude.{Result, Ok, Err, OnErr}
 use Rattle.std.specs.Result.{is_err}
 use Rattle.std.specs.List.{AllByRecursion, IsDistinct}
 use Rattle.indexmap.specs.IndexSet.{insert_key}
@@ -8,9 +8,7 @@ use Rattle.grove_sorts.specs.declared.ctor.Ctor.TheVariants.{Root}
 use Rattle.grove_sorts.specs.declared.branch.Branch.TheVariants as branch
 use Rattle.std.proofs.lemmas.List.{length-append, map-append}
 use Rattle.grove_sorts.specs.declared.ctor.Ctor.{Ctor}
-use Rattle.grove_sorts.specs.declared.position.Position.{Position}
 use Rattle.grove_edits.specs.declared.vertex.Vertex.{Vertex}
-use Rattle.grove_edits.specs.declared.edge.Edge.{Edge}
 use Rattle.grove_edits.specs.declared.edit.Edit.{Edit}
 use Rattle.grove_edits.specs.declared.edit.EditKind.{EditKind}
 use Rattle.grove_edits.specs.Edit.{edit_edge, edit_kind}
@@ -20,9 +18,9 @@ use Rattle.edit_table.specs.declared.vertex_key.VertexKey.{VertexKey}
 use Rattle.edit_table.specs.declared.record.Record.{Record}
 use Rattle.edit_table.specs.Made.{is_good, made}
 use Rattle.edit_table.specs.Keys.{vertices_of, with_vertex, AreCtors, AreKeys, BeginsWith}
-use Rattle.edit_table.specs.Records.{edge_of, edit_of, edits_of, numbered, table_of, AreOf, AreRecords, IsRecord}
-use Rattle.edit_table.specs.Table.{Table, AreEnds}
-use Rattle.edit_table.proofs.Lists.{all_pushed, begins_alike, begins_further, read_at, read_stays, taken_back, within_from}
+use Rattle.edit_table.specs.Records.{edge_of, edit_of, edits_of, table_of, AreOf, AreRecords, IsRecord}
+use Rattle.edit_table.specs.Table.{AreEnds}
+use Rattle.edit_table.proofs.Lists.{all_pushed, begins_alike, begins_further, read_at, read_stays, within_from}
 use Rattle.edit_table.proofs.Keys.{keys_stay, same_vertices}
 use Rattle.edit_table.proofs.Ctors.{branch_stands}
 use Rattle.edit_table.proofs.KeyEq.{key_eq}

@@ -1,9 +1,9 @@
-use Rattle.std.proofs.Common.{◌≡◌, ◌<◌, ◌^◌, ◌++◌, ◌∷◌, [], Some, length, slice_get, sym, ap, subst, ◌∙◌, arith}
+use Rattle.std.proofs.Common.{◌≡◌, ◌<◌, ◌^◌, ◌∷◌, [], Some, length, slice_get, ap, ◌∙◌, arith}
 use Rattle.std.proofs.lemmas.List.{length-append}
 use Rattle.grove_edits.specs.declared.vertex.Vertex.{Vertex}
 use Rattle.grove_edits.specs.Edit.{edit_edge}
 use Rattle.edit_table.specs.declared.record.Record.{Record}
-use Rattle.edit_table.specs.Keys.{vertices_of, with_vertex, AreKeys, BeginsWith}
+use Rattle.edit_table.specs.Keys.{vertices_of, with_vertex}
 use Rattle.edit_table.proofs.Lists.{begins_further, begins_inserted, still_stands_at, begins_alike}
 use Rattle.edit_table.proofs.KeyEq.{key_eq}
 use Rattle.edit_table.proofs.Keys.{branch_key_is, keys_after, vertex_numbered, vertices_after, IsKeyOf}
