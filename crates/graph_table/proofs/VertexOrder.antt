@@ -10,14 +10,13 @@ use Rattle.std.proofs.lemmas.List.Sorted.{IsPermutation-map, All-permutation}
 use Rattle.std.proofs.lemmas.Option.{slice_get-map, slice_get-get_or, get_or_from_slice_get}
 use Rattle.grove_edits.specs.declared.vertex.Vertex.{Vertex}
 use Rattle.grove_edits.specs.Vertex.{vertex_cmp}
-use Rattle.grove_edits.specs.contracts.vertex.VertexOrd.TheImpl as vertex_impl
+use Rattle.grove_sorts.specs.contracts.ctor.CtorOrd.TheImpl as ctor_impl
 use Rattle.grove_edits.proofs.Orders.{cmp_is_vertex_cmp}
-use Rattle.grove_names.specs.declared.name.Name.{Name}
 use Rattle.grove_names.specs.contracts.name.NameOrd.TheImpl as name_impl
 use Rattle.graph_table.specs.declared.named_vertex.NamedVertex.{NamedVertex}
 use Rattle.graph_table.specs.contracts.named_vertex.NamedVertexOrd.TheImpl as impl
 use Rattle.graph_table.specs.Table.{Table, vertex_at, IsNumber}
-use Rattle.graph_table.specs.Named.{vertices_of, numbers_of, IsNamed}
+use Rattle.graph_table.specs.Named.{vertex_named, vertices_of, numbers_of, IsNamed}
 
 -- ---- numbers with their vertices and names
 
@@ -38,40 +37,38 @@ first_not_less Less p h = h
 first_not_less Equal p h = refl
 first_not_less Greater p h = refl
 
--- where neither the name nor the vertex is less, the vertex is not
-vertex_not_less : (name ctor number : Ordering) → is_lt (ordering_then name (ordering_then (ordering_then name ctor) number)) ≡ false → is_lt (ordering_then name ctor) ≡ false
+-- where what begins with the name and the constructor is not less, the vertex is not
+vertex_not_less : (name ctor number : Ordering) → is_lt (ordering_then name (ordering_then ctor number)) ≡ false → is_lt (ordering_then name ctor) ≡ false
 vertex_not_less Less ctor number h = h
 vertex_not_less Equal ctor number h = first_not_less ctor number h
 vertex_not_less Greater ctor number h = refl
 
-get_mapped : (xs : List NamedVertex) (k : ℕ) (n : NamedVertex) (d : Vertex) → k < length xs → get_or (vertices_of xs) k d ≡ (get_or xs k n).vertex.now
+get_mapped : (xs : List NamedVertex) (k : ℕ) (n : NamedVertex) (d : Vertex) → k < length xs → get_or (vertices_of xs) k d ≡ vertex_named (get_or xs k n)
 get_mapped xs k n d lt =
-    get_or_from_slice_get (vertices_of xs) k (get_or xs k n).vertex.now d
-    (slice_get-map (λ (m : NamedVertex). m.vertex.now) xs k ∙ ap (option_map (λ (m : NamedVertex). m.vertex.now)) (slice_get-get_or xs k n lt))
+    get_or_from_slice_get (vertices_of xs) k (vertex_named (get_or xs k n)) d
+    (slice_get-map vertex_named xs k ∙ ap (option_map vertex_named) (slice_get-get_or xs k n lt))
 
-not_less : (table : Table) (a b : NamedVertex) → IsNamed table a → IsNamed table b → is_lt (impl.ghosts.cmp a b) ≡ false → is_lt (vertex_cmp a.vertex.now b.vertex.now) ≡ false
-not_less table a b named_a named_b h =
-    ap is_lt (sym (cmp_is_vertex_cmp a.vertex.now b.vertex.now)) ∙ vertex_not_less (name_impl.ghosts.cmp a.vertex.now.name b.vertex.now.name) _ (nat_cmp a.number b.number)
-    (ap (λ (x : Name). is_lt (ordering_then (name_impl.ghosts.cmp x b.vertex.now.name) (ordering_then (vertex_impl.ghosts.cmp a.vertex.now b.vertex.now) (nat_cmp a.number b.number)))) (sym named_a.name)
-    ∙ ap (λ (y : Name). is_lt (ordering_then (name_impl.ghosts.cmp a.name y) (ordering_then (vertex_impl.ghosts.cmp a.vertex.now b.vertex.now) (nat_cmp a.number b.number)))) (sym named_b.name) ∙ h)
+not_less : (a b : NamedVertex) → is_lt (impl.ghosts.cmp a b) ≡ false → is_lt (vertex_cmp (vertex_named a) (vertex_named b)) ≡ false
+not_less a b h =
+    ap is_lt (sym (cmp_is_vertex_cmp (vertex_named a) (vertex_named b)))
+    ∙ vertex_not_less (name_impl.ghosts.cmp a.name b.name) (ctor_impl.ghosts.cmp a.ctor.now b.ctor.now) (nat_cmp a.number b.number) h
 
-vertices_sorted : (table : Table) (xs : List NamedVertex) → AllByRecursion (IsNamed table) xs → IsSorted impl.ghosts.cmp xs → IsSorted vertex_cmp (vertices_of xs)
-vertices_sorted table [] all up k d low high = absurd (omega arith)
-vertices_sorted table (n ∷ ns) all up k d low high =
+vertices_sorted : (xs : List NamedVertex) → IsSorted impl.ghosts.cmp xs → IsSorted vertex_cmp (vertices_of xs)
+vertices_sorted [] up k d low high = absurd (omega arith)
+vertices_sorted (n ∷ ns) up k d low high =
     let xs = n ∷ ns in
-    let within : k + 1 < length xs = omega (arith, length-map xs (λ (m : NamedVertex). m.vertex.now)) in
+    let within : k + 1 < length xs = omega (arith, length-map xs vertex_named) in
     let a = get_or xs (k + 1) n in
     let b = get_or xs k n in
-    let named = All-from_recursion (IsNamed table) xs all in
     ap (λ (v : Vertex). is_lt (vertex_cmp v (get_or (vertices_of xs) k d))) (get_mapped xs (k + 1) n d within)
-    ∙ ap (λ (v : Vertex). is_lt (vertex_cmp a.vertex.now v)) (get_mapped xs k n d (omega arith))
-    ∙ not_less table a b (named (k + 1) n within) (named k n (omega arith)) (up k n low within)
+    ∙ ap (λ (v : Vertex). is_lt (vertex_cmp (vertex_named a) v)) (get_mapped xs k n d (omega arith))
+    ∙ not_less a b (up k n low within)
 
 -- ---- the numbers of a list in order
 
 numbers_told : (table : Table) (xs : List NamedVertex) → AllByRecursion (IsNamed table) xs → map (vertex_at table) (numbers_of xs) ≡ vertices_of xs
 numbers_told table [] all = refl
-numbers_told table (n ∷ xs) all = ap (λ v. v ∷ map (vertex_at table) (numbers_of xs)) all.0.vertex ∙ ap (λ vs. n.vertex.now ∷ vs) (numbers_told table xs all.1)
+numbers_told table (n ∷ xs) all = ap (λ v. v ∷ map (vertex_at table) (numbers_of xs)) all.0.vertex ∙ ap (λ vs. vertex_named n ∷ vs) (numbers_told table xs all.1)
 
 numbers_within : (table : Table) (xs : List NamedVertex) → AllByRecursion (IsNamed table) xs → AllByRecursion (IsNumber table) (numbers_of xs)
 numbers_within table [] all = tt
@@ -86,7 +83,7 @@ module _ (table : Table) (xs ys : List NamedVertex) (all : AllByRecursion (IsNam
   same_numbers numbers are = subst (IsPermutation numbers) (sym read) (subst (λ (ns : List ℕ). IsPermutation ns (numbers_of ys)) are (IsPermutation-map (λ (n : NamedVertex). n.number) xs ys moved))
 
   pub numbers_in_order : IsSorted vertex_cmp (map (vertex_at table) sorted)
-  numbers_in_order = subst (IsSorted vertex_cmp) (sym (ap (map (vertex_at table)) read ∙ numbers_told table ys all_moved)) (vertices_sorted table ys all_moved up)
+  numbers_in_order = subst (IsSorted vertex_cmp) (sym (ap (map (vertex_at table)) read ∙ numbers_told table ys all_moved)) (vertices_sorted ys up)
 
   pub numbers_of_table : AllByRecursion (IsNumber table) sorted
   numbers_of_table = subst (AllByRecursion (IsNumber table)) (sym read) (numbers_within table ys all_moved)
