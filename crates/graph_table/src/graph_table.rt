@@ -7,7 +7,8 @@ ghost use Rattle.walks.specs.Few.{first_two};
 ghost use Rattle.walks.specs.Live.{parents_of, children_of};
 ghost use Rattle.grove_edits.specs.Vertex.{vertex_cmp, stands_in, is_same_vertex};
 ghost use Rattle.walks.specs.Whole.{AreLive, IsVertexOf};
-ghost use Rattle.edit_table.specs.Lent.{table_edge, table_vertex};
+ghost use Rattle.edit_table.specs.TableEdge.{table_edge};
+ghost use Rattle.edit_table.specs.TableVertex.{table_vertex};
 ghost use Rattle.graph_table.specs.ParentIndices.{AreIndices};
 ghost use Rattle.graph_table.specs.Table.{live, vertex_at, edge_at, few_at, IsNumber, IsIndex};
 

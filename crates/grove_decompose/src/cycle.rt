@@ -4,11 +4,12 @@ ghost use Rattle.std.specs.Ordering.{is_gt};
 ghost use Rattle.grove_edits.specs.Vertex.{vertex_cmp, is_same_vertex};
 ghost use Rattle.walks.specs.Class.{is_cycle_root};
 ghost use Rattle.unicycle_roots.specs.Met.{is_on_cycle, leads_to};
+ghost use Rattle.edit_table.specs.Lent.{lent_vertex};
 ghost use Rattle.graph_table.specs.Table.{live, vertex_at, IsNumber};
 
 use crate::above::number_above;
+use edit_table::LentVertex;
 use graph_table::GraphTable;
-use grove_edits::compare_vertices;
 use std::cmp::Ordering;
 
 /// The number of the lesser of two vertices, and the first of two that are one.
@@ -18,9 +19,19 @@ fn lesser(table: &GraphTable, a: usize, b: usize) -> usize
     ensures number { IsNumber table.now result }
     ensures lesser { vertex_at table.now result ≡ (if is_gt (vertex_cmp (vertex_at table.now a) (vertex_at table.now b)) then vertex_at table.now b else vertex_at table.now a) }
 {
-    match compare_vertices(table.vertex(a), table.vertex(b)) {
+    match compare_lent(&table.vertex(a).lent(), &table.vertex(b).lent()) {
         Ordering::Less | Ordering::Equal => a,
         Ordering::Greater => b,
+    }
+}
+
+// The order of two vertices. Their constructors are read only where they share a name.
+fn compare_lent(a: &LentVertex, b: &LentVertex) -> Ordering
+    ensures { result ≡ vertex_cmp (lent_vertex a.now) (lent_vertex b.now) }
+{
+    match a.name.cmp(&b.name) {
+        Ordering::Equal => a.ctor.cmp(b.ctor),
+        unequal => unequal,
     }
 }
 

@@ -46,7 +46,7 @@ loop-index-preserved c =
     let noted = c.note.ensures ∙ ap (ends_noted i c.kind.result s t) c.deref_mut.ensures.value in
     record {
       count = omega (arith, c.loop-index.invariant.count, ap length c.in_ok-push.ensures.items, length_push links c.link.result);
-      kept = gathered_more table i s t c.kind.result c.position.result links c.push.new.self.items es c.note.new.around c.vertex_count.ensures.once within
+      kept = gathered_more table i s t c.kind.result c.position.result links c.push.new.self.items es c.note.new.around c.vertex_count.ensures.vertices.once within
           c.source-source.ensures.number c.source-source.ensures.source c.target.ensures.number c.target.ensures.target c.position.ensures c.kind.ensures
           c.loop-index.invariant.count c.loop-index.invariant.kept linked noted c.loop-index.around.len _ c.loop-index.around.ok.0;
     }
