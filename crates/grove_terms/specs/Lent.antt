@@ -3,7 +3,9 @@ use Rattle.std.specs.Prelude.{List, map, Option, Some, None}
 use Rattle.grove_sorts.specs.declared.position.Position.{Position}
 use Rattle.grove_edits.specs.declared.edge.Edge.{Edge}
 use Rattle.grove_edits.specs.declared.vertex.Vertex.{Vertex}
-use Rattle.edit_table.specs.Lent.{lent_vertex, table_edge, table_vertex}
+use Rattle.edit_table.specs.Lent.{lent_vertex}
+use Rattle.edit_table.specs.TableEdge.{table_edge}
+use Rattle.edit_table.specs.TableVertex.{table_vertex}
 use Rattle.grove_terms.specs.declared.node.LentEdge.{LentEdge}
 use Rattle.grove_terms.specs.declared.node.LentEdge.TheVariants as edges
 use Rattle.grove_terms.specs.declared.node.Node.{Node}

@@ -154,7 +154,7 @@ enum Place<'g> {
 }
 
 impl<'g> LentNode<'g> {
-    ghost use Rattle.edit_table.specs.Lent.{table_vertex};
+    ghost use Rattle.edit_table.specs.TableVertex.{table_vertex};
     ghost use Rattle.grove_terms.specs.declared.node.What.TheVariants as whats;
     ghost use Rattle.grove_terms.specs.Nodes.{child_node, head_node, node_at};
     ghost use Rattle.grove_terms.specs.Lent.{edge_of, node_of, what_as, what_of};
