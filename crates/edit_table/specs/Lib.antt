@@ -1,0 +1,6 @@
+pub mod Lent
+pub mod Table
+pub mod Made
+pub mod Records
+pub mod TableEdge
+pub mod TableVertex

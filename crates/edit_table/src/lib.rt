@@ -1,0 +1,23 @@
+//! A text's edits in a few bytes each: a record tells its vertices by their numbers, a vertex its constructor by its number, and each
+//! vertex and each constructor stands once. Contracts see the edits and the vertices as lists. What shows and checks whole texts stands
+//! on this crate.
+#![tactic(auto)]
+
+mod comparing;
+mod edit_table;
+mod keeping;
+mod lent_vertex;
+mod no_memory;
+mod numbering;
+mod record;
+mod table_edge;
+mod table_vertex;
+#[cfg(test)]
+mod tests;
+mod vertex_key;
+
+pub use edit_table::EditTable;
+pub use lent_vertex::{LentVertex, is_lent, is_same_lent};
+pub use no_memory::NoMemory;
+pub use table_edge::TableEdge;
+pub use table_vertex::TableVertex;

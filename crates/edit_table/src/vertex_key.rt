@@ -1,0 +1,31 @@
+use grove_names::Name;
+use std::hash::{Hash, Hasher};
+
+/// A vertex in 24 bytes: its constructor is told by its number.
+#[derive(Clone, Copy, PartialEq, Eq)]
+pub(crate) struct VertexKey {
+    pub(crate) name: Name,
+    pub(crate) ctor: u32,
+}
+
+// How many names that follow each other are hashed alike.
+const NEIGHBOURS: u64 = 16;
+
+// Vertices whose names follow each other are mostly looked up one after the other, so those of one constructor are hashed alike: a
+// table finds them in memory that was just read. Whoever chooses the vertices gets no more of one hash than these few.
+impl Hash for VertexKey {
+    ghost use Rattle.std.specs.Prelude.{◌++◌, ◌/◌};
+    ghost use Rattle.std.proofs.Common.{rules};
+    ghost use Rattle.std.specs.Hash as fed;
+    ghost use Rattle.std.specs.Cmp.Rules.{comparing, hashing};
+
+    ghost hash_input = { λ v. fed.u32 v.name.author ++ fed.u64 (v.name.counter / 16) ++ fed.u32 v.ctor };
+
+    ghost respects_eq = { Prim.search (hashing, rules) };
+
+    fn hash<H: Hasher>(&self, state: &mut H) {
+        self.name.author.hash(state);
+        (self.name.counter / NEIGHBOURS).hash(state);
+        self.ctor.hash(state);
+    }
+}
