@@ -75,7 +75,7 @@ fn append_what(what: &LentWhat, out: &mut Vec<u8>) -> Result<(), NoMemory>
     ensures in_part { OnErr result (Extends out.old.items out.new.items) }
 {
     match what {
-        LentWhat::Vertex(vertex) => write_ctor(&vertex.ctor, out)?,
+        LentWhat::Vertex(vertex) => write_ctor(vertex.ctor, out)?,
         LentWhat::Hole(_) => out.extend_from_slice(b"hole")?,
         LentWhat::Conflict(_, count) => {
             out.extend_from_slice(b"conflict:")?;
@@ -83,11 +83,11 @@ fn append_what(what: &LentWhat, out: &mut Vec<u8>) -> Result<(), NoMemory>
         }
         LentWhat::MultiRef(vertex) => {
             out.extend_from_slice(b"multi:")?;
-            write_ctor(&vertex.ctor, out)?
+            write_ctor(vertex.ctor, out)?
         }
         LentWhat::CycleRef(vertex) => {
             out.extend_from_slice(b"cycle:")?;
-            write_ctor(&vertex.ctor, out)?
+            write_ctor(vertex.ctor, out)?
         }
     }
     Ok(())

@@ -77,7 +77,7 @@ fn sort_of_node(what: &LentWhat) -> Sort
 {
     match what {
         LentWhat::Vertex(vertex) | LentWhat::MultiRef(vertex) | LentWhat::CycleRef(vertex) => {
-            sort_of(&vertex.ctor)
+            sort_of(vertex.ctor)
         }
         LentWhat::Hole(sort) | LentWhat::Conflict(sort, _) => *sort,
     }

@@ -41,23 +41,23 @@ what_as roles.CycleRef v = whats.CycleRef v
 abbrev pub position_in : Place → Option Position
 position_in (places.Head v) = None
 position_in (places.HeadAt v) = None
-position_in (places.Whole e role) = Some e.now.position
-position_in (places.OfTable e role) = Some (table_edge e).position
+position_in (places.Whole role e) = Some e.now.position
+position_in (places.OfTable role e) = Some (table_edge e).position
 position_in (places.Hole p sort) = Some p
 position_in (places.Conflict p sort count) = Some p
 
 -- the edge to a place, for a child
 abbrev pub edge_in : Place → Option Edge
-edge_in (places.Whole e role) = Some e.now
-edge_in (places.OfTable e role) = Some (table_edge e)
+edge_in (places.Whole role e) = Some e.now
+edge_in (places.OfTable role e) = Some (table_edge e)
 edge_in _ = None
 
 -- what stands at a place: the target of its edge in its role, for a child
 abbrev pub what_in : Place → What
 what_in (places.Head v) = whats.Vertex v.now
 what_in (places.HeadAt v) = whats.Vertex (table_vertex v)
-what_in (places.Whole e role) = what_as role e.now.target
-what_in (places.OfTable e role) = what_as role (table_edge e).target
+what_in (places.Whole role e) = what_as role e.now.target
+what_in (places.OfTable role e) = what_as role (table_edge e).target
 what_in (places.Hole p sort) = whats.Hole sort
 what_in (places.Conflict p sort count) = whats.Conflict sort count
 

@@ -142,13 +142,13 @@ pub struct LentNode<'g> {
 
 // Where a node stands, and what it is. A child stands at the position of its edge, and its vertex is the target of its edge, so it tells
 // the edge alone. The two forms of an edge stand here, and no `LentEdge`, whose tag would make each node a word wider; so do the two forms
-// of a head.
+// of a head. A role comes first, where it has room beside the tag.
 #[derive(Clone, Copy, Debug)]
 enum Place<'g> {
     Head(&'g Vertex),
     HeadAt(TableVertex<'g>),
-    Whole(&'g Edge, Role),
-    OfTable(TableEdge<'g>, Role),
+    Whole(Role, &'g Edge),
+    OfTable(Role, TableEdge<'g>),
     Hole(Position, Sort),
     Conflict(Position, Sort, u64),
 }
@@ -187,8 +187,8 @@ impl<'g> LentNode<'g> {
         ensures { let whole = edge_of edge.entry in node_of result ≡ child_node depth whole.position whole (what_as role whole.target) }
     {
         let place = match edge {
-            LentEdge::Whole(edge) => Place::Whole(edge, role),
-            LentEdge::OfTable(edge) => Place::OfTable(edge, role),
+            LentEdge::Whole(edge) => Place::Whole(role, edge),
+            LentEdge::OfTable(edge) => Place::OfTable(role, edge),
         };
         LentNode { depth, place }
     }
@@ -230,8 +230,8 @@ impl<'g> LentNode<'g> {
     {
         match self.place {
             Place::Head(_) | Place::HeadAt(_) => None,
-            Place::Whole(edge, _) => Some(edge.position),
-            Place::OfTable(edge, _) => Some(edge.position()),
+            Place::Whole(_, edge) => Some(edge.position),
+            Place::OfTable(_, edge) => Some(edge.position()),
             Place::Hole(position, _) | Place::Conflict(position, _, _) => Some(position),
         }
     }
@@ -242,8 +242,8 @@ impl<'g> LentNode<'g> {
         ensures { option_map edge_of result ≡ (node_of self.now).edge }
     {
         match self.place {
-            Place::Whole(edge, _) => Some(LentEdge::Whole(edge)),
-            Place::OfTable(edge, _) => Some(LentEdge::OfTable(edge)),
+            Place::Whole(_, edge) => Some(LentEdge::Whole(edge)),
+            Place::OfTable(_, edge) => Some(LentEdge::OfTable(edge)),
             Place::Head(_) | Place::HeadAt(_) | Place::Hole(_, _) | Place::Conflict(_, _, _) => {
                 None
             }
@@ -257,8 +257,8 @@ impl<'g> LentNode<'g> {
         match self.place {
             Place::Head(vertex) => LentWhat::Vertex(LentVertex::of(vertex)),
             Place::HeadAt(vertex) => LentWhat::Vertex(vertex.lent()),
-            Place::Whole(edge, role) => LentWhat::in_role(role, LentVertex::of(&edge.target)),
-            Place::OfTable(edge, role) => LentWhat::in_role(role, edge.target()),
+            Place::Whole(role, edge) => LentWhat::in_role(role, LentVertex::of(&edge.target)),
+            Place::OfTable(role, edge) => LentWhat::in_role(role, edge.target()),
             Place::Hole(_, sort) => LentWhat::Hole(sort),
             Place::Conflict(_, sort, count) => LentWhat::Conflict(sort, count),
         }

@@ -255,7 +255,7 @@ fn begin<'t>(
     match node.what() {
         LentWhat::Vertex(vertex) => {
             list(&mut walk.added, unsettled())?;
-            open(alloc, types, ctxs, walk, place, &vertex.ctor, demand)
+            open(alloc, types, ctxs, walk, place, vertex.ctor, demand)
         }
         LentWhat::Hole(sort) => Ok(Some(list_plain(types, &mut walk.added, sort, mode)?)),
         LentWhat::Conflict(sort, count) => {
@@ -270,7 +270,7 @@ fn begin<'t>(
             Ok(None)
         }
         LentWhat::MultiRef(vertex) | LentWhat::CycleRef(vertex) => {
-            let sort = sort_of(&vertex.ctor);
+            let sort = sort_of(vertex.ctor);
             Ok(Some(list_plain(types, &mut walk.added, sort, mode)?))
         }
     }

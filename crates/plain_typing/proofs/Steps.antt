@@ -1,7 +1,6 @@
 -- What the walk stands for, step by step.
 use Rattle.std.proofs.Common.{◌≡◌, ◌↔◌, ℕ, zero, suc, ◌<◌, ◌≤◌, ◌⊎◌, inl, inr, Bool, true, false, List, [], ◌∷◌, ◌++◌, length, drop, Option, Some, None, refl, sym, ap, subst, ◌∙◌, arith, length-append}
 use Rattle.std.specs.Prelude.{◌||◌, ◌-◌, slice_get, Result, Ok, Err, IfOk, OnOk}
-use Rattle.std.specs.Borrow.{Bor}
 use Rattle.grove_sorts.specs.declared.position.Position.{Position}
 use Rattle.grove_sorts.specs.declared.sort.Sort.{Sort}
 use Rattle.grove_sorts.specs.Ctor.{positions, sort_of_ctor}
@@ -10,6 +9,8 @@ use Rattle.type_core.specs.TypeTable.{KeepsTypes}
 use Rattle.ctx_table.specs.Context.{Context}
 use Rattle.ctx_table.specs.CtxTable.{KeepsContexts}
 use Rattle.grove_edits.specs.declared.vertex.Vertex.{Vertex}
+use Rattle.edit_table.specs.declared.lent_vertex.LentVertex.{LentVertex}
+use Rattle.edit_table.specs.Lent.{lent_vertex}
 use Rattle.grove_terms.specs.declared.node.Node.{Node}
 use Rattle.grove_terms.specs.declared.node.What.{What}
 use Rattle.grove_terms.specs.declared.node.What.TheVariants as whats
@@ -233,11 +234,11 @@ stands_plain types ctxs g walk sort n d gives s stands =
     }
 
 -- what a lent hole or reference stands for is one
-pub leaf_of : (w : LentWhat) (n : What) → what_of w ≡ n → ((sort : Sort) × (w ≡ lent.Hole sort)) ⊎ (((v : Bor Vertex) × (w ≡ lent.MultiRef v)) ⊎ ((v : Bor Vertex) × (w ≡ lent.CycleRef v)))
+pub leaf_of : (w : LentWhat) (n : What) → what_of w ≡ n → ((sort : Sort) × (w ≡ lent.Hole sort)) ⊎ (((v : LentVertex) × (w ≡ lent.MultiRef v)) ⊎ ((v : LentVertex) × (w ≡ lent.CycleRef v)))
     → ((sort : Sort) × (n ≡ whats.Hole sort)) ⊎ (((v : Vertex) × (n ≡ whats.MultiRef v)) ⊎ ((v : Vertex) × (n ≡ whats.CycleRef v)))
 leaf_of w n lends (inl (sort, is)) = inl (sort, sym lends ∙ ap what_of is)
-leaf_of w n lends (inr (inl (v, is))) = inr (inl (v.now, sym lends ∙ ap what_of is))
-leaf_of w n lends (inr (inr (v, is))) = inr (inr (v.now, sym lends ∙ ap what_of is))
+leaf_of w n lends (inr (inl (v, is))) = inr (inl (lent_vertex v, sym lends ∙ ap what_of is))
+leaf_of w n lends (inr (inr (v, is))) = inr (inr (lent_vertex v, sym lends ∙ ap what_of is))
 
 -- a hole or a reference is a node without children
 pub stands_leaf : (types : List Typ) (ctxs : List Context) (g : Given) (walk : Walk) (n : Node) (w : What) (d : Demanded) → given_at types g ≡ machine.nothing

@@ -134,7 +134,7 @@ fn begin<'t>(
 {
     match node.what() {
         LentWhat::Vertex(vertex) => {
-            let begun = fresh(types, &vertex.ctor, demand);
+            let begun = fresh(types, vertex.ctor, demand);
             go_on(alloc, types, ctxs, walk, &begun)
         }
         LentWhat::Conflict(_, count) => {
