@@ -1,4 +1,4 @@
-ghost use Rattle.std.specs.Prelude.{◌≡◌, ◌<◌, ◌+◌, ◌^◌, ◌++◌, ◌∷◌, [], length, map, replicate, IfOk, OnOk};
+ghost use Rattle.std.specs.Prelude.{◌≡◌, ◌<◌, ◌+◌, ◌^◌, ◌++◌, ◌∷◌, [], length, map, replicate, IfOk};
 ghost use Rattle.graph_table.specs.Around.{no_ends, neighbours, ends_noted, with_last_at, with_parent_at, link_of};
 ghost use Rattle.graph_table.specs.Chain.{AreAround};
 
@@ -66,20 +66,9 @@ fn link(around: &[Around], position: Position, source: usize) -> Link
     }
 }
 
-// Indices and those that are one more are kept in 32 bits.
-fn want_indices(table: &EditTable) -> Result<(), NoMemory>
-    ensures { OnOk result (length table.now.edits + 1 < 2 ^ 32) }
-{
-    if table.len() >= u32::MAX as usize {
-        return Err(NoMemory);
-    }
-    Ok(())
-}
-
 pub(crate) fn gather(alloc: Global, table: &EditTable) -> Result<Gathered, NoMemory>
     ensures { IfOk result (λ gathered. AreAround gathered.links.items gathered.around.items (map (neighbours table.now.edits) table.now.vertices)) }
 {
-    want_indices(table)?;
     let mut around = nothing_around(alloc, table.vertex_count())?;
     let mut links = Vec::with_capacity(alloc, table.len())?;
     for index in 0..table.len() {

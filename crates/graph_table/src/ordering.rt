@@ -7,7 +7,7 @@ ghost use Rattle.graph_table.specs.Named.{numbers_of, IsNamed};
 
 use crate::named_vertex::NamedVertex;
 use crate::no_memory::NoMemory;
-use edit_table::EditTable;
+use edit_table::{EditTable, compare_lent};
 use std::alloc::Global;
 
 // Some numbers of vertices, in vertex order.
@@ -22,7 +22,7 @@ pub(crate) fn in_vertex_order(
     ensures numbers { IfOk result (λ list. AllByRecursion (IsNumber table.now) list.items) }
 {
     let mut list = named_vertices(alloc, table, numbers)?;
-    list.sort_unstable();
+    list.sort_unstable_by(|a, b| compare_lent(&a.vertex, &b.vertex));
     numbers_of(alloc, &list)
 }
 
@@ -37,10 +37,8 @@ fn named_vertices<'t>(
 {
     let mut list = Vec::with_capacity(alloc, numbers.len())?;
     for number in numbers {
-        let vertex = table.vertex(*number as usize).lent();
         list.push(NamedVertex {
-            name: vertex.name,
-            ctor: vertex.ctor,
+            vertex: table.lent(*number as usize),
             number: *number,
         })?;
     }

@@ -10,7 +10,7 @@ ghost use Rattle.grove_decompose.specs.Tasks.{what_by, child_rest, task_at, IsFo
 
 use crate::live_graph::LiveGraph;
 use crate::no_memory::NoMemory;
-use crate::place::push_places;
+use crate::place::push_lent_places;
 use crate::task::Task;
 use edit_table::{LentVertex, is_same_lent};
 use grove_terms::{LentEdge, LentNode, Role, Tree};
@@ -71,7 +71,7 @@ pub(crate) fn list_child<'g, G: LiveGraph<'g>>(
     tree.push(LentNode::child(depth, edge, role))?;
     match role {
         Role::Vertex => {
-            push_places(&target, edge.target().ctor, depth + 1, tasks)?;
+            push_lent_places(&target, edge.target().ctor, depth + 1, tasks)?;
             Ok(Some(target))
         }
         Role::MultiRef | Role::CycleRef => Ok(None),

@@ -4,11 +4,10 @@ ghost use Rattle.std.specs.Ordering.{is_gt};
 ghost use Rattle.grove_edits.specs.Vertex.{vertex_cmp, is_same_vertex};
 ghost use Rattle.walks.specs.Class.{is_cycle_root};
 ghost use Rattle.unicycle_roots.specs.Met.{is_on_cycle, leads_to};
-ghost use Rattle.edit_table.specs.Lent.{lent_vertex};
 ghost use Rattle.graph_table.specs.Table.{live, vertex_at, IsNumber};
 
 use crate::above::number_above;
-use edit_table::LentVertex;
+use edit_table::compare_lent;
 use graph_table::GraphTable;
 use std::cmp::Ordering;
 
@@ -22,16 +21,6 @@ fn lesser(table: &GraphTable, a: usize, b: usize) -> usize
     match compare_lent(&table.vertex(a).lent(), &table.vertex(b).lent()) {
         Ordering::Less | Ordering::Equal => a,
         Ordering::Greater => b,
-    }
-}
-
-// The order of two vertices. Their constructors are read only where they share a name.
-fn compare_lent(a: &LentVertex, b: &LentVertex) -> Ordering
-    ensures { result ≡ vertex_cmp (lent_vertex a.now) (lent_vertex b.now) }
-{
-    match a.name.cmp(&b.name) {
-        Ordering::Equal => a.ctor.cmp(b.ctor),
-        unequal => unequal,
     }
 }
 

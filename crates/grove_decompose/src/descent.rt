@@ -15,7 +15,7 @@ use crate::child::list_child;
 use crate::live_graph::LiveGraph;
 use crate::live_indexes::{LiveIndexes, NoNotes};
 use crate::no_memory::NoMemory;
-use crate::place::{list_place, push_places};
+use crate::place::{list_place, push_lent_places};
 use crate::task::Task;
 use child_index::ChildIndex;
 use edit_table::LentVertex;
@@ -86,7 +86,7 @@ pub(crate) fn tree_of<'g, G: LiveGraph<'g>>(
     tree.push(head)?;
     let mut links = Vec::new(alloc);
     let mut tasks = Vec::new(alloc);
-    push_places(spot, root.ctor, 1, &mut tasks)?;
+    push_lent_places(spot, root.ctor, 1, &mut tasks)?;
     while let Some(task) = tasks.pop() {
         let met = take(
             &task, &root, graph, &mut links, &mut tree, &mut tasks, counter,
