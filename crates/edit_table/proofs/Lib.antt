@@ -1,0 +1,10 @@
+pub mod Lists
+pub mod KeyEq
+pub mod Ctors
+pub mod Keys
+pub mod Ends
+pub mod Made
+pub mod Records
+pub mod Orders
+pub mod Reading
+pub mod KeptRecords

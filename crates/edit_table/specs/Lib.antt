@@ -1,6 +1,7 @@
 pub mod Lent
 pub mod Table
 pub mod Made
+pub mod Keys
 pub mod Records
 pub mod TableEdge
 pub mod TableVertex

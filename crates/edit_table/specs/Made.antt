@@ -31,7 +31,7 @@ vertex_range v is =
     let two = both_true (nat_lt v.name.counter (2 ^ 64)) _ one.1 in
     (ltb-true v.name.author (2 ^ 32) one.0, ltb-true v.name.counter (2 ^ 64) two.0, ltb-true (literal v.ctor) (2 ^ 64) two.1)
 
-edge_range : (e : Edge) → is_good e ≡ true → EdgeInRange e
+pub edge_range : (e : Edge) → is_good e ≡ true → EdgeInRange e
 edge_range e is =
     let one = both_true (is_none (edge_fault e)) _ is in
     let two = both_true (nat_lt e.name.author (2 ^ 32)) _ one.1 in
@@ -58,7 +58,7 @@ some_edit = record {
   in_range = edge_range (edge_from some_name (record { author = 0; counter = 0 }) Root Main some_target) refl;
 }
 
-pub made_by : EditKind → (name source : Name) (branch : Branch) (position : Position) (target : Vertex) (good : Bool)
+unfoldable pub made_by : EditKind → (name source : Name) (branch : Branch) (position : Position) (target : Vertex) (good : Bool)
     → is_good (edge_from name source branch position target) ≡ good → Edit
 made_by kind name source branch position target true is = record {
   name = name;
@@ -73,5 +73,5 @@ made_by kind name source branch position target true is = record {
 made_by kind name source branch position target false is = some_edit
 
 -- the edit of this kind and a good edge
-pub made : EditKind → Edge → Edit
+unfoldable pub made : EditKind → Edge → Edit
 made kind e = made_by kind e.name e.source.name (branch_of e.source.ctor) e.position e.target _ refl

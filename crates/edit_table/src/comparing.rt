@@ -1,6 +1,9 @@
 ghost use Rattle.std.specs.Prelude.{◌≡◌, slice_index_or};
-ghost use Rattle.grove_edits.specs.Vertex.{root, vertex_cmp};
-ghost use Rattle.edit_table.specs.Records.{vertices_of, record_cmp};
+ghost use Rattle.std.specs.declared.cmp.Ordering.TheVariants.{Equal};
+ghost use Rattle.grove_names.specs.Name.{name_cmp};
+ghost use Rattle.grove_edits.specs.Vertex.{vertex_cmp};
+ghost use Rattle.edit_table.specs.Keys.{vertices_of};
+ghost use Rattle.edit_table.specs.Records.{numbered, record_cmp};
 
 use crate::record::Record;
 use crate::vertex_key::VertexKey;
@@ -25,16 +28,21 @@ pub(crate) fn compare_records(
     }
 }
 
-// The order of records that share a name.
-fn compare_namesakes(ctors: &[Ctor], keys: &[VertexKey], a: &Record, b: &Record) -> Ordering {
-    compare_numbered(ctors, keys, a.source, b.source)
-        .then(a.position.cmp(&b.position))
-        .then(compare_numbered(ctors, keys, a.target, b.target))
-        .then(a.kind.cmp(&b.kind))
+// The order of two records that share a name.
+fn compare_namesakes(ctors: &[Ctor], keys: &[VertexKey], a: &Record, b: &Record) -> Ordering
+    requires { name_cmp a.now.name b.now.name ≡ Equal }
+    ensures { result ≡ record_cmp (vertices_of ctors.now keys.now) a.now b.now }
+{
+    let sources = compare_numbered(ctors, keys, a.source, b.source);
+    let positions = a.position.cmp(&b.position);
+    let targets = compare_numbered(ctors, keys, a.target, b.target);
+    let kinds = a.kind.cmp(&b.kind);
+    sources.then(positions).then(targets).then(kinds)
 }
 
+// The order of the vertices with two numbers, of which one that no vertex has counts as the root's.
 fn compare_numbered(ctors: &[Ctor], keys: &[VertexKey], a: u32, b: u32) -> Ordering
-    ensures { result ≡ vertex_cmp (slice_index_or (vertices_of ctors.now keys.now) a root) (slice_index_or (vertices_of ctors.now keys.now) b root) }
+    ensures { result ≡ vertex_cmp (numbered (vertices_of ctors.now keys.now) a) (numbered (vertices_of ctors.now keys.now) b) }
 {
     if a == b {
         return Ordering::Equal;
@@ -42,9 +50,8 @@ fn compare_numbered(ctors: &[Ctor], keys: &[VertexKey], a: u32, b: u32) -> Order
     compare_vertices(&vertex_at(ctors, keys, a), &vertex_at(ctors, keys, b))
 }
 
-// The vertex with a number, or the root where there is none.
 fn vertex_at(ctors: &[Ctor], keys: &[VertexKey], number: u32) -> Vertex
-    ensures { result ≡ slice_index_or (vertices_of ctors.now keys.now) number root }
+    ensures { result ≡ numbered (vertices_of ctors.now keys.now) number }
 {
     match keys.get(number as usize) {
         Some(key) => Vertex {

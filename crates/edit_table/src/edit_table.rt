@@ -1,4 +1,4 @@
-ghost use Rattle.std.specs.Prelude.{◌≡◌, [], ◌∷◌, ◌++◌, length, IfOk, OnOk, OnErr};
+ghost use Rattle.std.specs.Prelude.{◌≡◌, ◌<◌, ◌^◌, [], ◌∷◌, ◌++◌, length, IfOk, OnOk, OnErr};
 ghost use Rattle.grove_edits.specs.Graph.{graph, IsCanonical};
 ghost use Rattle.grove_edits.specs.Vertex.{root};
 ghost use Rattle.edit_table.specs.Table.{edge_at, kind_at, vertex_at, AreEnds, IsIndex, IsNumber};
@@ -82,6 +82,7 @@ impl EditTable {
         ensures unchanged { self.new ≡ self.old }
     {
         self.records.reserve_exact(further)?;
+        self.keys.reserve(further)?;
         Ok(())
     }
 
@@ -122,7 +123,8 @@ impl EditTable {
 
     /// How many edits there are.
     pub fn len(&self) -> usize
-        ensures { result ≡ length self.now.edits }
+        ensures count { result ≡ length self.now.edits }
+        ensures few { result < 2 ^ 32 }
     {
         self.records.len()
     }
@@ -140,6 +142,8 @@ impl EditTable {
         requires { IsIndex self.now index }
         ensures { table_edge result ≡ edge_at self.now index }
     {
+        // The invariant bounds the index.
+        let _ = &self.records;
         TableEdge::at(self, index as u32)
     }
 
@@ -148,6 +152,8 @@ impl EditTable {
         requires { IsNumber self.now number }
         ensures { table_vertex result ≡ vertex_at self.now number }
     {
+        // The invariant bounds the number.
+        let _ = &self.keys;
         TableVertex::at(self, number as u32)
     }
 

@@ -1,8 +1,15 @@
+ghost use Rattle.std.specs.Prelude.{◌≡◌, ◌<◌, ◌^◌, [], ◌∷◌, ◌++◌, Some, IsTrue, length, slice_get, IfOk, IfSome, OnOk, OnErr};
+ghost use Rattle.indexmap.specs.IndexSet.{insert_key};
+ghost use Rattle.grove_sorts.specs.Branch.{branch_ctor};
+ghost use Rattle.grove_edits.specs.Edit.{edit_edge};
+ghost use Rattle.edit_table.specs.declared.vertex_key.VertexKey.{VertexKey};
+ghost use Rattle.edit_table.specs.Keys.{branch_key, branch_number, vertices_of, with_vertex, AreCtors, AreKeys, BeginsWith};
+ghost use Rattle.edit_table.specs.Records.{edits_of, AreRecords};
+
 use crate::no_memory::NoMemory;
 use crate::record::Record;
 use crate::vertex_key::VertexKey;
 use grove_edits::{Edit, Vertex};
-use grove_names::Name;
 use grove_sorts::{Branch, Ctor};
 use indexmap::IndexSet;
 use seeded_hash::HashSeed;
@@ -27,14 +34,22 @@ const BRANCHES: [Branch; 15] = [
     Branch::TSum,
 ];
 
+fn number_of_branch(branch: Branch) -> u32
+    ensures { result ≡ branch_number branch }
+{
+    branch as u32
+}
+
 /// The constructors that are branches, each at the index that is its number.
 pub(crate) fn branch_ctors(
     alloc: Global,
     seed: HashSeed,
-) -> Result<IndexSet<Ctor, HashSeed>, NoMemory> {
+) -> Result<IndexSet<Ctor, HashSeed>, NoMemory>
+    ensures { IfOk result (λ ctors. AreCtors ctors.keys) }
+{
     let mut ctors = IndexSet::with_hasher(alloc, seed);
-    for branch in BRANCHES {
-        ctors.insert(branch.ctor())?;
+    for number in 0..BRANCHES.len() {
+        ctors.insert(BRANCHES[number].ctor())?;
     }
     Ok(ctors)
 }
@@ -45,8 +60,17 @@ pub(crate) fn push_record(
     keys: &mut IndexSet<VertexKey, HashSeed>,
     records: &mut Vec<Record>,
     edit: &Edit,
-) -> Result<(), NoMemory> {
-    let source = source_number(keys, records, edit)?;
+) -> Result<(), NoMemory>
+    requires { AreRecords ctors.old.keys keys.old.keys records.old.items }
+    ensures records { OnOk result (AreRecords ctors.new.keys keys.new.keys records.new.items) }
+    ensures edits { OnOk result (edits_of (vertices_of ctors.new.keys keys.new.keys) records.new.items
+        ≡ edits_of (vertices_of ctors.old.keys keys.old.keys) records.old.items ++ edit.now ∷ []) }
+    ensures unchanged { OnErr result (records.new.items ≡ records.old.items) }
+    ensures ctors { AreCtors ctors.new.keys }
+    ensures ctors_stay { BeginsWith ctors.new.keys ctors.old.keys }
+    ensures keys_stay { BeginsWith keys.new.keys keys.old.keys }
+{
+    let source = source_number(keys, records, &source_key(edit))?;
     let target = target_number(ctors, keys, edit.target())?;
     if records.len() >= u32::MAX as usize {
         return Err(NoMemory);
@@ -61,8 +85,35 @@ pub(crate) fn push_record(
     Ok(())
 }
 
+// The branch that the source of an edit is.
+#[inline(always)]
+fn source_branch(edit: &Edit) -> Branch
+    ensures { branch_ctor result ≡ (edit_edge edit.now).source.ctor }
+{
+    match Branch::of(&edit.source().ctor) {
+        Some(branch) => branch,
+        None => Branch::Root,
+    }
+}
+
+// The key of the source of an edit.
+#[inline(always)]
+fn source_key(edit: &Edit) -> VertexKey
+    ensures { (branch : Branch) × (result ≡ branch_key (edit_edge edit.now).source.name branch) × (branch_ctor branch ≡ (edit_edge edit.now).source.ctor) }
+{
+    VertexKey {
+        name: edit.source().name,
+        ctor: number_of_branch(source_branch(edit)),
+    }
+}
+
 // The number of a key, which gets the next one where it has none.
-fn key_number(keys: &mut IndexSet<VertexKey, HashSeed>, key: VertexKey) -> Result<u32, NoMemory> {
+fn key_number(keys: &mut IndexSet<VertexKey, HashSeed>, key: VertexKey) -> Result<u32, NoMemory>
+    ensures number { IfOk result (λ number. slice_get keys.new.keys number ≡ Some key) }
+    ensures keys { OnOk result (keys.new.keys ≡ insert_key ⟦<VertexKey as PartialEq>⟧.eq keys.old.keys key) }
+    ensures few { OnOk result (length keys.new.keys < 2 ^ 32) }
+    ensures unchanged { OnErr result (keys.new.keys ≡ keys.old.keys) }
+{
     if keys.len() >= u32::MAX as usize {
         return Err(NoMemory);
     }
@@ -70,24 +121,22 @@ fn key_number(keys: &mut IndexSet<VertexKey, HashSeed>, key: VertexKey) -> Resul
     Ok(index as u32)
 }
 
-// The number of the source of an edit. Mostly it is an end of the edit before, and is not looked up.
+// The number of a key. Mostly it is that of an end of the last record, and is not looked up.
 fn source_number(
     keys: &mut IndexSet<VertexKey, HashSeed>,
     records: &[Record],
-    edit: &Edit,
-) -> Result<u32, NoMemory> {
-    let source = edit.source();
-    let Some(branch) = Branch::of(&source.ctor) else {
-        return Err(NoMemory);
-    };
-    let key = VertexKey {
-        name: source.name,
-        ctor: branch as u32,
-    };
-    if let Some(number) = number_again(keys, records, &key) {
+    key: &VertexKey,
+) -> Result<u32, NoMemory>
+    requires { length keys.old.keys < 2 ^ 32 }
+    ensures number { IfOk result (λ number. slice_get keys.new.keys number ≡ Some key.now) }
+    ensures keys { OnOk result (keys.new.keys ≡ insert_key ⟦<VertexKey as PartialEq>⟧.eq keys.old.keys key.now) }
+    ensures few { OnOk result (length keys.new.keys < 2 ^ 32) }
+    ensures unchanged { OnErr result (keys.new.keys ≡ keys.old.keys) }
+{
+    if let Some(number) = number_again(keys, records, key) {
         return Ok(number);
     }
-    key_number(keys, key)
+    key_number(keys, *key)
 }
 
 // The number of a key that is an end of the last record.
@@ -95,7 +144,9 @@ fn number_again(
     keys: &IndexSet<VertexKey, HashSeed>,
     records: &[Record],
     key: &VertexKey,
-) -> Option<u32> {
+) -> Option<u32>
+    ensures { IfSome result (λ number. slice_get keys.now.keys number ≡ Some key.now) }
+{
     let last = records.last().copied()?;
     if is_at(keys, last.target, key) {
         return Some(last.target);
@@ -106,17 +157,25 @@ fn number_again(
     None
 }
 
-fn is_at(keys: &IndexSet<VertexKey, HashSeed>, number: u32, key: &VertexKey) -> bool {
+// Whether a number is that of a key.
+fn is_at(keys: &IndexSet<VertexKey, HashSeed>, number: u32, key: &VertexKey) -> bool
+    ensures { IsTrue result → slice_get keys.now.keys number ≡ Some key.now }
+{
     match keys.get_index(number as usize) {
         Some(at) => at == key,
         None => false,
     }
 }
 
-// The number of a constructor, which gets the next one where it has none. Branches have theirs.
-fn ctor_number(ctors: &mut IndexSet<Ctor, HashSeed>, ctor: &Ctor) -> Result<u32, NoMemory> {
+// The number of a constructor, which gets the next one where it has none. A branch has its own.
+fn ctor_number(ctors: &mut IndexSet<Ctor, HashSeed>, ctor: &Ctor) -> Result<u32, NoMemory>
+    requires { AreCtors ctors.old.keys }
+    ensures number { IfOk result (λ number. slice_get ctors.new.keys number ≡ Some ctor.now) }
+    ensures ctors { AreCtors ctors.new.keys }
+    ensures stay { BeginsWith ctors.new.keys ctors.old.keys }
+{
     if let Some(branch) = Branch::of(ctor) {
-        return Ok(branch as u32);
+        return Ok(number_of_branch(branch));
     }
     let (index, _) = ctors.insert_full(*ctor)?;
     let Ok(number) = u32::try_from(index) else {
@@ -130,7 +189,16 @@ fn target_number(
     ctors: &mut IndexSet<Ctor, HashSeed>,
     keys: &mut IndexSet<VertexKey, HashSeed>,
     vertex: &Vertex,
-) -> Result<u32, NoMemory> {
+) -> Result<u32, NoMemory>
+    requires { AreKeys ctors.old.keys keys.old.keys }
+    ensures number { IfOk result (λ number. slice_get (vertices_of ctors.new.keys keys.new.keys) number ≡ Some vertex.now) }
+    ensures vertices { OnOk result (vertices_of ctors.new.keys keys.new.keys ≡ with_vertex vertex.now (vertices_of ctors.old.keys keys.old.keys)) }
+    ensures keys { OnOk result (AreKeys ctors.new.keys keys.new.keys) }
+    ensures unchanged { OnErr result (keys.new.keys ≡ keys.old.keys) }
+    ensures keys_stay { BeginsWith keys.new.keys keys.old.keys }
+    ensures ctors { AreCtors ctors.new.keys }
+    ensures ctors_stay { BeginsWith ctors.new.keys ctors.old.keys }
+{
     let ctor = ctor_number(ctors, &vertex.ctor)?;
     key_number(
         keys,

@@ -1,0 +1,44 @@
+-- The comparison of keys is equality, and so is that of constructors.
+use Rattle.std.proofs.Common.{◌≡◌, Bool, true, rules, is_eq, sym, ap, ◌∙◌}
+use Rattle.std.specs.Prelude.{◌&&◌}
+use Rattle.std.proofs.lemmas.Cmp.{tied_itself}
+use Rattle.grove_names.specs.contracts.name.NamePartialEq.TheImpl as name_eq_impl
+use Rattle.grove_edits.specs.declared.vertex.Vertex.{Vertex}
+use Rattle.grove_edits.specs.Vertex.{is_same_vertex}
+use Rattle.grove_edits.proofs.Vertices.{eq_is_same_vertex}
+use Rattle.grove_sorts.specs.declared.ctor.Ctor.{Ctor}
+use Rattle.grove_sorts.specs.Ctor.{ctor_cmp}
+use Rattle.grove_sorts.specs.contracts.ctor.CtorPartialEq.TheImpl as ctor_eq_impl
+use Rattle.grove_sorts.specs.contracts.ctor.CtorOrd.TheImpl.Laws as ctor_laws
+use Rattle.grove_sorts.proofs.Orders.{ctor_cmp_exact, ctor_cmp_total, cmp_is_ctor_cmp, equal_from_test}
+use Rattle.edit_table.specs.declared.vertex_key.VertexKey.{VertexKey}
+use Rattle.edit_table.specs.contracts.vertex_key.VertexKeyPartialEq.TheImpl as key_eq_impl
+
+abbrev pub ctor_eq : Ctor → Ctor → Bool
+ctor_eq = ctor_eq_impl.eq-value.it
+
+pub ctor_tie : (a b : Ctor) → ctor_eq a b ≡ is_eq (ctor_cmp a b)
+ctor_tie a b = ctor_laws.matches_eq-law a b ∙ ap is_eq (cmp_is_ctor_cmp a b)
+
+pub ctor_itself : (a : Ctor) → ctor_eq a a ≡ true
+ctor_itself a = ctor_tie a a ∙ ap is_eq (tied_itself ctor_cmp_total a)
+
+pub ctor_exact : (a b : Ctor) → ctor_eq a b ≡ true → a ≡ b
+ctor_exact a b same = ctor_cmp_exact a b (equal_from_test (ctor_cmp a b) (sym (ctor_tie a b) ∙ same))
+
+abbrev pub key_eq : VertexKey → VertexKey → Bool
+key_eq = key_eq_impl.eq-value.it
+
+pub key_itself : (a : VertexKey) → key_eq a a ≡ true
+key_itself a = search rules
+
+pub key_exact : (a b : VertexKey) → key_eq a b ≡ true → a ≡ b
+key_exact a b same =
+    let author : a.name.author ≡ b.name.author = search rules in
+    let counter : a.name.counter ≡ b.name.counter = search rules in
+    let ctor : a.ctor ≡ b.ctor = search rules in
+    λ j. record { name = record { author = author j; counter = counter j }; ctor = ctor j }
+
+-- vertices of one name are told by their constructors
+pub same_parts : (v w : Vertex) (b : Bool) → true ≡ name_eq_impl.eq-value.it v.name w.name → b ≡ ctor_eq v.ctor w.ctor → b ≡ is_same_vertex v w
+same_parts v w b named same = same ∙ ap (λ n. n && ctor_eq v.ctor w.ctor) named ∙ eq_is_same_vertex v w

@@ -1,0 +1,82 @@
+-- Inner model, which no public contract cites: vertices by keys, in which a constructor is told by its number.
+use Rattle.std.specs.Prelude.{◌≡◌, ℕ, ◌<◌, ◌^◌, ◌++◌, List, [], ◌∷◌, Some, map, length, slice_get, slice_index_or, if◌then◌else◌}
+use Rattle.std.specs.List.{AllByRecursion, IsDistinct}
+use Rattle.grove_names.specs.declared.name.Name.{Name}
+use Rattle.grove_sorts.specs.declared.branch.Branch.{Branch}
+use Rattle.grove_sorts.specs.declared.branch.Branch.TheVariants as branch
+use Rattle.grove_sorts.specs.declared.ctor.Ctor.{Ctor}
+use Rattle.grove_sorts.specs.declared.ctor.Ctor.TheVariants.{Root}
+use Rattle.grove_sorts.specs.Branch.{branch_ctor}
+use Rattle.grove_edits.specs.declared.vertex.Vertex.{Vertex}
+use Rattle.grove_edits.specs.Vertex.{is_same_vertex, stands_in}
+use Rattle.edit_table.specs.declared.vertex_key.VertexKey.{VertexKey}
+
+-- the branches, each at the index that is its number
+abbrev pub branches : List Branch
+branches =
+    branch.Root ∷ branch.Lam ∷ branch.Ap ∷ branch.Plus ∷ branch.Choose ∷ branch.Pair ∷ branch.Fst ∷ branch.Snd ∷ branch.TArrow ∷ branch.TProd ∷ branch.Let
+    ∷ branch.Inl ∷ branch.Inr ∷ branch.Case ∷ branch.TSum ∷ []
+
+abbrev pub branch_number : Branch → ℕ
+branch_number branch.Root = 0
+branch_number branch.Lam = 1
+branch_number branch.Ap = 2
+branch_number branch.Plus = 3
+branch_number branch.Choose = 4
+branch_number branch.Pair = 5
+branch_number branch.Fst = 6
+branch_number branch.Snd = 7
+branch_number branch.TArrow = 8
+branch_number branch.TProd = 9
+branch_number branch.Let = 10
+branch_number branch.Inl = 11
+branch_number branch.Inr = 12
+branch_number branch.Case = 13
+branch_number branch.TSum = 14
+
+-- the constructors that are branches, each at the index that is its number
+abbrev pub branch_ctors : List Ctor
+branch_ctors = map branch_ctor branches
+
+-- the constructor with a number
+abbrev pub ctor_at : List Ctor → ℕ → Ctor
+ctor_at ctors n = slice_index_or ctors n Root
+
+-- the vertex that a key stands for
+abbrev pub vertex_of : List Ctor → VertexKey → Vertex
+vertex_of ctors key = record { name = key.name; ctor = ctor_at ctors key.ctor }
+
+-- the vertices that keys stand for, in order
+abbrev pub vertices_of : List Ctor → List VertexKey → List Vertex
+vertices_of ctors keys = map (vertex_of ctors) keys
+
+-- the key of a vertex whose constructor is a branch
+abbrev pub branch_key : Name → Branch → VertexKey
+branch_key name branch = record { name = name; ctor = branch_number branch }
+
+-- a list begins with what it was before
+abbrev pub BeginsWith : {X : Type 0} → List X → List X → Type 0
+BeginsWith {X} after before = (more : List X) × (after ≡ before ++ more)
+
+-- no constructor has two numbers
+abbrev pub StandOnce : List Ctor → Type 0
+StandOnce ctors = (m n : ℕ) (c : Ctor) → slice_get ctors m ≡ Some c → slice_get ctors n ≡ Some c → m ≡ n
+
+abbrev pub HasCtor : List Ctor → VertexKey → Type 0
+HasCtor ctors key = key.ctor < length ctors
+
+-- the constructors begin with the branches, and none stands twice
+pub record AreCtors (ctors : List Ctor) : Type 0 where
+  pub begin : BeginsWith ctors branch_ctors
+  pub once : StandOnce ctors
+
+-- the keys are those of vertices, each of which stands once
+pub record AreKeys (ctors : List Ctor) (keys : List VertexKey) : Type 0 where
+  pub ctors_are : AreCtors ctors
+  pub have_ctors : AllByRecursion (HasCtor ctors) keys
+  pub once : IsDistinct is_same_vertex (vertices_of ctors keys)
+  pub few : length keys < 2 ^ 32
+
+-- the list with a vertex, which goes last where it does not stand there yet
+abbrev pub with_vertex : Vertex → List Vertex → List Vertex
+with_vertex v vertices = if stands_in v vertices then vertices else vertices ++ v ∷ []

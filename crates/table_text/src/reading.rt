@@ -1,0 +1,86 @@
+ghost use Rattle.std.specs.Prelude.{◌≡◌, ◌+◌, [], length, IfOk, IfErr};
+ghost use Rattle.edit_text.specs.Text.{HasTextFault, SpellsAll};
+ghost use Rattle.table_text.specs.Spelled.{IsListOfLines};
+
+use edit_table::{EditTable, NoMemory};
+use edit_text::{TextFault, read_line};
+use grove_sorts::Version;
+use seeded_hash::HashSeed;
+use std::alloc::Global;
+use text_parts::split_at_first;
+
+/// The table of the canonical list of the edits that lines of the version spell, or the first line that spells none. The table tells its
+/// vertices apart by their hash under a seed.
+pub fn read_table(
+    alloc: Global,
+    version: Version,
+    lines: &[u8],
+    seed: HashSeed,
+) -> Result<EditTable, TextFault>
+    ensures list { IfOk result (λ table. IsListOfLines version lines.now table.edits) }
+    ensures fault { IfErr result (HasTextFault version lines.now) }
+{
+    let table = read_lines(alloc, version, lines, seed)?;
+    Ok(table.into_canonical())
+}
+
+// The edits in the order of their lines.
+fn read_lines(
+    alloc: Global,
+    version: Version,
+    lines: &[u8],
+    seed: HashSeed,
+) -> Result<EditTable, TextFault>
+    ensures spelled { IfOk result (λ table. SpellsAll version lines.now table.edits) }
+    ensures fault { IfErr result (HasTextFault version lines.now) }
+{
+    let Ok(mut table) = table_with_room(alloc, most_lines(lines), seed) else {
+        return Err(TextFault::NoMemory);
+    };
+    let mut rest = lines;
+    while let Some((line, after)) = split_at_first(rest, b'\n') {
+        match read_line(version, line) {
+            Ok(edit) => {
+                if table.push(&edit).is_err() {
+                    return Err(TextFault::NoMemory);
+                }
+            }
+            Err(fault) => {
+                return Err(TextFault::Malformed {
+                    line: next_line(&table),
+                    fault,
+                });
+            }
+        }
+        rest = after;
+    }
+    if rest.is_empty() {
+        Ok(table)
+    } else {
+        Err(TextFault::Rest {
+            line: next_line(&table),
+        })
+    }
+}
+
+// At least as many lines as a text can have that are all of edits: each ends with an LF, and none is shorter than `+1.1 0.0 root main 1.1 if`.
+fn most_lines(text: &[u8]) -> usize {
+    let ends = text.iter().filter(|byte| **byte == b'\n').count();
+    ends.min(text.len() / 24)
+}
+
+// The table of no edits, with room for so many.
+fn table_with_room(alloc: Global, count: usize, seed: HashSeed) -> Result<EditTable, NoMemory>
+    ensures { IfOk result (λ table. table.edits ≡ []) }
+{
+    let mut table = EditTable::with_seed(alloc, seed)?;
+    table.reserve(count)?;
+    Ok(table)
+}
+
+// The number, from 1, of the line behind those that were read.
+fn next_line(table: &EditTable) -> u64
+    ensures { result ≡ length table.now.edits + 1 }
+{
+    table.len() as u64 + 1
+}
