@@ -10,7 +10,7 @@ ghost use Rattle.grove_decompose.specs.Trees.{OnlyInner, vertices_of};
 
 use child_index::ChildIndex;
 use edge_lattice::State;
-use edit_table::EditTable;
+use edit_table::EditTableBuilder;
 use graph_store::GraphStore;
 use graph_table::GraphTable;
 use grove_decompose::*;
@@ -110,7 +110,7 @@ fn sample(alloc: Global) -> Result<GraphTable, Fail> {
     let seven = vertex(2, Ctor::Num(7));
     let fst = vertex(3, Ctor::Fst);
     let snd = vertex(4, Ctor::Snd);
-    let mut edits = EditTable::with_seed(alloc, HashSeed::FIXED)?;
+    let mut edits = EditTableBuilder::with_seed(alloc, HashSeed::FIXED)?;
     for inserted in [
         edge(6, sum, Position::Left, seven),
         edge(7, sum, Position::Right, seven),
@@ -119,7 +119,7 @@ fn sample(alloc: Global) -> Result<GraphTable, Fail> {
     ] {
         edits.push(&Edit::insert(inserted)?)?;
     }
-    Ok(GraphTable::of(alloc, edits.into_canonical())?)
+    Ok(GraphTable::of(alloc, edits.into_table(alloc)?)?)
 }
 
 #[test]
