@@ -1,7 +1,7 @@
 -- Constructors by number: the branches first, and no constructor twice.
-use Rattle.std.proofs.Common.{◌≡◌, ℕ, zero, suc, ◌+◌, ◌<◌, ◌≤◌, Bool, true, false, cond, List, [], ◌∷◌, ◌++◌, length, get_or, take, map, slice_get, Some, add-one, refl, sym, ap, subst, ◌∙◌, arith}
+use Rattle.std.proofs.Common.{◌≡◌, ℕ, zero, suc, ◌+◌, ◌<◌, ◌≤◌, true, false, List, [], ◌∷◌, length, get_or, take, map, slice_get, Some, add-one, refl, sym, ap, subst, ◌∙◌, arith}
 use Rattle.std.specs.Prelude.{slice_index_or}
-use Rattle.std.specs.List.{IsDistinct, list_any}
+use Rattle.std.specs.List.{IsDistinct}
 use Rattle.std.proofs.lemmas.Map.Keys.{IsDistinct-head, IsDistinct-tail}
 use Rattle.indexmap.specs.IndexSet.{insert_key}
 use Rattle.grove_sorts.specs.declared.ctor.Ctor.{Ctor}
@@ -9,8 +9,8 @@ use Rattle.grove_sorts.specs.declared.ctor.Ctor.TheVariants.{Root}
 use Rattle.grove_sorts.specs.declared.branch.Branch.{Branch}
 use Rattle.grove_sorts.specs.declared.branch.Branch.TheVariants as branch
 use Rattle.grove_sorts.specs.Branch.{branch_ctor}
-use Rattle.edit_table.specs.Keys.{branches, branch_ctors, branch_number, AreCtors, BeginsWith, StandOnce}
-use Rattle.edit_table.proofs.Lists.{all_at, begins_alike, begins_further, begins_inserted, begins_itself, still_stands_at}
+use Rattle.edit_table.specs.Keys.{branches, branch_ctors, branch_number, AreCtors, StandOnce}
+use Rattle.edit_table.proofs.Lists.{all_at, begins_alike, begins_further, begins_inserted, still_stands_at}
 use Rattle.edit_table.proofs.KeyEq.{ctor_eq, ctor_exact, ctor_itself}
 
 -- no constructor of a set has two numbers

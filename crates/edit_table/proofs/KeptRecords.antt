@@ -9,10 +9,9 @@ use Rattle.std.proofs.lemmas.List.Sorted.{All-permutation}
 use Rattle.std.proofs.lemmas.Map.Keys.{IsDistinct-head, IsDistinct-tail}
 use Rattle.grove_edits.specs.declared.vertex.Vertex.{Vertex}
 use Rattle.grove_edits.specs.declared.edge.Edge.{Edge}
-use Rattle.grove_edits.specs.declared.edit.Edit.{Edit}
 use Rattle.grove_edits.specs.contracts.edit.EditOrd.TheImpl as edit_impl
 use Rattle.grove_edits.specs.Edge.{edge_cmp}
-use Rattle.grove_edits.specs.Edit.{edit_edge, edit_kind, kind_number, edit_cmp}
+use Rattle.grove_edits.specs.Edit.{edit_edge, kind_number}
 use Rattle.grove_edits.specs.Graph.{begins_with, graph, is_same_edge, IsCanonical}
 use Rattle.grove_edits.specs.Vertex.{root, is_same_vertex}
 use Rattle.grove_edits.proofs.CanonicalLists.{AreCompacted, compacted_first, compacted_skipped, compacted_pushed, compacted_all}
@@ -20,7 +19,7 @@ use Rattle.grove_edits.proofs.Orders.{cmp_is_edit_cmp, edge_from_fields, one_edg
 use Rattle.grove_edits.proofs.Vertices.{same_vertex_itself}
 use Rattle.edit_table.specs.declared.record.Record.{Record}
 use Rattle.edit_table.specs.Records.{edge_of, edit_of, edits_of, numbered, record_cmp, AreInOrder, AreOf, HaveSameParts, IsRecord}
-use Rattle.edit_table.proofs.Lists.{all_at, stands_within, within_from}
+use Rattle.edit_table.proofs.Lists.{all_at, stands_within}
 use Rattle.edit_table.proofs.Made.{made-edge, made-kind}
 
 -- ---- one number for each vertex
@@ -60,11 +59,12 @@ module _ (vs : List Vertex) (a b : Record) (once : IsDistinct is_same_vertex vs)
 
   edge_gives : is_same_edge (edge_of vs a) (edge_of vs b) ≡ true → HaveSameParts a b
   edge_gives test =
-      let same = one_edge (edge_of vs a) (edge_of vs b) test in
-      (ap (λ (e : Edge). e.name) same,
-      one_number vs once a.source b.source a_is.source_is b_is.source_is (ap (λ (e : Edge). e.source) same),
-      ap (λ (e : Edge). e.position) same,
-      one_number vs once a.target b.target a_is.target_is b_is.target_is (ap (λ (e : Edge). e.target) same))
+      let same = one_edge (edge_of vs a) (edge_of vs b) test in (
+        ap (λ (e : Edge). e.name) same,
+        one_number vs once a.source b.source a_is.source_is b_is.source_is (ap (λ (e : Edge). e.source) same),
+        ap (λ (e : Edge). e.position) same,
+        one_number vs once a.target b.target a_is.target_is b_is.target_is (ap (λ (e : Edge). e.target) same),
+      )
 
   parts_tell : (t : Bool) → (IsTrue t ↔ HaveSameParts a b) → t ≡ is_same_edge (edge_of vs a) (edge_of vs b)
   parts_tell t told = both_ways t (is_same_edge (edge_of vs a) (edge_of vs b)) (λ is. parts_give (told.0 is)) (λ is. told.1 (edge_gives is))
@@ -73,11 +73,12 @@ edit_edge_of : (vs : List Vertex) (r : Record) → IsRecord vs r → edit_edge (
 edit_edge_of vs r is = made-edge r.kind (edge_of vs r) is.good
 
 -- the test of the first record
-pub begins_first : (r first : Record) (records : List Record) (t : Bool) → (IsTrue t ↔ HaveSameParts r first) → 1 ≤ length records → first ≡ get_or records 0 first
+pub begins_first : (r first : Record) (records : List Record) (t : Bool) → (IsTrue t ↔ HaveSameParts r first) → slice_get records 0 ≡ Some first
     → (vs : List Vertex) → AreOf vs (r ∷ records) → t ≡ begins_with (edge_of vs r) (edits_of vs records)
-begins_first r first [] t told some at vs are = absurd (omega (arith, some))
-begins_first r first (x ∷ records) t told some at vs are =
-    let here : IsTrue t ↔ HaveSameParts r x = subst (λ y. IsTrue t ↔ HaveSameParts r y) at told in
+begins_first r first [] t told at vs are = absurd cc
+begins_first r first (x ∷ records) t told at vs are =
+    let is : x ≡ first = cc in
+    let here : IsTrue t ↔ HaveSameParts r x = subst (λ y. IsTrue t ↔ HaveSameParts r y) (sym is) told in
     parts_tell vs r x are.once are.each.0 are.each.1.0 t here ∙ ap (is_same_edge (edge_of vs r)) (sym (edit_edge_of vs x are.each.1.0))
 
 -- ---- records of some vertices, in part
@@ -135,8 +136,10 @@ module _ (old now lent : List Record) (len i : ℕ) (r : Record) (within : i < l
   behind_are : (vs : List Vertex) → AreInOrder vs old → AreOf vs (r ∷ take (length lent - (i + 1)) (drop (i + 1) lent))
   behind_are vs are = record {
     once = are.0.once;
-    each = (record_is vs are,
-        all_taken (IsRecord vs) (length lent - (i + 1)) (drop (i + 1) lent) (all_dropped (IsRecord vs) (i + 1) lent (subst (AllByRecursion (IsRecord vs)) (sym lent_is) (so_far.kept vs are).1)));
+    each = (
+      record_is vs are,
+      all_taken (IsRecord vs) (length lent - (i + 1)) (drop (i + 1) lent) (all_dropped (IsRecord vs) (i + 1) lent (subst (AllByRecursion (IsRecord vs)) (sym lent_is) (so_far.kept vs are).1)),
+    );
   }
 
   module _ (t : Bool) (told : (vs : List Vertex) → AreOf vs (r ∷ take (length lent - (i + 1)) (drop (i + 1) lent)) → t ≡ begins_with (edge_of vs r) (edits_of vs (take (length lent - (i + 1)) (drop (i + 1) lent)))) where
@@ -155,9 +158,10 @@ module _ (old now lent : List Record) (len i : ℕ) (r : Record) (within : i < l
       record {
         below = omega (arith, below);
         long = so_far.long;
-        kept = λ vs are.
-            (compacted_skipped (edits_of vs old) (edits_of vs now) len i (edit_of vs r) (inside vs) (record_read vs) (edits_of vs lent) (ap (edits_of vs) lent_is) (test true told vs are) (so_far.kept vs are).0,
-            (so_far.kept vs are).1);
+        kept = λ vs are. (
+          compacted_skipped (edits_of vs old) (edits_of vs now) len i (edit_of vs r) (inside vs) (record_read vs) (edits_of vs lent) (ap (edits_of vs) lent_is) (test true told vs are) (so_far.kept vs are).0,
+          (so_far.kept vs are).1,
+        );
       }
 
   pub kept_pushed : (s : Record) → s ≡ get_or now i s
@@ -169,11 +173,12 @@ module _ (old now lent : List Record) (len i : ℕ) (r : Record) (within : i < l
       record {
         below = omega (arith, below);
         long = length-set now len s ∙ so_far.long;
-        kept = λ vs are.
-            (subst (λ es. AreCompacted (edits_of vs old) es (len + 1) (i + 1)) (sym (map-set (edit_of vs) now len s))
-            (compacted_pushed (edits_of vs old) (edits_of vs now) len i (edit_of vs r) (edit_of vs s) (inside vs) (record_read vs)
-            (ap (edit_of vs) again ∙ sym (get_or-map (edit_of vs) now i s (edit_of vs s) within)) (edits_of vs lent) (ap (edits_of vs) lent_is) (test false told vs are) (so_far.kept vs are).0),
-            all_set (IsRecord vs) now len s (so_far.kept vs are).1 (subst (IsRecord vs) (sym one) (record_is vs are)));
+        kept = λ vs are. (
+          subst (λ es. AreCompacted (edits_of vs old) es (len + 1) (i + 1)) (sym (map-set (edit_of vs) now len s))
+              (compacted_pushed (edits_of vs old) (edits_of vs now) len i (edit_of vs r) (edit_of vs s) (inside vs) (record_read vs)
+              (ap (edit_of vs) again ∙ sym (get_or-map (edit_of vs) now i s (edit_of vs s) within)) (edits_of vs lent) (ap (edits_of vs) lent_is) (test false told vs are) (so_far.kept vs are).0),
+          all_set (IsRecord vs) now len s (so_far.kept vs are).1 (subst (IsRecord vs) (sym one) (record_is vs are)),
+        );
       }
 
 -- ---- what the loop leaves

@@ -1,12 +1,11 @@
 -- What a set of keys says of the vertices that they stand for.
-use Rattle.std.proofs.Common.{◌≡◌, ℕ, zero, suc, ◌<◌, ◌^◌, Bool, true, false, cond, List, [], ◌∷◌, ◌++◌, length, slice_get, map, Some, refl, sym, ap, subst, ◌∙◌, arith}
-use Rattle.std.specs.Prelude.{◌||◌, slice_index_or, option_map, Result, Ok, Err, OnOk, OnErr}
+use Rattle.std.proofs.Common.{◌≡◌, ℕ, zero, suc, ◌<◌, ◌^◌, Bool, true, false, cond, List, [], ◌∷◌, ◌++◌, length, slice_get, Some, refl, sym, ap, subst, ◌∙◌, arith}
+use Rattle.std.specs.Prelude.{◌||◌, option_map, Result, Ok, Err, OnOk, OnErr}
 use Rattle.std.specs.List.{AllByRecursion, IsDistinct, list_any}
 use Rattle.std.proofs.lemmas.List.{length-append, map-append}
 use Rattle.std.proofs.lemmas.Option.{slice_get-map}
 use Rattle.std.proofs.lemmas.Map.Keys.{IsDistinct-push}
 use Rattle.indexmap.specs.IndexSet.{insert_key}
-use Rattle.grove_names.specs.declared.name.Name.{Name}
 use Rattle.grove_sorts.specs.declared.ctor.Ctor.{Ctor}
 use Rattle.grove_sorts.specs.declared.ctor.Ctor.TheVariants.{Root}
 use Rattle.grove_sorts.specs.declared.branch.Branch.{Branch}
@@ -139,7 +138,6 @@ inserted_again keys n key at = sym (ap (λ (b : Bool). cond b keys (keys ++ key 
 
 -- ---- what a call left
 
-
 pub by_result : {X E : Type 0} (r : Result X E) {P Q R : Type 0} → (P → R) → (Q → R) → OnOk r P → OnErr r Q → R
 by_result (Ok x) f g ok err = f ok
 by_result (Err e) f g ok err = g err
@@ -150,6 +148,7 @@ on_ok_both (Err e) f p q s = tt
 
 -- the key of a vertex whose constructor is a branch
 pub branch_key_is : (ctors : List Ctor) (key : VertexKey) (v : Vertex) → AreCtors ctors → (branch : Branch) × (key ≡ branch_key v.name branch) × (branch_ctor branch ≡ v.ctor) → IsKeyOf ctors key v
-branch_key_is ctors key v are found =
-    (ap (λ (k : VertexKey). k.name) found.1,
-    ap (λ (k : VertexKey). slice_get ctors k.ctor) found.1 ∙ branch_stands ctors found.0 are ∙ ap (λ (c : Ctor). Some c) found.2)
+branch_key_is ctors key v are found = (
+  ap (λ (k : VertexKey). k.name) found.1,
+  ap (λ (k : VertexKey). slice_get ctors k.ctor) found.1 ∙ branch_stands ctors found.0 are ∙ ap (λ (c : Ctor). Some c) found.2,
+)

@@ -8,3 +8,4 @@ pub mod Records
 pub mod Orders
 pub mod Reading
 pub mod KeptRecords
+pub mod Canonical

@@ -1,6 +1,6 @@
 -- The edits that records stand for, as vertices and records are added.
-use Rattle.std.proofs.Common.{◌≡◌, ℕ, ◌<◌, ◌^◌, true, List, [], ◌∷◌, ◌++◌, length, map, slice_get, Some, refl, sym, ap, subst, ◌∙◌, arith}
-use Rattle.std.specs.Prelude.{slice_index_or, option_map, Result, Ok, Err, OnErr}
+use Rattle.std.proofs.Common.{◌≡◌, ℕ, ◌<◌, ◌^◌, true, List, [], ◌∷◌, ◌++◌, length, slice_get, Some, refl, sym, ap, subst, ◌∙◌, arith}
+use Rattle.std.specs.Prelude.{Result, Ok, Err, OnErr}
 use Rattle.std.specs.Result.{is_err}
 use Rattle.std.specs.List.{AllByRecursion, IsDistinct}
 use Rattle.indexmap.specs.IndexSet.{insert_key}
@@ -8,9 +8,7 @@ use Rattle.grove_sorts.specs.declared.ctor.Ctor.TheVariants.{Root}
 use Rattle.grove_sorts.specs.declared.branch.Branch.TheVariants as branch
 use Rattle.std.proofs.lemmas.List.{length-append, map-append}
 use Rattle.grove_sorts.specs.declared.ctor.Ctor.{Ctor}
-use Rattle.grove_sorts.specs.declared.position.Position.{Position}
 use Rattle.grove_edits.specs.declared.vertex.Vertex.{Vertex}
-use Rattle.grove_edits.specs.declared.edge.Edge.{Edge}
 use Rattle.grove_edits.specs.declared.edit.Edit.{Edit}
 use Rattle.grove_edits.specs.declared.edit.EditKind.{EditKind}
 use Rattle.grove_edits.specs.Edit.{edit_edge, edit_kind}
@@ -20,9 +18,9 @@ use Rattle.edit_table.specs.declared.vertex_key.VertexKey.{VertexKey}
 use Rattle.edit_table.specs.declared.record.Record.{Record}
 use Rattle.edit_table.specs.Made.{is_good, made}
 use Rattle.edit_table.specs.Keys.{vertices_of, with_vertex, AreCtors, AreKeys, BeginsWith}
-use Rattle.edit_table.specs.Records.{edge_of, edit_of, edits_of, numbered, table_of, AreOf, AreRecords, IsRecord}
-use Rattle.edit_table.specs.Table.{Table, AreEnds}
-use Rattle.edit_table.proofs.Lists.{all_pushed, begins_alike, begins_further, read_at, read_stays, taken_back, within_from}
+use Rattle.edit_table.specs.Records.{edge_of, edit_of, edits_of, table_of, AreOf, AreRecords, IsRecord}
+use Rattle.edit_table.specs.Table.{AreEnds}
+use Rattle.edit_table.proofs.Lists.{all_pushed, begins_alike, begins_further, read_at, read_stays, within_from}
 use Rattle.edit_table.proofs.Keys.{keys_stay, same_vertices}
 use Rattle.edit_table.proofs.Ctors.{branch_stands}
 use Rattle.edit_table.proofs.KeyEq.{key_eq}
@@ -81,16 +79,16 @@ module _ (vs : List Vertex) (r : Record) (edit : Edit) (is : IsRecordOf vs r edi
   }
 
 module _ (ctors met : List Ctor) (keys more : List VertexKey) (records pushed : List Record) (r : Record) (edit : Edit)
-  (are : AreRecords ctors keys records) (keys_are : AreKeys met more)
-  (grown : vertices_of met more ≡ with_vertex (edit_edge edit).target (with_vertex (edit_edge edit).source (vertices_of ctors keys)))
-  (is : IsRecordOf (vertices_of met more) r edit) (pushed_is : pushed ≡ records ++ r ∷ []) where
+    (are : AreRecords ctors keys records) (keys_are : AreKeys met more)
+    (grown : vertices_of met more ≡ with_vertex (edit_edge edit).target (with_vertex (edit_edge edit).source (vertices_of ctors keys)))
+    (is : IsRecordOf (vertices_of met more) r edit) (pushed_is : pushed ≡ records ++ r ∷ []) where
   begins : BeginsWith (vertices_of met more) (vertices_of ctors keys)
   begins = begins_further (vertices_of met more) between (vertices_of ctors keys)
       (begins_further (vertices_of met more) (with_vertex (edit_edge edit).target between) between (begins_alike (vertices_of met more) (with_vertex (edit_edge edit).target between) grown)
       (begins_with_before (edit_edge edit).target between))
       (begins_with_before (edit_edge edit).source (vertices_of ctors keys)) where
-    between : List Vertex
-    between = with_vertex (edit_edge edit).source (vertices_of ctors keys)
+        between : List Vertex
+        between = with_vertex (edit_edge edit).source (vertices_of ctors keys)
 
   pub pushed_edits : edits_of (vertices_of met more) pushed ≡ edits_of (vertices_of ctors keys) records ++ edit ∷ []
   pushed_edits =
@@ -115,7 +113,7 @@ module _ (ctors met : List Ctor) (keys more : List VertexKey) (records pushed : 
 -- ---- what a push that found no memory left
 
 module _ (ctors met : List Ctor) (keys more : List VertexKey) (records : List Record) (met_are : AreCtors met) (begins : BeginsWith met ctors) (begin : BeginsWith more keys)
-  (are : AreRecords ctors keys records) where
+    (are : AreRecords ctors keys records) where
   same_table : table_of met keys records ≡ table_of ctors keys records
   same_table = ap (λ (vs : List Vertex). record { edits = edits_of vs records; vertices = vs }) (same_vertices met ctors begins keys are.keys_are)
 

@@ -1,14 +1,16 @@
 -- Inner model, which no public contract cites: vertices by keys, in which a constructor is told by its number.
-use Rattle.std.specs.Prelude.{◌≡◌, ℕ, ◌<◌, ◌^◌, ◌++◌, List, [], ◌∷◌, Some, map, length, slice_get, slice_index_or, if◌then◌else◌}
+use Rattle.std.specs.Prelude.{◌≡◌, ℕ, ◌<◌, ◌^◌, ◌++◌, Bool, false, nat_lt, List, [], ◌∷◌, Some, map, length, slice_get, slice_index_or, if◌then◌else◌}
 use Rattle.std.specs.List.{AllByRecursion, IsDistinct}
 use Rattle.grove_names.specs.declared.name.Name.{Name}
 use Rattle.grove_sorts.specs.declared.branch.Branch.{Branch}
 use Rattle.grove_sorts.specs.declared.branch.Branch.TheVariants as branch
 use Rattle.grove_sorts.specs.declared.ctor.Ctor.{Ctor}
-use Rattle.grove_sorts.specs.declared.ctor.Ctor.TheVariants.{Root}
+use Rattle.grove_sorts.specs.declared.ctor.Ctor.TheVariants.{Root, Num}
 use Rattle.grove_sorts.specs.Branch.{branch_ctor}
 use Rattle.grove_edits.specs.declared.vertex.Vertex.{Vertex}
 use Rattle.grove_edits.specs.Vertex.{is_same_vertex, stands_in}
+use Rattle.edit_table.specs.declared.vertex_key.CtorKey.{CtorKey}
+use Rattle.edit_table.specs.declared.vertex_key.CtorKey.TheVariants.{At, Short}
 use Rattle.edit_table.specs.declared.vertex_key.VertexKey.{VertexKey}
 
 -- the branches, each at the index that is its number
@@ -42,9 +44,19 @@ branch_ctors = map branch_ctor branches
 abbrev pub ctor_at : List Ctor → ℕ → Ctor
 ctor_at ctors n = slice_index_or ctors n Root
 
+-- a literal that stands in a key itself
+abbrev pub is_short : Ctor → Bool
+is_short (Num n) = nat_lt n (2 ^ 32)
+is_short _ = false
+
+-- the constructor that a key stands for
+abbrev pub ctor_of : List Ctor → CtorKey → Ctor
+ctor_of ctors (At n) = ctor_at ctors n
+ctor_of ctors (Short n) = Num n
+
 -- the vertex that a key stands for
 abbrev pub vertex_of : List Ctor → VertexKey → Vertex
-vertex_of ctors key = record { name = key.name; ctor = ctor_at ctors key.ctor }
+vertex_of ctors key = record { name = key.name; ctor = ctor_of ctors key.ctor }
 
 -- the vertices that keys stand for, in order
 abbrev pub vertices_of : List Ctor → List VertexKey → List Vertex
@@ -52,7 +64,7 @@ vertices_of ctors keys = map (vertex_of ctors) keys
 
 -- the key of a vertex whose constructor is a branch
 abbrev pub branch_key : Name → Branch → VertexKey
-branch_key name branch = record { name = name; ctor = branch_number branch }
+branch_key name branch = record { name = name; ctor = At (branch_number branch) }
 
 -- a list begins with what it was before
 abbrev pub BeginsWith : {X : Type 0} → List X → List X → Type 0
@@ -62,13 +74,23 @@ BeginsWith {X} after before = (more : List X) × (after ≡ before ++ more)
 abbrev pub StandOnce : List Ctor → Type 0
 StandOnce ctors = (m n : ℕ) (c : Ctor) → slice_get ctors m ≡ Some c → slice_get ctors n ≡ Some c → m ≡ n
 
-abbrev pub HasCtor : List Ctor → VertexKey → Type 0
-HasCtor ctors key = key.ctor < length ctors
+-- the constructor of a key was met, or is a short literal
+abbrev pub IsMet : List Ctor → CtorKey → Type 0
+IsMet ctors (At n) = n < length ctors
+IsMet ctors (Short n) = n < 2 ^ 32
 
--- the constructors begin with the branches, and none stands twice
+abbrev pub HasCtor : List Ctor → VertexKey → Type 0
+HasCtor ctors key = IsMet ctors key.ctor
+
+-- the key is that of a constructor
+abbrev pub IsCtorKeyOf : List Ctor → CtorKey → Ctor → Type 0
+IsCtorKeyOf ctors key ctor = IsMet ctors key × (ctor_of ctors key ≡ ctor)
+
+-- the constructors begin with the branches, none stands twice, and none is a short literal
 pub record AreCtors (ctors : List Ctor) : Type 0 where
   pub begin : BeginsWith ctors branch_ctors
   pub once : StandOnce ctors
+  pub long : AllByRecursion (λ ctor. is_short ctor ≡ false) ctors
 
 -- the keys are those of vertices, each of which stands once
 pub record AreKeys (ctors : List Ctor) (keys : List VertexKey) : Type 0 where

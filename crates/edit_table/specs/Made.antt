@@ -1,5 +1,5 @@
 -- Inner model, which no public contract cites: the edit of an edge that is well formed and in range.
-use Rattle.std.specs.Prelude.{◌≡◌, ◌<◌, ◌^◌, Bool, true, false, ◌&&◌, nat_lt, is_none, refl, IsTrue}
+use Rattle.std.specs.Prelude.{◌≡◌, ◌^◌, Bool, true, false, ◌&&◌, nat_lt, is_none, refl}
 use Rattle.std.proofs.lemmas.Bool.{ltb-true}
 use Rattle.grove_names.specs.declared.name.Name.{Name}
 use Rattle.grove_sorts.specs.declared.branch.Branch.{Branch}
@@ -15,7 +15,7 @@ use Rattle.grove_edits.specs.declared.edit.Edit.{Edit}
 use Rattle.grove_edits.specs.declared.edit.EditKind.{EditKind}
 use Rattle.grove_edits.specs.declared.edit.EditKind.TheVariants.{Insert}
 use Rattle.grove_edits.specs.Vertex.{VertexInRange, literal}
-use Rattle.grove_edits.specs.Edge.{edge_fault, edge_from, IsWellFormed, EdgeInRange}
+use Rattle.grove_edits.specs.Edge.{edge_fault, edge_from, EdgeInRange}
 
 abbrev pub lies_in_range : Vertex → Bool
 lies_in_range v = nat_lt v.name.author (2 ^ 32) && (nat_lt v.name.counter (2 ^ 64) && nat_lt (literal v.ctor) (2 ^ 64))

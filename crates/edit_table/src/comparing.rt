@@ -1,12 +1,12 @@
-ghost use Rattle.std.specs.Prelude.{◌≡◌, slice_index_or};
+ghost use Rattle.std.specs.Prelude.{◌≡◌};
 ghost use Rattle.std.specs.declared.cmp.Ordering.TheVariants.{Equal};
 ghost use Rattle.grove_names.specs.Name.{name_cmp};
 ghost use Rattle.grove_edits.specs.Vertex.{vertex_cmp};
-ghost use Rattle.edit_table.specs.Keys.{vertices_of};
+ghost use Rattle.edit_table.specs.Keys.{ctor_of, vertices_of};
 ghost use Rattle.edit_table.specs.Records.{numbered, record_cmp};
 
 use crate::record::Record;
-use crate::vertex_key::VertexKey;
+use crate::vertex_key::{CtorKey, VertexKey};
 use grove_edits::{Vertex, compare_vertices};
 use grove_sorts::Ctor;
 use std::cmp::Ordering;
@@ -56,17 +56,20 @@ fn vertex_at(ctors: &[Ctor], keys: &[VertexKey], number: u32) -> Vertex
     match keys.get(number as usize) {
         Some(key) => Vertex {
             name: key.name,
-            ctor: ctor_at(ctors, key.ctor),
+            ctor: ctor_of(ctors, key.ctor),
         },
         None => Vertex::ROOT,
     }
 }
 
-fn ctor_at(ctors: &[Ctor], number: u32) -> Ctor
-    ensures { result ≡ slice_index_or ctors.now number Ctor.Root }
+fn ctor_of(ctors: &[Ctor], key: CtorKey) -> Ctor
+    ensures { result ≡ ctor_of ctors.now key }
 {
-    match ctors.get(number as usize) {
-        Some(ctor) => *ctor,
-        None => Ctor::Root,
+    match key {
+        CtorKey::Short(literal) => Ctor::Num(u64::from(literal)),
+        CtorKey::At(number) => match ctors.get(number as usize) {
+            Some(ctor) => *ctor,
+            None => Ctor::Root,
+        },
     }
 }

@@ -1,18 +1,16 @@
-ghost use Rattle.std.specs.Prelude.{◌≡◌, ◌<◌, ◌^◌, [], ◌∷◌, ◌++◌, length, IfOk, OnOk, OnErr};
+ghost use Rattle.std.specs.Prelude.{◌≡◌, ◌<◌, ◌^◌, length, IfOk};
 ghost use Rattle.grove_edits.specs.Graph.{graph, IsCanonical};
-ghost use Rattle.grove_edits.specs.Vertex.{root};
 ghost use Rattle.edit_table.specs.Table.{edge_at, kind_at, vertex_at, AreEnds, IsIndex, IsNumber};
 
-use crate::comparing::compare_records;
-use crate::keeping::keep_last_of_each_edge;
+use crate::edit_table_builder::EditTableBuilder;
+use crate::lent_ctor::LentCtor;
 use crate::lent_vertex::LentVertex;
 use crate::no_memory::NoMemory;
-use crate::numbering::{branch_ctors, push_record};
 use crate::record::Record;
 use crate::table_edge::TableEdge;
 use crate::table_vertex::TableVertex;
-use crate::vertex_key::VertexKey;
-use grove_edits::{Edit, EditKind, EditList, Vertex};
+use crate::vertex_key::{CtorKey, VertexKey};
+use grove_edits::{EditKind, EditList};
 use grove_names::Name;
 use grove_sorts::{Ctor, Position};
 use indexmap::IndexSet;
@@ -21,13 +19,13 @@ use std::alloc::Global;
 use std::marker::Model;
 
 /// Edits in order, in a few bytes each, whose vertices are numbered: the root is number 0, and each other vertex has the next number
-/// where it is met first. Contracts see the edits and the vertices, in the order of their numbers.
+/// where it is met first. A table is only read. Contracts see the edits and the vertices, in the order of their numbers.
 #[derive(Drop)]
 pub struct EditTable {
     // The branches first, and then other constructors as they were met.
-    ctors: IndexSet<Ctor, HashSeed>,
-    keys: IndexSet<VertexKey, HashSeed>,
-    records: Vec<Record>,
+    pub(crate) ctors: IndexSet<Ctor, HashSeed>,
+    pub(crate) keys: Vec<VertexKey>,
+    pub(crate) records: Vec<Record>,
 }
 
 impl Model for EditTable {
@@ -37,9 +35,9 @@ impl Model for EditTable {
 
     ghost use Rattle.edit_table.specs.Records.{table_of, AreRecords};
 
-    ghost view = { λ table. table_of table.ctors.keys table.keys.keys table.records.items };
+    ghost view = { λ table. table_of table.ctors.keys table.keys.items table.records.items };
 
-    ghost invariant = { λ table. AreRecords table.ctors.keys table.keys.keys table.records.items };
+    ghost invariant = { λ table. AreRecords table.ctors.keys table.keys.items table.records.items };
 }
 
 impl EditTable {
@@ -47,78 +45,12 @@ impl EditTable {
     ghost use Rattle.edit_table.specs.TableEdge.{table_edge};
     ghost use Rattle.edit_table.specs.TableVertex.{table_vertex};
 
-    /// The table of no edits, which tells its vertices apart by their hash under a seed.
-    pub fn with_seed(alloc: Global, seed: HashSeed) -> Result<EditTable, NoMemory>
-        ensures edits { IfOk result (λ table. table.edits ≡ []) }
-        ensures vertices { IfOk result (λ table. table.vertices ≡ root ∷ []) }
-    {
-        let ctors = branch_ctors(alloc, seed)?;
-        let mut keys = IndexSet::with_hasher(alloc, seed);
-        keys.insert(VertexKey {
-            name: Vertex::ROOT.name,
-            ctor: 0,
-        })?;
-        Ok(EditTable {
-            ctors,
-            keys,
-            records: Vec::new(alloc),
-        })
-    }
-
-    /// The table of a list.
+    /// The table of the canonical list of the graph of some edits.
     pub fn of_list(alloc: Global, edits: &EditList, seed: HashSeed) -> Result<EditTable, NoMemory>
-        ensures edits { IfOk result (λ table. table.edits ≡ edits.now) }
+        ensures { IfOk result (λ table. IsCanonical (graph edits.now) table.edits) }
     {
-        let mut table = EditTable::with_seed(alloc, seed)?;
-        table.reserve(edits.len())?;
-        for edit in edits.as_slice() {
-            table.push(edit)?;
-        }
-        Ok(table)
-    }
-
-    /// Makes room for so many further edits, where their number is known, so that none is moved as they are pushed.
-    pub fn reserve(&mut self, further: usize) -> Result<(), NoMemory>
-        ensures unchanged { self.new ≡ self.old }
-    {
-        self.records.reserve_exact(further)?;
-        self.keys.reserve(further)?;
-        Ok(())
-    }
-
-    /// Appends an edit. Vertices that the table has keep their numbers.
-    pub fn push(&mut self, edit: &Edit) -> Result<(), NoMemory>
-        ensures appended { OnOk result (self.new.edits ≡ self.old.edits ++ edit.now ∷ []) }
-        ensures unchanged { OnErr result (self.new ≡ self.old) }
-    {
-        let count = self.keys.len();
-        let pushed = push_record(&mut self.ctors, &mut self.keys, &mut self.records, edit);
-        if pushed.is_err() {
-            self.keys.truncate(count);
-        }
-        pushed
-    }
-
-    /// The table of the canonical list of the graph that the edits make: one edit for each edge that they name, in edge order. It has the
-    /// same vertices. It takes no memory.
-    pub fn into_canonical(self) -> EditTable
-        ensures canonical { IsCanonical (graph self.edits) result.edits }
-        ensures vertices { result.vertices ≡ self.vertices }
-    {
-        let EditTable {
-            ctors,
-            keys,
-            mut records,
-        } = self;
-        let ctors_in_order = ctors.as_slice();
-        let keys_in_order = keys.as_slice();
-        records.sort_unstable_by(|a, b| compare_records(ctors_in_order, keys_in_order, a, b));
-        keep_last_of_each_edge(&mut records);
-        EditTable {
-            ctors,
-            keys,
-            records,
-        }
+        let builder = EditTableBuilder::of_list(alloc, edits, seed)?;
+        builder.into_table(alloc)
     }
 
     /// How many edits there are.
@@ -162,10 +94,14 @@ impl EditTable {
         requires { IsNumber self.now number }
         ensures { lent_vertex result ≡ vertex_at self.now number }
     {
-        let key = &self.keys[number];
+        let key = self.keys[number];
+        let ctor = match key.ctor {
+            CtorKey::At(number) => LentCtor::At(&self.ctors[number as usize]),
+            CtorKey::Short(literal) => LentCtor::Literal(u64::from(literal)),
+        };
         LentVertex {
             name: key.name,
-            ctor: &self.ctors[key.ctor as usize],
+            ctor,
         }
     }
 

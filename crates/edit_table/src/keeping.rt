@@ -27,9 +27,9 @@ fn begins_with_edge(records: &[Record], edit: &Record) -> bool
     ensures { (vertices : List Vertex) → AreOf vertices (edit.now ∷ records.now)
         → result ≡ begins_with (edge_of vertices edit.now) (edits_of vertices records.now) }
 {
-    match records {
-        [] => false,
-        [first, ..] => have_same_edge(edit, first),
+    match records.first() {
+        Some(first) => have_same_edge(edit, first),
+        None => false,
     }
 }
 
@@ -37,8 +37,5 @@ fn begins_with_edge(records: &[Record], edit: &Record) -> bool
 fn have_same_edge(a: &Record, b: &Record) -> bool
     ensures { IsTrue result ↔ HaveSameParts a.now b.now }
 {
-    a.name == b.name
-        && a.source == b.source
-        && a.position == b.position
-        && a.target == b.target
+    a.name == b.name && a.source == b.source && a.position == b.position && a.target == b.target
 }

@@ -2,15 +2,15 @@ ghost use Rattle.std.specs.Prelude.{◌≡◌};
 ghost use Rattle.grove_edits.specs.Vertex.{is_same_vertex};
 ghost use Rattle.edit_table.specs.Lent.{lent_vertex};
 
-use grove_edits::Vertex;
+use crate::lent_ctor::LentCtor;
+use grove_edits::{Vertex, is_same_vertex};
 use grove_names::Name;
-use grove_sorts::Ctor;
 
-/// A vertex as whoever keeps it lends it: its name, and its constructor where it stands.
-#[derive(Clone, Copy, Debug, PartialEq, Eq)]
+/// A vertex as whoever keeps it lends it: its name, and its constructor.
+#[derive(Clone, Copy, Debug)]
 pub struct LentVertex<'g> {
     pub name: Name,
-    pub ctor: &'g Ctor,
+    pub ctor: LentCtor<'g>,
 }
 
 impl<'g> LentVertex<'g> {
@@ -20,7 +20,7 @@ impl<'g> LentVertex<'g> {
     {
         LentVertex {
             name: vertex.name,
-            ctor: &vertex.ctor,
+            ctor: LentCtor::At(&vertex.ctor),
         }
     }
 
@@ -30,7 +30,7 @@ impl<'g> LentVertex<'g> {
     {
         Vertex {
             name: self.name,
-            ctor: *self.ctor,
+            ctor: self.ctor.ctor(),
         }
     }
 }
@@ -39,12 +39,12 @@ impl<'g> LentVertex<'g> {
 pub fn is_same_lent(a: &LentVertex, b: &LentVertex) -> bool
     ensures { result ≡ is_same_vertex (lent_vertex a.now) (lent_vertex b.now) }
 {
-    a.name == b.name && *a.ctor == *b.ctor
+    is_same_vertex(&a.vertex(), &b.vertex())
 }
 
 /// Whether a lent vertex is this one.
 pub fn is_lent(lent: &LentVertex, vertex: &Vertex) -> bool
     ensures { result ≡ is_same_vertex (lent_vertex lent.now) vertex.now }
 {
-    lent.name == vertex.name && *lent.ctor == vertex.ctor
+    is_same_vertex(&lent.vertex(), vertex)
 }

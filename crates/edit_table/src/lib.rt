@@ -5,11 +5,14 @@
 
 mod comparing;
 mod edit_table;
+mod edit_table_builder;
 mod keeping;
+mod lent_ctor;
 mod lent_vertex;
 mod no_memory;
 mod numbering;
 mod record;
+mod renumbering;
 mod table_edge;
 mod table_vertex;
 #[cfg(test)]
@@ -17,6 +20,8 @@ mod tests;
 mod vertex_key;
 
 pub use edit_table::EditTable;
+pub use edit_table_builder::EditTableBuilder;
+pub use lent_ctor::LentCtor;
 pub use lent_vertex::{LentVertex, is_lent, is_same_lent};
 pub use no_memory::NoMemory;
 pub use table_edge::TableEdge;

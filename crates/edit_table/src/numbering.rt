@@ -1,14 +1,14 @@
-ghost use Rattle.std.specs.Prelude.{◌≡◌, ◌<◌, ◌^◌, [], ◌∷◌, ◌++◌, Some, IsTrue, length, slice_get, IfOk, IfSome, OnOk, OnErr};
+ghost use Rattle.std.specs.Prelude.{◌≡◌, ◌<◌, ◌^◌, [], ◌∷◌, ◌++◌, Some, IsTrue, length, slice_get, IfOk, IfSome, IfNone, OnOk, OnErr, false};
 ghost use Rattle.indexmap.specs.IndexSet.{insert_key};
 ghost use Rattle.grove_sorts.specs.Branch.{branch_ctor};
 ghost use Rattle.grove_edits.specs.Edit.{edit_edge};
 ghost use Rattle.edit_table.specs.declared.vertex_key.VertexKey.{VertexKey};
-ghost use Rattle.edit_table.specs.Keys.{branch_key, branch_number, vertices_of, with_vertex, AreCtors, AreKeys, BeginsWith};
+ghost use Rattle.edit_table.specs.Keys.{branch_key, branch_number, is_short, vertices_of, with_vertex, AreCtors, AreKeys, BeginsWith, IsCtorKeyOf};
 ghost use Rattle.edit_table.specs.Records.{edits_of, AreRecords};
 
 use crate::no_memory::NoMemory;
 use crate::record::Record;
-use crate::vertex_key::VertexKey;
+use crate::vertex_key::{CtorKey, VertexKey};
 use grove_edits::{Edit, Vertex};
 use grove_sorts::{Branch, Ctor};
 use indexmap::IndexSet;
@@ -103,7 +103,7 @@ fn source_key(edit: &Edit) -> VertexKey
 {
     VertexKey {
         name: edit.source().name,
-        ctor: number_of_branch(source_branch(edit)),
+        ctor: CtorKey::At(number_of_branch(source_branch(edit))),
     }
 }
 
@@ -167,9 +167,21 @@ fn is_at(keys: &IndexSet<VertexKey, HashSeed>, number: u32, key: &VertexKey) -> 
     }
 }
 
+// The literal that a constructor is, where it is short.
+fn short_literal(ctor: &Ctor) -> Option<u32>
+    ensures short { IfSome result (λ literal. (ctor.now ≡ Ctor.Num literal) × (literal < 2 ^ 32)) }
+    ensures none { IfNone result (is_short ctor.now ≡ false) }
+{
+    match ctor {
+        Ctor::Num(literal) => u32::try_from(*literal).ok(),
+        _ => None,
+    }
+}
+
 // The number of a constructor, which gets the next one where it has none. A branch has its own.
 fn ctor_number(ctors: &mut IndexSet<Ctor, HashSeed>, ctor: &Ctor) -> Result<u32, NoMemory>
-    requires { AreCtors ctors.old.keys }
+    requires ctors { AreCtors ctors.old.keys }
+    requires long { is_short ctor.now ≡ false }
     ensures number { IfOk result (λ number. slice_get ctors.new.keys number ≡ Some ctor.now) }
     ensures ctors { AreCtors ctors.new.keys }
     ensures stay { BeginsWith ctors.new.keys ctors.old.keys }
@@ -182,6 +194,20 @@ fn ctor_number(ctors: &mut IndexSet<Ctor, HashSeed>, ctor: &Ctor) -> Result<u32,
         return Err(NoMemory);
     };
     Ok(number)
+}
+
+// The key of a constructor. Where it was not met, it is from then on.
+fn ctor_key(ctors: &mut IndexSet<Ctor, HashSeed>, ctor: &Ctor) -> Result<CtorKey, NoMemory>
+    requires { AreCtors ctors.old.keys }
+    ensures key { IfOk result (λ key. IsCtorKeyOf ctors.new.keys key ctor.now) }
+    ensures ctors { AreCtors ctors.new.keys }
+    ensures stay { BeginsWith ctors.new.keys ctors.old.keys }
+{
+    if let Some(literal) = short_literal(ctor) {
+        return Ok(CtorKey::Short(literal));
+    }
+    let number = ctor_number(ctors, ctor)?;
+    Ok(CtorKey::At(number))
 }
 
 // The number of a vertex, which gets the next one where it has none.
@@ -199,7 +225,7 @@ fn target_number(
     ensures ctors { AreCtors ctors.new.keys }
     ensures ctors_stay { BeginsWith ctors.new.keys ctors.old.keys }
 {
-    let ctor = ctor_number(ctors, &vertex.ctor)?;
+    let ctor = ctor_key(ctors, &vertex.ctor)?;
     key_number(
         keys,
         VertexKey {

@@ -1,11 +1,18 @@
 use grove_names::Name;
 use std::hash::{Hash, Hasher};
 
-/// A vertex in 24 bytes: its constructor is told by its number.
+/// A constructor in a few bytes: a literal that is short, or another constructor by its number among those that were met.
+#[derive(Clone, Copy, PartialEq, Eq, Hash)]
+pub(crate) enum CtorKey {
+    At(u32),
+    Short(u32),
+}
+
+/// A vertex in 24 bytes.
 #[derive(Clone, Copy, PartialEq, Eq)]
 pub(crate) struct VertexKey {
     pub(crate) name: Name,
-    pub(crate) ctor: u32,
+    pub(crate) ctor: CtorKey,
 }
 
 // How many names that follow each other are hashed alike.
@@ -19,7 +26,7 @@ impl Hash for VertexKey {
     ghost use Rattle.std.specs.Hash as fed;
     ghost use Rattle.std.specs.Cmp.Rules.{comparing, hashing};
 
-    ghost hash_input = { λ v. fed.u32 v.name.author ++ fed.u64 (v.name.counter / 16) ++ fed.u32 v.ctor };
+    ghost hash_input = { λ v. fed.u32 v.name.author ++ fed.u64 (v.name.counter / 16) ++ ⟦<CtorKey as Hash>⟧.hash_input v.ctor };
 
     ghost respects_eq = { Prim.search (hashing, rules) };
 

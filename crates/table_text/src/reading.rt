@@ -2,7 +2,7 @@ ghost use Rattle.std.specs.Prelude.{◌≡◌, ◌+◌, [], length, IfOk, IfErr}
 ghost use Rattle.edit_text.specs.Text.{HasTextFault, SpellsAll};
 ghost use Rattle.table_text.specs.Spelled.{IsListOfLines};
 
-use edit_table::{EditTable, NoMemory};
+use edit_table::{EditTable, EditTableBuilder, NoMemory};
 use edit_text::{TextFault, read_line};
 use grove_sorts::Version;
 use seeded_hash::HashSeed;
@@ -21,7 +21,10 @@ pub fn read_table(
     ensures fault { IfErr result (HasTextFault version lines.now) }
 {
     let table = read_lines(alloc, version, lines, seed)?;
-    Ok(table.into_canonical())
+    match table.into_table(alloc) {
+        Ok(table) => Ok(table),
+        Err(NoMemory) => Err(TextFault::NoMemory),
+    }
 }
 
 // The edits in the order of their lines.
@@ -30,7 +33,7 @@ fn read_lines(
     version: Version,
     lines: &[u8],
     seed: HashSeed,
-) -> Result<EditTable, TextFault>
+) -> Result<EditTableBuilder, TextFault>
     ensures spelled { IfOk result (λ table. SpellsAll version lines.now table.edits) }
     ensures fault { IfErr result (HasTextFault version lines.now) }
 {
@@ -70,16 +73,20 @@ fn most_lines(text: &[u8]) -> usize {
 }
 
 // The table of no edits, with room for so many.
-fn table_with_room(alloc: Global, count: usize, seed: HashSeed) -> Result<EditTable, NoMemory>
+fn table_with_room(
+    alloc: Global,
+    count: usize,
+    seed: HashSeed,
+) -> Result<EditTableBuilder, NoMemory>
     ensures { IfOk result (λ table. table.edits ≡ []) }
 {
-    let mut table = EditTable::with_seed(alloc, seed)?;
+    let mut table = EditTableBuilder::with_seed(alloc, seed)?;
     table.reserve(count)?;
     Ok(table)
 }
 
 // The number, from 1, of the line behind those that were read.
-fn next_line(table: &EditTable) -> u64
+fn next_line(table: &EditTableBuilder) -> u64
     ensures { result ≡ length table.now.edits + 1 }
 {
     table.len() as u64 + 1

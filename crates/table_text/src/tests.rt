@@ -4,7 +4,8 @@ use grove_sorts::Version;
 use seeded_hash::HashSeed;
 use std::test::Fail;
 
-const LINES: &[u8] = b"+1.2 1.1 plus right 2.2 num:2\n+1.1 0.0 root main 1.1 plus\n-1.2 1.1 plus right 2.2 num:2\n";
+const LINES: &[u8] =
+    b"+1.2 1.1 plus right 2.2 num:2\n+1.1 0.0 root main 1.1 plus\n-1.2 1.1 plus right 2.2 num:2\n";
 
 #[test]
 fn lines_are_read_into_their_canonical_list(rt: HostRuntime) -> Result<(), Fail> {

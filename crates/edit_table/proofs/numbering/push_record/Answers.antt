@@ -1,9 +1,9 @@
-use Rattle.std.proofs.Common.{◌≡◌, ◌<◌, ◌^◌, ◌++◌, ◌∷◌, [], Some, length, slice_get, sym, ap, subst, ◌∙◌, arith}
+use Rattle.std.proofs.Common.{◌≡◌, ◌<◌, ◌^◌, ◌∷◌, [], Some, length, slice_get, ap, ◌∙◌, arith}
 use Rattle.std.proofs.lemmas.List.{length-append}
 use Rattle.grove_edits.specs.declared.vertex.Vertex.{Vertex}
 use Rattle.grove_edits.specs.Edit.{edit_edge}
 use Rattle.edit_table.specs.declared.record.Record.{Record}
-use Rattle.edit_table.specs.Keys.{vertices_of, with_vertex, AreKeys, BeginsWith}
+use Rattle.edit_table.specs.Keys.{vertices_of, with_vertex}
 use Rattle.edit_table.proofs.Lists.{begins_further, begins_inserted, still_stands_at, begins_alike}
 use Rattle.edit_table.proofs.KeyEq.{key_eq}
 use Rattle.edit_table.proofs.Keys.{branch_key_is, keys_after, vertex_numbered, vertices_after, IsKeyOf}
@@ -31,7 +31,6 @@ pub returns-in_err-push-clause-keys_stay : goal.returns-in_err-push-clause-keys_
 returns-in_err-push-clause-keys_stay c =
     begins_further c.target_number.new.keys.keys c.source_number.new.keys.keys c.args.keys.now.keys c.in_ok-target.ensures.keys_stay
     (begins_inserted key_eq c.source_number.new.keys.keys c.args.keys.now.keys c.source_key.result c.in_ok-source.ensures.keys)
-
 
 abbrev pushed : goal.In_ok-push → Record
 pushed c = record { name = c.name.result; source = c.in_ok-source.source; target = c.in_ok-target.target; position = c.position.result; kind = c.kind.result }

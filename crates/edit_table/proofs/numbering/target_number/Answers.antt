@@ -1,5 +1,5 @@
-use Rattle.std.proofs.Common.{◌≡◌, refl, sym, ap, subst, ◌∙◌}
-use Rattle.std.proofs.lemmas.Result.{on_ok_weaker, IfOk-weaker}
+use Rattle.std.proofs.Common.{refl, ap, ◌∙◌}
+use Rattle.std.proofs.lemmas.Result.{on_ok_weaker}
 use Rattle.edit_table.specs.declared.vertex_key.VertexKey.{VertexKey}
 use Rattle.edit_table.specs.Keys.{vertices_of, with_vertex, AreKeys}
 use Rattle.edit_table.proofs.Keys.{same_vertices, keys_stay, vertices_after, keys_after, on_ok_both}

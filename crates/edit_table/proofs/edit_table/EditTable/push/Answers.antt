@@ -1,7 +1,5 @@
-use Rattle.std.proofs.Common.{◌≡◌, sym, ap, subst, ◌∙◌, take, length}
+use Rattle.std.proofs.Common.{◌≡◌, sym, ap, ◌∙◌, take}
 use Rattle.std.proofs.lemmas.Result.{on_err_weaker}
-use Rattle.edit_table.specs.declared.record.Record.{Record}
-use Rattle.edit_table.specs.declared.vertex_key.VertexKey.{VertexKey}
 use Rattle.edit_table.proofs.Lists.{taken_back}
 use Rattle.edit_table.proofs.Records.{records_back, table_back, if_err}
 use Rattle.edit_table.proofs.edit_table.EditTable.push.Goals as goal
