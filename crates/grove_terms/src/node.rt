@@ -95,7 +95,7 @@ impl<'g> LentEdge<'g> {
 }
 
 /// What a lent node is: see `What`.
-#[derive(Clone, Copy, Debug, PartialEq, Eq)]
+#[derive(Clone, Copy, Debug)]
 pub enum LentWhat<'g> {
     Vertex(LentVertex<'g>),
     Hole(Sort),

@@ -3,7 +3,7 @@ ghost use Rattle.type_core.specs.Typ.{Typ};
 ghost use Rattle.marking.specs.Numbers.{IsAddedOf, AreMarkedNodesOf, IsMarkedGroveOf};
 
 use edit_table::EditTable;
-use grove_edits::{Edge, Edit, EditKind, Vertex};
+use grove_edits::{Edge, Edit, EditKind, EditList, Vertex};
 use grove_names::Name;
 use grove_printer::*;
 use grove_sorts::{Ctor, Position, Sort};
@@ -186,8 +186,9 @@ fn nodes_of_a_table_are_printed(rt: HostRuntime) -> Result<(), Fail> {
         position: Position::Main,
         target: vertex(1, 3, Ctor::Num(7)),
     };
-    let mut table = EditTable::with_seed(rt.alloc(), HashSeed::FIXED)?;
-    table.push(&Edit::new(EditKind::Insert, edge)?)?;
+    let mut edits = EditList::new(rt.alloc());
+    edits.push(Edit::new(EditKind::Insert, edge)?)?;
+    let table = EditTable::of_list(rt.alloc(), &edits, HashSeed::FIXED)?;
     if table.len() == 0 || table.vertex_count() == 0 {
         return Err(Fail::from("an edge of the root"));
     }

@@ -13,8 +13,8 @@ use Rattle.plain_typing.proofs.walking.begin.Goals as goal
 pub returns-in-Vertex-clause-state : goal.returns-in-Vertex-clause-state
 returns-in-Vertex-clause-state c =
     let is : (node_of c.args.node.now).what ≡ whats.Vertex (lent_vertex c.in-Vertex.vertex) = sym c.in-Vertex.ensures in
-    stands_begun_with c.args.types.now c.go_on.new.types c.args.ctxs.now c.fresh-begun.result (lent_vertex c.in-Vertex.vertex) (node_of c.args.node.now) (node_of c.args.node.now).what
-    (demanded_at c.args.types.now c.args.ctxs.now c.args.demand) c.args.walk.now c.go_on.new.walk c.go_on.result (c.fresh-begun.ensures.opened c.args.ctxs.now) c.fresh-begun.ensures.left is c.go_on.ensures.state
+    stands_begun_with c.args.types.now c.begin_lent.new.types c.args.ctxs.now (lent_vertex c.in-Vertex.vertex) (node_of c.args.node.now) (node_of c.args.node.now).what
+    (demanded_at c.args.types.now c.args.ctxs.now c.args.demand) c.args.walk.now c.begin_lent.new.walk c.begin_lent.result is c.begin_lent.ensures.state
 
 pub returns-in_ok-push-in-Conflict-clause-state : goal.returns-in_ok-push-in-Conflict-clause-state
 returns-in_ok-push-in-Conflict-clause-state c = λ s stands.
