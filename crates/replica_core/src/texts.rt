@@ -26,9 +26,11 @@ pub(crate) fn append_print_text(
     Ok(())
 }
 
-// The table of a list, which is let go.
+// The table of a canonical list, which is let go.
 fn table_of(alloc: Global, edits: EditList, seed: HashSeed) -> Result<EditTable, NoMemory>
+    requires { Ascends edits }
     ensures { IfOk result (λ table. table.edits ≡ edits) }
 {
-    Ok(EditTable::of_list(alloc, &edits, seed)?)
+    let table = EditTable::of_list(alloc, &edits, seed)?;
+    Ok(table)
 }
