@@ -7,12 +7,14 @@ mod comparing;
 mod edit_table;
 mod edit_table_builder;
 mod keeping;
+mod lending;
 mod lent_ctor;
 mod lent_vertex;
 mod no_memory;
 mod numbering;
 mod record;
 mod renumbering;
+mod sorting;
 mod table_edge;
 mod table_vertex;
 #[cfg(test)]

@@ -2,7 +2,7 @@ use Rattle.std.proofs.Common.{◌≡◌, sym, ap, ◌∙◌, take}
 use Rattle.std.proofs.lemmas.Result.{on_err_weaker}
 use Rattle.edit_table.proofs.Lists.{taken_back}
 use Rattle.edit_table.proofs.Records.{records_back, table_back, if_err}
-use Rattle.edit_table.proofs.edit_table.EditTable.push.Goals as goal
+use Rattle.edit_table.proofs.edit_table_builder.EditTableBuilder.push.Goals as goal
 
 -- the keys that were there before
 keys_back : (c : goal.After-truncate) → c.truncate.new.self.keys ≡ c.self.inside.keys.keys
