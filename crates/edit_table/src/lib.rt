@@ -17,8 +17,6 @@ mod renumbering;
 mod sorting;
 mod table_edge;
 mod table_vertex;
-#[cfg(test)]
-mod tests;
 mod vertex_key;
 
 pub use edit_table::EditTable;

@@ -1,8 +1,8 @@
-use super::*;
 use edit_text::TextFault;
 use grove_sorts::Version;
 use seeded_hash::HashSeed;
 use std::test::Fail;
+use table_text::*;
 
 const LINES: &[u8] =
     b"+1.2 1.1 plus right 2.2 num:2\n+1.1 0.0 root main 1.1 plus\n-1.2 1.1 plus right 2.2 num:2\n";
