@@ -1,7 +1,7 @@
 -- Constructors by number: the branches first, and no constructor twice.
-use Rattle.std.proofs.Common.{◌≡◌, ℕ, zero, suc, ◌+◌, ◌<◌, ◌≤◌, true, false, List, [], ◌∷◌, length, get_or, take, map, slice_get, Some, add-one, refl, sym, ap, subst, ◌∙◌, arith}
+use Rattle.std.proofs.Common.{◌≡◌, ℕ, zero, suc, ◌+◌, ◌<◌, ◌≤◌, Bool, true, false, cond, List, [], ◌∷◌, ◌++◌, length, get_or, take, map, slice_get, Some, add-one, refl, sym, ap, subst, ◌∙◌, arith}
 use Rattle.std.specs.Prelude.{slice_index_or}
-use Rattle.std.specs.List.{IsDistinct}
+use Rattle.std.specs.List.{AllByRecursion, IsDistinct, list_any}
 use Rattle.std.proofs.lemmas.Map.Keys.{IsDistinct-head, IsDistinct-tail}
 use Rattle.indexmap.specs.IndexSet.{insert_key}
 use Rattle.grove_sorts.specs.declared.ctor.Ctor.{Ctor}
@@ -9,8 +9,8 @@ use Rattle.grove_sorts.specs.declared.ctor.Ctor.TheVariants.{Root}
 use Rattle.grove_sorts.specs.declared.branch.Branch.{Branch}
 use Rattle.grove_sorts.specs.declared.branch.Branch.TheVariants as branch
 use Rattle.grove_sorts.specs.Branch.{branch_ctor}
-use Rattle.edit_table.specs.Keys.{branches, branch_ctors, branch_number, AreCtors, StandOnce}
-use Rattle.edit_table.proofs.Lists.{all_at, begins_alike, begins_further, begins_inserted, still_stands_at}
+use Rattle.edit_table.specs.Keys.{branches, branch_ctors, branch_number, AreCtors, StandOnce, is_short}
+use Rattle.edit_table.proofs.Lists.{all_at, begins_alike, begins_further, begins_inserted, still_stands_at, all_pushed}
 use Rattle.edit_table.proofs.KeyEq.{ctor_eq, ctor_exact, ctor_itself}
 
 -- no constructor of a set has two numbers
@@ -30,11 +30,15 @@ stand_once (x ∷ ctors) once (suc m) zero c first second =
 stand_once (x ∷ ctors) once (suc m) (suc n) c first second = ap suc (stand_once ctors (IsDistinct-tail ctor_eq x ctors once) m n c first second)
 
 -- with one more constructor they go on
-pub ctors_after : (before after : List Ctor) (c : Ctor) → after ≡ insert_key ctor_eq before c → IsDistinct ctor_eq after → AreCtors before → AreCtors after
-ctors_after before after c is once are = record {
+pub ctors_after : (before after : List Ctor) (c : Ctor) → after ≡ insert_key ctor_eq before c → IsDistinct ctor_eq after → is_short c ≡ false → AreCtors before → AreCtors after
+ctors_after before after c is once short are = record {
   begin = begins_further after before branch_ctors (begins_inserted ctor_eq after before c is) are.begin;
   once = stand_once after once;
-}
+  long = subst (AllByRecursion (λ ctor. is_short ctor ≡ false)) (sym is) (by_test (list_any (ctor_eq c) before));
+} where
+  by_test : (b : Bool) → AllByRecursion (λ ctor. is_short ctor ≡ false) (cond b before (before ++ c ∷ []))
+  by_test true = are.long
+  by_test false = all_pushed (λ ctor. is_short ctor ≡ false) before c are.long short
 
 pub ctors_unchanged : (before after : List Ctor) → after ≡ before → AreCtors before → AreCtors after
 ctors_unchanged before after is are = subst AreCtors (sym is) are
@@ -105,8 +109,12 @@ branches_after before after i c within is so_far inserted =
 pub no_branches : (ctors : List Ctor) → ctors ≡ [] → (ctors ≡ first_branches 0) × StandOnce ctors
 no_branches ctors none = (none, subst StandOnce (sym none) (λ m n c first second. absurd cc))
 
+branches_long : AllByRecursion (λ ctor. is_short ctor ≡ false) branch_ctors
+branches_long = (refl, (refl, (refl, (refl, (refl, (refl, (refl, (refl, (refl, (refl, (refl, (refl, (refl, (refl, (refl, tt)))))))))))))))
+
 -- where all branches were inserted
 pub all_branches : (ctors : List Ctor) (i : ℕ) → 15 ≤ i → i ≤ 15 → ctors ≡ first_branches i → StandOnce ctors → AreCtors ctors
 all_branches ctors i past within is once =
     let last : i ≡ 15 = omega (arith, past, within) in
-    record { begin = begins_alike ctors branch_ctors (is ∙ ap first_branches last); once = once }
+    let all : ctors ≡ branch_ctors = is ∙ ap first_branches last in
+    record { begin = begins_alike ctors branch_ctors all; once = once; long = subst (AllByRecursion (λ ctor. is_short ctor ≡ false)) (sym all) branches_long }

@@ -24,7 +24,7 @@ use Rattle.edit_table.proofs.Made.{made-edge, made-kind}
 
 -- ---- one number for each vertex
 
-numbered_once : (vs : List Vertex) → IsDistinct is_same_vertex vs → (m n : ℕ) (v : Vertex) → slice_get vs m ≡ Some v → slice_get vs n ≡ Some v → m ≡ n
+pub numbered_once : (vs : List Vertex) → IsDistinct is_same_vertex vs → (m n : ℕ) (v : Vertex) → slice_get vs m ≡ Some v → slice_get vs n ≡ Some v → m ≡ n
 numbered_once [] once m n v first second = absurd cc
 numbered_once (x ∷ vs) once zero zero v first second = refl
 numbered_once (x ∷ vs) once zero (suc n) v first second =
@@ -69,7 +69,7 @@ module _ (vs : List Vertex) (a b : Record) (once : IsDistinct is_same_vertex vs)
   parts_tell : (t : Bool) → (IsTrue t ↔ HaveSameParts a b) → t ≡ is_same_edge (edge_of vs a) (edge_of vs b)
   parts_tell t told = both_ways t (is_same_edge (edge_of vs a) (edge_of vs b)) (λ is. parts_give (told.0 is)) (λ is. told.1 (edge_gives is))
 
-edit_edge_of : (vs : List Vertex) (r : Record) → IsRecord vs r → edit_edge (edit_of vs r) ≡ edge_of vs r
+pub edit_edge_of : (vs : List Vertex) (r : Record) → IsRecord vs r → edit_edge (edit_of vs r) ≡ edge_of vs r
 edit_edge_of vs r is = made-edge r.kind (edge_of vs r) is.good
 
 -- the test of the first record

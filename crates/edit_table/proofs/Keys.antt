@@ -1,5 +1,5 @@
 -- What a set of keys says of the vertices that they stand for.
-use Rattle.std.proofs.Common.{◌≡◌, ℕ, zero, suc, ◌<◌, ◌^◌, Bool, true, false, cond, List, [], ◌∷◌, ◌++◌, length, slice_get, Some, refl, sym, ap, subst, ◌∙◌, arith}
+use Rattle.std.proofs.Common.{◌≡◌, ℕ, zero, suc, ◌<◌, ◌^◌, Bool, true, false, cond, List, [], ◌∷◌, ◌++◌, length, slice_get, Some, true≢false, refl, sym, ap, subst, ◌∙◌, arith}
 use Rattle.std.specs.Prelude.{◌||◌, option_map, Result, Ok, Err, OnOk, OnErr}
 use Rattle.std.specs.List.{AllByRecursion, IsDistinct, list_any}
 use Rattle.std.proofs.lemmas.List.{length-append, map-append}
@@ -7,47 +7,56 @@ use Rattle.std.proofs.lemmas.Option.{slice_get-map}
 use Rattle.std.proofs.lemmas.Map.Keys.{IsDistinct-push}
 use Rattle.indexmap.specs.IndexSet.{insert_key}
 use Rattle.grove_sorts.specs.declared.ctor.Ctor.{Ctor}
-use Rattle.grove_sorts.specs.declared.ctor.Ctor.TheVariants.{Root}
+use Rattle.grove_sorts.specs.declared.ctor.Ctor.TheVariants.{Root, Num}
 use Rattle.grove_sorts.specs.declared.branch.Branch.{Branch}
 use Rattle.grove_sorts.specs.Branch.{branch_ctor}
 use Rattle.grove_edits.specs.declared.vertex.Vertex.{Vertex}
-use Rattle.grove_edits.specs.Vertex.{is_same_vertex, stands_in}
+use Rattle.grove_edits.specs.Vertex.{is_same_vertex, literal, stands_in}
+use Rattle.std.proofs.lemmas.Bool.{lt-ltb}
 use Rattle.grove_edits.proofs.Orders.{vertex_from_fields}
 use Rattle.grove_edits.proofs.Vertices.{same_vertex_laws, same_vertex_exact, same_vertex_itself}
+use Rattle.edit_table.specs.declared.vertex_key.CtorKey.{CtorKey}
+use Rattle.edit_table.specs.declared.vertex_key.CtorKey.TheVariants as keys
 use Rattle.edit_table.specs.declared.vertex_key.VertexKey.{VertexKey}
-use Rattle.edit_table.specs.Keys.{branch_key, ctor_at, vertex_of, vertices_of, with_vertex, AreCtors, AreKeys, BeginsWith, HasCtor}
-use Rattle.edit_table.proofs.Lists.{all_pushed, read_at, read_stays, stands_within, within_from}
+use Rattle.edit_table.specs.Keys.{branch_key, ctor_at, vertex_of, vertices_of, with_vertex, AreCtors, AreKeys, BeginsWith, HasCtor, branch_number, ctor_of, is_short, root_key, IsCtorKeyOf, IsMet}
+use Rattle.edit_table.proofs.Lists.{all_pushed, read_at, read_stays, stands_within, within_from, all_at, begins_inserted, still_stands_at}
 use Rattle.edit_table.proofs.Ctors.{branch_stands}
 use Rattle.edit_table.proofs.KeyEq.{key_eq, key_exact, key_itself}
 
 -- ---- where more constructors are met, keys stand for the same
 
 module _ (after before : List Ctor) (begins : BeginsWith after before) where
-  still_has : (key : VertexKey) → HasCtor before key → HasCtor after key
-  still_has key has =
+  still_met : (key : CtorKey) → IsMet before key → IsMet after key
+  still_met (keys.At n) met =
       let long : length after ≡ length (before ++ begins.0) = ap length begins.1 in
-      omega (arith, long, length-append before begins.0, has)
+      omega (arith, long, length-append before begins.0, met)
+  still_met (keys.Short n) met = met
 
-  all_have : (keys : List VertexKey) → AllByRecursion (HasCtor before) keys → AllByRecursion (HasCtor after) keys
+  ctor_stays : (key : CtorKey) → IsMet before key → ctor_of after key ≡ ctor_of before key
+  ctor_stays (keys.At n) met = read_stays after before n Root begins met
+  ctor_stays (keys.Short n) met = refl
+
+  all_have : (ks : List VertexKey) → AllByRecursion (HasCtor before) ks → AllByRecursion (HasCtor after) ks
   all_have [] have = tt
-  all_have (key ∷ keys) have = (still_has key have.0, all_have keys have.1)
+  all_have (key ∷ ks) have = (still_met key.ctor have.0, all_have ks have.1)
 
-  vertices_stay : (keys : List VertexKey) → AllByRecursion (HasCtor before) keys → vertices_of after keys ≡ vertices_of before keys
+  vertices_stay : (ks : List VertexKey) → AllByRecursion (HasCtor before) ks → vertices_of after ks ≡ vertices_of before ks
   vertices_stay [] have = refl
-  vertices_stay (key ∷ keys) have =
-      let here : ctor_at after key.ctor ≡ ctor_at before key.ctor = read_stays after before key.ctor Root begins have.0 in
-      let rest = vertices_stay keys have.1 in
+  vertices_stay (key ∷ ks) have =
+      let here = ctor_stays key.ctor have.0 in
+      let rest = vertices_stay ks have.1 in
       λ j. record { name = key.name; ctor = here j } ∷ rest j
 
-  pub same_vertices : (keys : List VertexKey) → AreKeys before keys → vertices_of after keys ≡ vertices_of before keys
-  same_vertices keys are = vertices_stay keys are.have_ctors
+  pub same_vertices : (ks : List VertexKey) → AreKeys before ks → vertices_of after ks ≡ vertices_of before ks
+  same_vertices ks are = vertices_stay ks are.have_ctors
 
-  pub keys_stay : (keys : List VertexKey) → AreCtors after → AreKeys before keys → AreKeys after keys
-  keys_stay keys ctors are = record {
+  pub keys_stay : (ks : List VertexKey) → AreCtors after → AreKeys before ks → AreKeys after ks
+  keys_stay ks ctors are = record {
     ctors_are = ctors;
-    have_ctors = all_have keys are.have_ctors;
-    once = subst (IsDistinct is_same_vertex) (sym (same_vertices keys are)) are.once;
+    have_ctors = all_have ks are.have_ctors;
+    once = subst (IsDistinct is_same_vertex) (sym (same_vertices ks are)) are.once;
     few = are.few;
+    first = are.first;
   }
 
 -- ---- one key more
@@ -62,23 +71,37 @@ any_is_stands_in : (vs : List Vertex) (v : Vertex) → list_any (is_same_vertex 
 any_is_stands_in [] v = refl
 any_is_stands_in (w ∷ vs) v = ap (λ b. b || list_any (is_same_vertex v) vs) (same_vertex_laws.symm v w) ∙ ap (λ b. is_same_vertex w v || b) (any_is_stands_in vs v)
 
--- the key of a vertex has its name, and the number of its constructor
+-- the key of a vertex has its name, and a key of its constructor
 abbrev pub IsKeyOf : List Ctor → VertexKey → Vertex → Type 0
-IsKeyOf ctors key v = (key.name ≡ v.name) × (slice_get ctors key.ctor ≡ Some v.ctor)
+IsKeyOf ctors key v = (key.name ≡ v.name) × IsCtorKeyOf ctors key.ctor v.ctor
+
+-- a constructor has one key
+module _ (ctors : List Ctor) (are : AreCtors ctors) where
+  not_both : (n m : ℕ) (c : Ctor) → n < length ctors → ctor_at ctors n ≡ c → m < 2 ^ 32 → Num m ≡ c → ⊥
+  not_both n m c within at short is =
+      let stands : slice_get ctors n ≡ Some c = stands_within ctors n Root within ∙ ap (λ (x : Ctor). Some x) at in
+      let long : is_short c ≡ false = all_at (λ ctor. is_short ctor ≡ false) ctors n c are.long stands in
+      true≢false (sym (ap is_short (sym is) ∙ lt-ltb m (2 ^ 32) short) ∙ long)
+
+  one_key : (a b : CtorKey) (c : Ctor) → IsCtorKeyOf ctors a c → IsCtorKeyOf ctors b c → a ≡ b
+  one_key (keys.At m) (keys.At n) c first second =
+      ap keys.At (are.once m n c (stands_within ctors m Root first.0 ∙ ap (λ (x : Ctor). Some x) first.1) (stands_within ctors n Root second.0 ∙ ap (λ (x : Ctor). Some x) second.1))
+  one_key (keys.At m) (keys.Short n) c first second = absurd (not_both m n c first.0 first.1 second.0 second.1)
+  one_key (keys.Short m) (keys.At n) c first second = absurd (not_both n m c second.0 second.1 first.0 first.1)
+  one_key (keys.Short m) (keys.Short n) c first second = ap keys.Short (ap literal (first.1 ∙ sym second.1))
 
 module _ (ctors : List Ctor) (ctors_are : AreCtors ctors) (key : VertexKey) (v : Vertex) (key_is : IsKeyOf ctors key v) where
   has : HasCtor ctors key
-  has = within_from ctors key.ctor v.ctor key_is.1
+  has = key_is.1.0
 
   is : vertex_of ctors key ≡ v
-  is = vertex_from_fields (vertex_of ctors key) v key_is.0 (read_at ctors key.ctor Root v.ctor key_is.1)
+  is = vertex_from_fields (vertex_of ctors key) v key_is.0 key_is.1.1
 
   -- the key is the only one that stands for the vertex
   only : (other : VertexKey) → HasCtor ctors other → vertex_of ctors other ≡ v → other ≡ key
   only other had same =
       let name : other.name ≡ key.name = ap (λ (w : Vertex). w.name) same ∙ sym key_is.0 in
-      let stands : slice_get ctors other.ctor ≡ Some v.ctor = stands_within ctors other.ctor Root had ∙ ap (λ (w : Vertex). Some w.ctor) same in
-      let ctor : other.ctor ≡ key.ctor = ctors_are.once other.ctor key.ctor v.ctor stands key_is.1 in
+      let ctor : other.ctor ≡ key.ctor = one_key ctors ctors_are other.ctor key.ctor v.ctor (had, ap (λ (w : Vertex). w.ctor) same) key_is.1 in
       λ j. record { name = name j; ctor = ctor j }
 
   test_is_same : (other : VertexKey) → HasCtor ctors other → key_eq key other ≡ is_same_vertex (vertex_of ctors other) v
@@ -107,6 +130,7 @@ module _ (ctors : List Ctor) (ctors_are : AreCtors ctors) (key : VertexKey) (v :
     have_ctors = subst (AllByRecursion (HasCtor ctors)) (sym inserted) (have_by (list_any (key_eq key) keys));
     once = subst (λ ks. IsDistinct is_same_vertex (vertices_of ctors ks)) (sym inserted) (subst (IsDistinct is_same_vertex) (sym (vertices_after keys are)) (once_by (stands_in v vs) refl));
     few = few;
+    first = still_stands_at new keys 0 root_key (begins_inserted key_eq new keys key inserted) are.first;
   } where
     vs : List Vertex
     vs = vertices_of ctors keys
@@ -150,5 +174,8 @@ on_ok_both (Err e) f p q s = tt
 pub branch_key_is : (ctors : List Ctor) (key : VertexKey) (v : Vertex) → AreCtors ctors → (branch : Branch) × (key ≡ branch_key v.name branch) × (branch_ctor branch ≡ v.ctor) → IsKeyOf ctors key v
 branch_key_is ctors key v are found = (
   ap (λ (k : VertexKey). k.name) found.1,
-  ap (λ (k : VertexKey). slice_get ctors k.ctor) found.1 ∙ branch_stands ctors found.0 are ∙ ap (λ (c : Ctor). Some c) found.2,
-)
+  subst (λ (k : CtorKey). IsCtorKeyOf ctors k v.ctor) (sym (ap (λ (k : VertexKey). k.ctor) found.1))
+      (within_from ctors (branch_number found.0) (branch_ctor found.0) stands, read_at ctors (branch_number found.0) Root (branch_ctor found.0) stands ∙ found.2),
+) where
+  stands : slice_get ctors (branch_number found.0) ≡ Some (branch_ctor found.0)
+  stands = branch_stands ctors found.0 are

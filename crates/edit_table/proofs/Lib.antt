@@ -9,3 +9,4 @@ pub mod Orders
 pub mod Reading
 pub mod KeptRecords
 pub mod Canonical
+pub mod Renumbered

@@ -17,7 +17,7 @@ use Rattle.grove_edits.proofs.Orders.{edge_from_fields}
 use Rattle.edit_table.specs.declared.vertex_key.VertexKey.{VertexKey}
 use Rattle.edit_table.specs.declared.record.Record.{Record}
 use Rattle.edit_table.specs.Made.{is_good, made}
-use Rattle.edit_table.specs.Keys.{vertices_of, with_vertex, AreCtors, AreKeys, BeginsWith}
+use Rattle.edit_table.specs.Keys.{vertices_of, with_vertex, AreCtors, AreKeys, BeginsWith, root_key}
 use Rattle.edit_table.specs.Records.{edge_of, edit_of, edits_of, table_of, AreOf, AreRecords, IsRecord}
 use Rattle.edit_table.specs.Table.{AreEnds}
 use Rattle.edit_table.proofs.Lists.{all_pushed, begins_alike, begins_further, read_at, read_stays, within_from}
@@ -137,9 +137,6 @@ if_err (Err e) failed p = p
 
 -- ---- no records
 
-abbrev pub root_key : VertexKey
-root_key = record { name = record { author = 0; counter = 0 }; ctor = 0 }
-
 module _ (ctors : List Ctor) (none keys : List VertexKey) (records : List Record) (are : AreCtors ctors) (empty : none ≡ []) (one : keys ≡ insert_key key_eq none root_key) (no_records : records ≡ []) where
   key_alone : keys ≡ root_key ∷ []
   key_alone = one ∙ ap (λ ks. insert_key key_eq ks root_key) empty
@@ -157,6 +154,7 @@ module _ (ctors : List Ctor) (none keys : List VertexKey) (records : List Record
       have_ctors = (within_from ctors 0 Root (branch_stands ctors branch.Root are), tt);
       once = subst (IsDistinct is_same_vertex) (sym root_is) ends_of_none.once;
       few = omega arith;
+      first = refl;
     };
     records_are = record { once = subst (IsDistinct is_same_vertex) (sym root_is) ends_of_none.once; each = tt };
     few = omega arith;

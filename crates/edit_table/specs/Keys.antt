@@ -66,6 +66,10 @@ vertices_of ctors keys = map (vertex_of ctors) keys
 abbrev pub branch_key : Name → Branch → VertexKey
 branch_key name branch = record { name = name; ctor = At (branch_number branch) }
 
+-- the key of the root
+abbrev pub root_key : VertexKey
+root_key = record { name = record { author = 0; counter = 0 }; ctor = At 0 }
+
 -- a list begins with what it was before
 abbrev pub BeginsWith : {X : Type 0} → List X → List X → Type 0
 BeginsWith {X} after before = (more : List X) × (after ≡ before ++ more)
@@ -92,12 +96,13 @@ pub record AreCtors (ctors : List Ctor) : Type 0 where
   pub once : StandOnce ctors
   pub long : AllByRecursion (λ ctor. is_short ctor ≡ false) ctors
 
--- the keys are those of vertices, each of which stands once
+-- the keys are those of vertices, each of which stands once, and the root first
 pub record AreKeys (ctors : List Ctor) (keys : List VertexKey) : Type 0 where
   pub ctors_are : AreCtors ctors
   pub have_ctors : AllByRecursion (HasCtor ctors) keys
   pub once : IsDistinct is_same_vertex (vertices_of ctors keys)
   pub few : length keys < 2 ^ 32
+  pub first : slice_get keys 0 ≡ Some root_key
 
 -- the list with a vertex, which goes last where it does not stand there yet
 abbrev pub with_vertex : Vertex → List Vertex → List Vertex

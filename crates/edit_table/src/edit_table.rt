@@ -3,13 +3,13 @@ ghost use Rattle.grove_edits.specs.Graph.{graph, IsCanonical};
 ghost use Rattle.edit_table.specs.Table.{edge_at, kind_at, vertex_at, AreEnds, IsIndex, IsNumber};
 
 use crate::edit_table_builder::EditTableBuilder;
-use crate::lent_ctor::LentCtor;
+use crate::lending::lent_ctor;
 use crate::lent_vertex::LentVertex;
 use crate::no_memory::NoMemory;
 use crate::record::Record;
 use crate::table_edge::TableEdge;
 use crate::table_vertex::TableVertex;
-use crate::vertex_key::{CtorKey, VertexKey};
+use crate::vertex_key::VertexKey;
 use grove_edits::{EditKind, EditList};
 use grove_names::Name;
 use grove_sorts::{Ctor, Position};
@@ -95,13 +95,9 @@ impl EditTable {
         ensures { lent_vertex result ≡ vertex_at self.now number }
     {
         let key = self.keys[number];
-        let ctor = match key.ctor {
-            CtorKey::At(number) => LentCtor::At(&self.ctors[number as usize]),
-            CtorKey::Short(literal) => LentCtor::Literal(u64::from(literal)),
-        };
         LentVertex {
             name: key.name,
-            ctor,
+            ctor: lent_ctor(&self.ctors, key.ctor),
         }
     }
 

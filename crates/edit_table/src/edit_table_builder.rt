@@ -2,13 +2,12 @@ ghost use Rattle.std.specs.Prelude.{◌≡◌, ◌<◌, ◌^◌, [], ◌∷◌, 
 ghost use Rattle.grove_edits.specs.Graph.{graph, IsCanonical};
 ghost use Rattle.grove_edits.specs.Vertex.{root};
 
-use crate::comparing::compare_records;
 use crate::edit_table::EditTable;
-use crate::keeping::keep_last_of_each_edge;
 use crate::no_memory::NoMemory;
 use crate::numbering::{branch_ctors, push_record};
 use crate::record::Record;
 use crate::renumbering::renumber;
+use crate::sorting::make_canonical;
 use crate::vertex_key::{CtorKey, VertexKey};
 use grove_edits::{Edit, EditList, Vertex};
 use grove_sorts::Ctor;
@@ -113,11 +112,8 @@ impl EditTableBuilder {
             keys,
             mut records,
         } = self;
-        let ctors_in_order = ctors.as_slice();
-        let keys_in_order = keys.as_slice();
-        records.sort_unstable_by(|a, b| compare_records(ctors_in_order, keys_in_order, a, b));
-        keep_last_of_each_edge(&mut records);
-        let keys = renumber(alloc, keys_in_order, &mut records)?;
+        make_canonical(ctors.as_slice(), keys.as_slice(), &mut records);
+        let keys = renumber(alloc, keys.as_slice(), &mut records)?;
         Ok(EditTable {
             ctors,
             keys,

@@ -43,11 +43,10 @@ fn read_lines(
     let mut rest = lines;
     while let Some((line, after)) = split_at_first(rest, b'\n') {
         match read_line(version, line) {
-            Ok(edit) => {
-                if table.push(&edit).is_err() {
-                    return Err(TextFault::NoMemory);
-                }
-            }
+            Ok(edit) => match table.push(&edit) {
+                Ok(()) => {}
+                Err(NoMemory) => return Err(TextFault::NoMemory),
+            },
             Err(fault) => {
                 return Err(TextFault::Malformed {
                     line: next_line(&table),

@@ -6,24 +6,24 @@ use Rattle.edit_table.proofs.Keys.{same_vertices, keys_stay, vertices_after, key
 use Rattle.edit_table.proofs.numbering.target_number.Goals as goal
 
 -- the keys before, with the constructors that were met since
-before : (c : goal.After-key_number) → AreKeys c.ctor_number.new.ctors.keys c.args.keys.now.keys
-before c = keys_stay c.ctor_number.new.ctors.keys c.args.ctors.now.keys c.in_ok-ctor.ensures.stay c.args.keys.now.keys c.in_ok-ctor.ensures.ctors c.requires
+before : (c : goal.After-key_number) → AreKeys c.ctor_key.new.ctors.keys c.args.keys.now.keys
+before c = keys_stay c.ctor_key.new.ctors.keys c.args.ctors.now.keys c.in_ok-ctor.ensures.stay c.args.keys.now.keys c.in_ok-ctor.ensures.ctors c.requires
 
 abbrev key : goal.After-key_number → VertexKey
 key c = record { name = c.args.vertex.now.name; ctor = c.in_ok-ctor.ctor }
 
 pub returns-clause-vertices : goal.returns-clause-vertices
 returns-clause-vertices c =
-    let ctors = c.ctor_number.new.ctors.keys in
+    let ctors = c.ctor_key.new.ctors.keys in
     on_ok_weaker c.key_number.result
     (λ is. ap (vertices_of ctors) is
-    ∙ vertices_after ctors c.in_ok-ctor.ensures.ctors (key c) c.args.vertex.now (refl, c.in_ok-ctor.ensures.number) c.args.keys.now.keys (before c)
+    ∙ vertices_after ctors c.in_ok-ctor.ensures.ctors (key c) c.args.vertex.now (refl, c.in_ok-ctor.ensures.key) c.args.keys.now.keys (before c)
     ∙ ap (with_vertex c.args.vertex.now) (same_vertices ctors c.args.ctors.now.keys c.in_ok-ctor.ensures.stay c.args.keys.now.keys c.requires))
     c.key_number.ensures.keys
 
 pub returns-clause-keys : goal.returns-clause-keys
 returns-clause-keys c =
-    let ctors = c.ctor_number.new.ctors.keys in
+    let ctors = c.ctor_key.new.ctors.keys in
     on_ok_both c.key_number.result
-    (keys_after ctors c.in_ok-ctor.ensures.ctors (key c) c.args.vertex.now (refl, c.in_ok-ctor.ensures.number) c.args.keys.now.keys c.key_number.new.keys.keys)
+    (keys_after ctors c.in_ok-ctor.ensures.ctors (key c) c.args.vertex.now (refl, c.in_ok-ctor.ensures.key) c.args.keys.now.keys c.key_number.new.keys.keys)
     c.key_number.ensures.keys c.key_number.ensures.few (before c)
