@@ -1,10 +1,11 @@
 ghost use Rattle.std.specs.Prelude.{◌≡◌};
-ghost use Rattle.grove_edits.specs.Vertex.{is_same_vertex};
+ghost use Rattle.grove_edits.specs.Vertex.{is_same_vertex, vertex_cmp};
 ghost use Rattle.edit_table.specs.Lent.{lent_vertex};
 
 use crate::lent_ctor::LentCtor;
-use grove_edits::{Vertex, is_same_vertex};
+use grove_edits::Vertex;
 use grove_names::Name;
+use std::cmp::Ordering;
 
 /// A vertex as whoever keeps it lends it: its name, and its constructor.
 #[derive(Clone, Copy, Debug)]
@@ -35,16 +36,26 @@ impl<'g> LentVertex<'g> {
     }
 }
 
+/// The order of two lent vertices. Their constructors are read only where they share a name.
+pub fn compare_lent(a: &LentVertex, b: &LentVertex) -> Ordering
+    ensures { result ≡ vertex_cmp (lent_vertex a.now) (lent_vertex b.now) }
+{
+    match a.name.cmp(&b.name) {
+        Ordering::Equal => a.ctor.ctor().cmp(&b.ctor.ctor()),
+        unequal => unequal,
+    }
+}
+
 /// Whether two lent vertices are one, wherever each stands.
 pub fn is_same_lent(a: &LentVertex, b: &LentVertex) -> bool
     ensures { result ≡ is_same_vertex (lent_vertex a.now) (lent_vertex b.now) }
 {
-    is_same_vertex(&a.vertex(), &b.vertex())
+    compare_lent(a, b) == Ordering::Equal
 }
 
 /// Whether a lent vertex is this one.
 pub fn is_lent(lent: &LentVertex, vertex: &Vertex) -> bool
     ensures { result ≡ is_same_vertex (lent_vertex lent.now) vertex.now }
 {
-    is_same_vertex(&lent.vertex(), vertex)
+    is_same_lent(lent, &LentVertex::of(vertex))
 }

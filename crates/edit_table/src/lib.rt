@@ -17,14 +17,12 @@ mod renumbering;
 mod sorting;
 mod table_edge;
 mod table_vertex;
-#[cfg(test)]
-mod tests;
 mod vertex_key;
 
 pub use edit_table::EditTable;
 pub use edit_table_builder::EditTableBuilder;
 pub use lent_ctor::LentCtor;
-pub use lent_vertex::{LentVertex, is_lent, is_same_lent};
+pub use lent_vertex::{LentVertex, compare_lent, is_lent, is_same_lent};
 pub use no_memory::NoMemory;
 pub use table_edge::TableEdge;
 pub use table_vertex::TableVertex;

@@ -1,6 +1,6 @@
 -- The vertices of the graph of a list are the root and the ends of the list's edits.
-use Rattle.std.proofs.Common.{◌≡◌, ◌≢◌, ℕ, zero, suc, ◌<◌, Bool, true, false, cond, List, [], ◌∷◌, length, get_or, ◌⊎◌, inl, inr, refl, sym, ap, ◌∙◌, arith}
-use Rattle.std.specs.List.{Contains}
+use Rattle.std.proofs.Common.{◌≡◌, ◌≢◌, ℕ, zero, suc, ◌<◌, Bool, true, false, cond, List, [], ◌∷◌, length, get_or, ◌⊎◌, inl, inr, refl, sym, ap, subst, ◌∙◌, arith}
+use Rattle.std.specs.List.{Contains, IsDistinct}
 use Rattle.edge_lattice.specs.declared.state.State.{State}
 use Rattle.edge_lattice.specs.declared.state.State.TheVariants.{Absent, Live, Deleted}
 use Rattle.edge_lattice.specs.State.{state_join}
@@ -14,7 +14,8 @@ use Rattle.grove_edits.specs.Edit.{edit_edge, edit_kind}
 use Rattle.grove_edits.specs.Graph.{graph, state_of, is_same_edge}
 use Rattle.grove_edits.proofs.Orders.{one_edge, same_edge_laws}
 use Rattle.walks.specs.Whole.{IsVertexOf}
-use Rattle.graph_table.specs.Table.{IsEndIn}
+use Rattle.grove_edits.specs.Vertex.{is_same_vertex, stands_in}
+use Rattle.graph_table.specs.Table.{Table, IsEndIn, AreEnds}
 
 neither : (s t : State) → state_join s t ≡ Absent → (s ≡ Absent) × (t ≡ Absent)
 neither Absent t h = (refl, sym (Absent-state_join t) ∙ h)
@@ -62,3 +63,16 @@ vertex_is_end edits v (inr end) = inr (found.0, found.1, moved end.2) where
   moved : (end.0.source ≡ v) ⊎ (end.0.target ≡ v) → ((edit_edge found.0).source ≡ v) ⊎ ((edit_edge found.0).target ≡ v)
   moved (inl is) = inl (ap (λ (e : Edge). e.source) found.2 ∙ is)
   moved (inr is) = inr (ap (λ (e : Edge). e.target) found.2 ∙ is)
+
+-- the vertices of a table are those of its graph
+pub record IsWhole (table : Table) : Type 0 where
+  pub once : IsDistinct is_same_vertex table.vertices
+  pub each : (v : Vertex) → IsVertexOf (graph table.edits) v → stands_in v table.vertices ≡ true
+  pub no_other : (v : Vertex) → stands_in v table.vertices ≡ true → IsVertexOf (graph table.edits) v
+
+pub whole_in_view : (held table : Table) → held ≡ table → AreEnds held.edits held.vertices → IsWhole table
+whole_in_view held table view are = subst IsWhole view (record {
+  once = are.once;
+  each = λ v is_vertex. are.each v (vertex_is_end held.edits v is_vertex);
+  no_other = λ v stands. end_is_vertex held.edits v (are.no_other v stands);
+})

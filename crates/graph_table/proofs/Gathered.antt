@@ -1,19 +1,21 @@
 -- What is around the vertices after one more edit.
 use Rattle.std.proofs.Common.{◌≡◌, ℕ, zero, suc, ◌+◌, ◌<◌, Bool, true, false, cond, List, [], ◌∷◌, ◌++◌, length, get_or, set, take, slice_get, map, Some, replicate, refl, sym, ap, subst, ◌∙◌, arith}
-use Rattle.std.specs.Prelude.{◌&&◌}
+use Rattle.std.specs.Prelude.{◌&&◌, Option}
 use Rattle.std.specs.List.{IsDistinct, AllByRecursion}
 use Rattle.std.proofs.lemmas.List.{append-nil, take_more, length-map, length-take-le}
-use Rattle.std.proofs.lemmas.Option.{slice_get_within}
+use Rattle.std.proofs.lemmas.Option.{slice_get_within, get_or_from_slice_get}
 use Rattle.std.proofs.Math.Seq.{take-append_seam}
 use Rattle.std.proofs.Math.ListN.{length-set}
 use Rattle.std.proofs.lemmas.Map.Keys.{IsDistinct-head, IsDistinct-tail}
 use Rattle.grove_edits.specs.declared.vertex.Vertex.{Vertex}
+use Rattle.grove_sorts.specs.declared.position.Position.{Position}
 use Rattle.grove_edits.specs.declared.edit.Edit.{Edit}
+use Rattle.grove_edits.specs.declared.edit.EditKind.{EditKind}
 use Rattle.grove_edits.specs.Edit.{edit_edge, edit_kind}
 use Rattle.grove_edits.specs.Vertex.{is_same_vertex}
 use Rattle.grove_edits.proofs.Vertices.{same_vertex_laws, same_vertex_itself}
 use Rattle.graph_table.specs.declared.link.Link.{Link}
-use Rattle.graph_table.specs.Table.{is_insertion}
+use Rattle.graph_table.specs.Table.{Table, is_insertion, vertex_at, vertex_or_root, edge_at, edge_or_none, kind_at, kind_or_insert, IsNumber, IsIndex}
 use Rattle.graph_table.specs.Around.{Child, Ends, Neighbours, no_ends, no_neighbours, with_parent, first_indices, child, leads_from, leads_to, children_from, parents_from, neighbours, ends_at, with_last_at, with_parent_at, ends_noted, link_of}
 use Rattle.graph_table.specs.Chain.{AreAround}
 use Rattle.graph_table.proofs.Chains.{around_set, around_at, around_count, around_pushed, child_linked}
@@ -203,7 +205,7 @@ module _ (edits : List Edit) (edit : Edit) (vs : List Vertex) (i s t : ℕ) (lin
   before = map (neighbours (take i edits)) vs
 
   abbrev linked : List Link
-  linked = links ++ link_of edit s es ∷ []
+  linked = links ++ link_of (edit_edge edit).position s es ∷ []
 
   as_many : length es ≡ length vs
   as_many = around_count links es before kept ∙ length-map vs (neighbours (take i edits))
@@ -211,7 +213,7 @@ module _ (edits : List Edit) (edit : Edit) (vs : List Vertex) (i s t : ℕ) (lin
   source_set : AreAround linked (with_last_at s i es) (with_child_at s (child i (edit_edge edit)) before)
   source_set =
       around_set linked es before s (record { last = i + 1; parents = (ends_at es s).parents }) (record { children = (at before s).children ++ child i (edit_edge edit) ∷ []; parents = (at before s).parents })
-      (around_pushed links (link_of edit s es) es before kept)
+      (around_pushed links (link_of (edit_edge edit).position s es) es before kept)
       (child_linked links (ends_at es s) (at before s) (edit_edge edit).position i count
       (around_at links es before s no_ends no_neighbours kept (omega (arith, as_many, slice_get_within vs s _ at_source))))
 
@@ -224,17 +226,17 @@ module _ (edits : List Edit) (edit : Edit) (vs : List Vertex) (i s t : ℕ) (lin
       around_set linked first second t (record { last = (ends_at first t).last; parents = with_parent (ends_at first t).parents i })
       (record { children = (at second t).children; parents = with_parent (at second t).parents i }) source_set (here.0, ap (λ p. with_parent p i) here.1)
 
-  kept_noted : AreAround linked (ends_noted i edit s t es) (noted i edit s t before)
+  kept_noted : AreAround linked (ends_noted i (edit_kind edit) s t es) (noted i edit s t before)
   kept_noted = by_kind (is_insertion (edit_kind edit)) where
     by_kind : (b : Bool) → AreAround linked (cond b (with_parent_at t i (with_last_at s i es)) es) (cond b (with_parent_to t i (with_child_at s (child i (edit_edge edit)) before)) before)
     by_kind true = both_set
-    by_kind false = around_pushed links (link_of edit s es) es before kept
+    by_kind false = around_pushed links (link_of (edit_edge edit).position s es) es before kept
 
-  pub kept_more : new_links ≡ linked → new ≡ ends_noted i edit s t es → AreAround new_links new (map (neighbours (take (i + 1) edits)) vs)
+  pub kept_more : new_links ≡ linked → new ≡ ends_noted i (edit_kind edit) s t es → AreAround new_links new (map (neighbours (take (i + 1) edits)) vs)
   kept_more links_are are =
       subst (λ ls. AreAround ls new (map (neighbours (take (i + 1) edits)) vs)) (sym links_are)
       (subst (λ xs. AreAround linked xs (map (neighbours (take (i + 1) edits)) vs)) (sym are)
-      (subst (AreAround linked (ends_noted i edit s t es)) (noted_more edits edit vs i s t before (noted i edit s t before) once within read at_source at_target refl refl) kept_noted))
+      (subst (AreAround linked (ends_noted i (edit_kind edit) s t es)) (noted_more edits edit vs i s t before (noted i edit s t before) once within read at_source at_target refl refl) kept_noted))
 
   -- a slice that is written back whole
   pub whole : (len : ℕ) (rest : List Ends) → len ≡ length es → AreAround new_links new (map (neighbours (take (i + 1) edits)) vs)
@@ -244,8 +246,37 @@ module _ (edits : List Edit) (edit : Edit) (vs : List Vertex) (i s t : ℕ) (lin
       let all : len ≡ length new = is ∙ as_many ∙ sym same in
       subst (λ xs. AreAround new_links xs (map (neighbours (take (i + 1) edits)) vs)) (sym (ap (λ n. take n (new ++ rest)) all ∙ take-append_seam new rest)) after_is
 
-pub number_within : (f : Vertex → Neighbours) (links : List Link) (vs : List Vertex) (es : List Ends) (n : ℕ) (v : Vertex) → slice_get vs n ≡ Some v → AreAround links es (map f vs) → n < length es
-number_within f links vs es n v is are = omega (arith, slice_get_within vs n v is, around_count links es (map f vs) are, length-map vs f)
+-- what is read at an index
+pub some_at : {X : Type 0} (xs : List X) (i : ℕ) → i < length xs → (x : X) × (slice_get xs i ≡ Some x)
+some_at [] i within = absurd (omega (arith, within))
+some_at (x ∷ xs) zero within = (x, refl)
+some_at (x ∷ xs) (suc i) within = some_at xs i (omega (arith, within))
+
+-- the vertex with a number
+number_read : (table : Table) (n : ℕ) (v : Vertex) → IsNumber table n → vertex_at table n ≡ v → slice_get table.vertices n ≡ Some v
+number_read table n v within is =
+    let found = some_at table.vertices n within in
+    found.1 ∙ ap (λ (u : Vertex). Some u) (sym (ap vertex_or_root found.1) ∙ is)
+
+pub number_within : (f : Vertex → Neighbours) (links : List Link) (table : Table) (es : List Ends) (n : ℕ) → IsNumber table n → AreAround links es (map f table.vertices) → n < length es
+number_within f links table es n within are = omega (arith, within, around_count links es (map f table.vertices) are, length-map table.vertices f)
+
+-- one more edit of a table, as its parts are read
+module _ (table : Table) (i s t : ℕ) (kind : EditKind) (position : Position) (links new_links : List Link) (es new : List Ends) where
+  pub gathered_more : IsDistinct is_same_vertex table.vertices → IsIndex table i → IsNumber table s → vertex_at table s ≡ (edge_at table i).source → IsNumber table t → vertex_at table t ≡ (edge_at table i).target
+      → position ≡ (edge_at table i).position → kind ≡ kind_at table i → length links ≡ i → AreAround links es (map (neighbours (take i table.edits)) table.vertices)
+      → new_links ≡ links ++ link_of position s es ∷ [] → new ≡ ends_noted i kind s t es → (len : ℕ) (rest : List Ends) → len ≡ length es
+      → AreAround new_links (take len (new ++ rest)) (map (neighbours (take (i + 1) table.edits)) table.vertices)
+  gathered_more once within of_s source_is of_t target_is position_is kind_is count kept linked noted_now len rest lengths =
+      let found = some_at table.edits i within in
+      let edit = found.0 in
+      let read : edit ≡ get_or table.edits i edit = sym (get_or_from_slice_get table.edits i edit edit found.1) in
+      let at_source = number_read table s (edit_edge edit).source of_s (source_is ∙ ap (λ (o : Option Edit). (edge_or_none o).source) found.1) in
+      let at_target = number_read table t (edit_edge edit).target of_t (target_is ∙ ap (λ (o : Option Edit). (edge_or_none o).target) found.1) in
+      let link_is = linked ∙ ap (λ (p : Position). links ++ link_of p s es ∷ []) (position_is ∙ ap (λ (o : Option Edit). (edge_or_none o).position) found.1) in
+      let ends_are = noted_now ∙ ap (λ (k : EditKind). ends_noted i k s t es) (kind_is ∙ ap kind_or_insert found.1) in
+      let more = kept_more table.edits edit table.vertices i s t links new_links es new once within read at_source at_target count kept link_is ends_are in
+      whole table.edits edit table.vertices i s t links new_links es new once within read at_source at_target count kept len rest lengths more
 
 pub nothing_noted : (vs : List Vertex) → replicate (length vs) no_neighbours ≡ map (neighbours []) vs
 nothing_noted [] = refl

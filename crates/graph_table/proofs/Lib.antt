@@ -1,10 +1,5 @@
 pub mod Lives
 pub mod Ends
-pub mod NarrowEq
-pub mod Leaves
-pub mod NarrowKeys
-pub mod Numbers
-pub mod Homes
 pub mod Gathered
 pub mod Chains
 pub mod Positions

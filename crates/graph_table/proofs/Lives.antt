@@ -8,7 +8,6 @@ use Rattle.edge_lattice.specs.declared.state.State.{State}
 use Rattle.edge_lattice.specs.declared.state.State.TheVariants.{Absent, Live, Deleted}
 use Rattle.edge_lattice.specs.State.{state_join}
 use Rattle.edge_lattice.proofs.States.{Absent-state_join}
-use Rattle.grove_edits.specs.declared.vertex.Vertex.{Vertex}
 use Rattle.grove_edits.specs.declared.edge.Edge.{Edge}
 use Rattle.grove_edits.specs.declared.edit.Edit.{Edit}
 use Rattle.grove_edits.specs.declared.edit.EditKind.{EditKind}
@@ -83,5 +82,5 @@ are_live edits up = record {
 }
 
 -- what a table holds is what its view shows
-pub live_in_view : (edits : List Edit) (vertices : List Vertex) (table : Table) → record { edits = edits; vertices = vertices } ≡ table → Ascends edits → AreLive (graph table.edits) (live table)
-live_in_view edits vertices table view up = subst (λ (t : Table). AreLive (graph t.edits) (live t)) view (are_live edits up)
+pub live_in_view : (held table : Table) → held ≡ table → Ascends held.edits → AreLive (graph table.edits) (live table)
+live_in_view held table view up = subst (λ (t : Table). AreLive (graph t.edits) (live t)) view (are_live held.edits up)

@@ -1,9 +1,8 @@
 -- What a table that is read tells of the live edges.
-use Rattle.std.proofs.Common.{◌≡◌, ℕ, zero, suc, ◌+◌, ◌<◌, Bool, true, false, cond, List, [], ◌∷◌, length, get_or, slice_get, map, reverse, Some, refl, sym, ap, subst, ◌∙◌, arith}
+use Rattle.std.proofs.Common.{◌≡◌, ℕ, suc, ◌+◌, ◌<◌, Bool, true, false, cond, List, [], ◌∷◌, length, get_or, slice_get, map, reverse, refl, sym, ap, subst, ◌∙◌, arith}
 use Rattle.std.specs.Prelude.{◌&&◌}
 use Rattle.std.specs.List.{AllByRecursion}
 use Rattle.std.proofs.lemmas.List.{length-map}
-use Rattle.std.proofs.lemmas.Option.{slice_get_within}
 use Rattle.grove_sorts.specs.declared.position.Position.{Position}
 use Rattle.grove_edits.specs.declared.vertex.Vertex.{Vertex}
 use Rattle.grove_edits.specs.declared.edge.Edge.{Edge}
@@ -15,29 +14,13 @@ use Rattle.grove_edits.specs.Vertex.{is_same_vertex}
 use Rattle.grove_sorts.specs.Position.{is_same_position}
 use Rattle.graph_table.specs.declared.link.Link.{Link}
 use Rattle.graph_table.specs.Table.{Table, inserted, live, is_insertion, edge_at, edge_or_none, vertex_at, vertex_or_root, few_at, IsNumber, IsIndex}
-use Rattle.graph_table.specs.Numbering.{AreNumbersOf}
 use Rattle.graph_table.specs.Chain.{IsChain, IsChained, IsAround, AreAround}
 use Rattle.graph_table.specs.Around.{Child, Ends, no_neighbours, first_indices, child, indices_at, leads_from, children_from, parents_from, neighbours}
 use Rattle.graph_table.specs.declared.parents.Parents.{Parents}
 use Rattle.graph_table.specs.ParentIndices.{AreIndices}
 use Rattle.graph_table.proofs.ParentIndices.{are_indices}
-use Rattle.graph_table.proofs.Numbers.{end_numbered}
-use Rattle.graph_table.proofs.Gathered.{read_number}
+use Rattle.graph_table.proofs.Gathered.{some_at, read_number}
 use Rattle.graph_table.proofs.Chains.{around_at, around_count, indices_back}
-
-some_at : {X : Type 0} (xs : List X) (i : ℕ) → i < length xs → (x : X) × (slice_get xs i ≡ Some x)
-some_at [] i within = absurd (omega (arith, within))
-some_at (x ∷ xs) zero within = (x, refl)
-some_at (x ∷ xs) (suc i) within = some_at xs i (omega (arith, within))
-
--- ---- ends by number
-
-pub end_read : (end_of : Edge → Vertex) (table : Table) (numbers : List ℕ) → AreNumbersOf table.vertices numbers (map (λ edit. end_of (edit_edge edit)) table.edits) → (i n : ℕ) → IsIndex table i → n ≡ get_or numbers i n
-    → IsNumber table n × (vertex_at table n ≡ end_of (edge_at table i))
-end_read end_of table numbers are i n within read =
-    let found = some_at table.edits i within in
-    let at = end_numbered (λ edit. end_of (edit_edge edit)) table.vertices numbers table.edits are i n found.0 found.1 read in
-    (slice_get_within table.vertices n (end_of (edit_edge found.0)) at, ap vertex_or_root at ∙ sym (ap (λ o. end_of (edge_or_none o)) found.1))
 
 around_read : (table : Table) (links : List Link) (around : List Ends) → AreAround links around (map (neighbours table.edits) table.vertices) → (n : ℕ) → IsNumber table n
     → (here : Ends) → here ≡ get_or around n here → IsAround links here (neighbours table.edits (vertex_at table n))
@@ -166,11 +149,7 @@ pub number_inside : (table : Table) (links : List Link) (around : List Ends) →
 number_inside table links around kept n within =
     omega (arith, around_count links around (map (neighbours table.edits) table.vertices) kept, length-map table.vertices (neighbours table.edits), within)
 
--- the parts of a table that its view shows
-pub kept_in_view : (edits : List Edit) (vertices : List Vertex) (table : Table) (links : List Link) (around : List Ends) → record { edits = edits; vertices = vertices } ≡ table
-    → AreAround links around (map (neighbours edits) vertices) → AreAround links around (map (neighbours table.edits) table.vertices)
-kept_in_view edits vertices table links around view kept = subst (λ (t : Table). AreAround links around (map (neighbours t.edits) t.vertices)) view kept
-
-pub ends_in_view : (ends_of : List Edit → List Vertex) (edits : List Edit) (vertices : List Vertex) (table : Table) (numbers : List ℕ) → record { edits = edits; vertices = vertices } ≡ table
-    → AreNumbersOf vertices numbers (ends_of edits) → AreNumbersOf table.vertices numbers (ends_of table.edits)
-ends_in_view ends_of edits vertices table numbers view are = subst (λ (t : Table). AreNumbersOf t.vertices numbers (ends_of t.edits)) view are
+-- what is kept of a table that its view shows
+pub kept_in_view : (table graph : Table) (links : List Link) (around : List Ends) → table ≡ graph
+    → AreAround links around (map (neighbours table.edits) table.vertices) → AreAround links around (map (neighbours graph.edits) graph.vertices)
+kept_in_view table graph links around view kept = subst (λ (t : Table). AreAround links around (map (neighbours t.edits) t.vertices)) view kept

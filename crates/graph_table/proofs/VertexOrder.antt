@@ -1,21 +1,19 @@
 -- Vertices of a table by their names and numbers, and their order.
-use Rattle.std.proofs.Common.{◌≡◌, ℕ, ◌+◌, ◌<◌, false, List, [], ◌∷◌, ◌++◌, length, get_or, map, Ordering, Less, Equal, Greater, is_lt, refl, sym, ap, subst, ◌∙◌, arith}
-use Rattle.std.specs.Ordering.{ordering_then, nat_cmp}
+use Rattle.std.proofs.Common.{◌≡◌, ℕ, ◌+◌, ◌<◌, List, [], ◌∷◌, ◌++◌, length, get_or, map, Ordering, is_lt, refl, sym, ap, subst, ◌∙◌, arith}
 use Rattle.std.specs.Option.{option_map}
 use Rattle.std.specs.List.{AllByRecursion}
 use Rattle.std.specs.List.Sorted.{IsPermutation, IsSorted}
+use Rattle.std.specs.Cmp.{IsStrictWeakOrder}
+use Rattle.std.proofs.lemmas.List.Sorted.{ranks_by}
+use Rattle.grove_edits.proofs.Orders.{vertex_cmp_total}
+use Rattle.edit_table.specs.Lent.{lent_vertex}
 use Rattle.std.proofs.lemmas.List.{length-map, map-append}
 use Rattle.std.proofs.lemmas.List.Elements.{recursion_from_All, All-from_recursion, All-push}
 use Rattle.std.proofs.lemmas.List.Sorted.{IsPermutation-map, All-permutation}
 use Rattle.std.proofs.lemmas.Option.{slice_get-map, slice_get-get_or, get_or_from_slice_get}
 use Rattle.grove_edits.specs.declared.vertex.Vertex.{Vertex}
 use Rattle.grove_edits.specs.Vertex.{vertex_cmp}
-use Rattle.grove_edits.specs.contracts.vertex.VertexOrd.TheImpl as vertex_impl
-use Rattle.grove_edits.proofs.Orders.{cmp_is_vertex_cmp}
-use Rattle.grove_names.specs.declared.name.Name.{Name}
-use Rattle.grove_names.specs.contracts.name.NameOrd.TheImpl as name_impl
 use Rattle.graph_table.specs.declared.named_vertex.NamedVertex.{NamedVertex}
-use Rattle.graph_table.specs.contracts.named_vertex.NamedVertexOrd.TheImpl as impl
 use Rattle.graph_table.specs.Table.{Table, vertex_at, IsNumber}
 use Rattle.graph_table.specs.Named.{vertices_of, numbers_of, IsNamed}
 
@@ -33,52 +31,40 @@ named-pushed table xs ys n named is all =
 
 -- ---- vertices in order
 
-first_not_less : (o p : Ordering) → is_lt (ordering_then o p) ≡ false → is_lt o ≡ false
-first_not_less Less p h = h
-first_not_less Equal p h = refl
-first_not_less Greater p h = refl
+-- named vertices are ordered as their vertices
+abbrev pub named_cmp : NamedVertex → NamedVertex → Ordering
+named_cmp a b = vertex_cmp (lent_vertex a.vertex) (lent_vertex b.vertex)
 
--- where neither the name nor the vertex is less, the vertex is not
-vertex_not_less : (name ctor number : Ordering) → is_lt (ordering_then name (ordering_then (ordering_then name ctor) number)) ≡ false → is_lt (ordering_then name ctor) ≡ false
-vertex_not_less Less ctor number h = h
-vertex_not_less Equal ctor number h = first_not_less ctor number h
-vertex_not_less Greater ctor number h = refl
+pub named_rank : IsStrictWeakOrder (λ a b. is_lt (named_cmp a b))
+named_rank = ranks_by vertex_cmp_total (λ (n : NamedVertex). lent_vertex n.vertex)
 
-get_mapped : (xs : List NamedVertex) (k : ℕ) (n : NamedVertex) (d : Vertex) → k < length xs → get_or (vertices_of xs) k d ≡ (get_or xs k n).vertex.now
+get_mapped : (xs : List NamedVertex) (k : ℕ) (n : NamedVertex) (d : Vertex) → k < length xs → get_or (vertices_of xs) k d ≡ lent_vertex (get_or xs k n).vertex
 get_mapped xs k n d lt =
-    get_or_from_slice_get (vertices_of xs) k (get_or xs k n).vertex.now d
-    (slice_get-map (λ (m : NamedVertex). m.vertex.now) xs k ∙ ap (option_map (λ (m : NamedVertex). m.vertex.now)) (slice_get-get_or xs k n lt))
+    get_or_from_slice_get (vertices_of xs) k (lent_vertex (get_or xs k n).vertex) d
+    (slice_get-map (λ (m : NamedVertex). lent_vertex m.vertex) xs k ∙ ap (option_map (λ (m : NamedVertex). lent_vertex m.vertex)) (slice_get-get_or xs k n lt))
 
-not_less : (table : Table) (a b : NamedVertex) → IsNamed table a → IsNamed table b → is_lt (impl.ghosts.cmp a b) ≡ false → is_lt (vertex_cmp a.vertex.now b.vertex.now) ≡ false
-not_less table a b named_a named_b h =
-    ap is_lt (sym (cmp_is_vertex_cmp a.vertex.now b.vertex.now)) ∙ vertex_not_less (name_impl.ghosts.cmp a.vertex.now.name b.vertex.now.name) _ (nat_cmp a.number b.number)
-    (ap (λ (x : Name). is_lt (ordering_then (name_impl.ghosts.cmp x b.vertex.now.name) (ordering_then (vertex_impl.ghosts.cmp a.vertex.now b.vertex.now) (nat_cmp a.number b.number)))) (sym named_a.name)
-    ∙ ap (λ (y : Name). is_lt (ordering_then (name_impl.ghosts.cmp a.name y) (ordering_then (vertex_impl.ghosts.cmp a.vertex.now b.vertex.now) (nat_cmp a.number b.number)))) (sym named_b.name) ∙ h)
-
-vertices_sorted : (table : Table) (xs : List NamedVertex) → AllByRecursion (IsNamed table) xs → IsSorted impl.ghosts.cmp xs → IsSorted vertex_cmp (vertices_of xs)
-vertices_sorted table [] all up k d low high = absurd (omega arith)
-vertices_sorted table (n ∷ ns) all up k d low high =
+vertices_sorted : (xs : List NamedVertex) → IsSorted named_cmp xs → IsSorted vertex_cmp (vertices_of xs)
+vertices_sorted [] up k d low high = absurd (omega arith)
+vertices_sorted (n ∷ ns) up k d low high =
     let xs = n ∷ ns in
-    let within : k + 1 < length xs = omega (arith, length-map xs (λ (m : NamedVertex). m.vertex.now)) in
+    let within : k + 1 < length xs = omega (arith, length-map xs (λ (m : NamedVertex). lent_vertex m.vertex)) in
     let a = get_or xs (k + 1) n in
-    let b = get_or xs k n in
-    let named = All-from_recursion (IsNamed table) xs all in
     ap (λ (v : Vertex). is_lt (vertex_cmp v (get_or (vertices_of xs) k d))) (get_mapped xs (k + 1) n d within)
-    ∙ ap (λ (v : Vertex). is_lt (vertex_cmp a.vertex.now v)) (get_mapped xs k n d (omega arith))
-    ∙ not_less table a b (named (k + 1) n within) (named k n (omega arith)) (up k n low within)
+    ∙ ap (λ (v : Vertex). is_lt (vertex_cmp (lent_vertex a.vertex) v)) (get_mapped xs k n d (omega arith))
+    ∙ up k n low within
 
 -- ---- the numbers of a list in order
 
 numbers_told : (table : Table) (xs : List NamedVertex) → AllByRecursion (IsNamed table) xs → map (vertex_at table) (numbers_of xs) ≡ vertices_of xs
 numbers_told table [] all = refl
-numbers_told table (n ∷ xs) all = ap (λ v. v ∷ map (vertex_at table) (numbers_of xs)) all.0.vertex ∙ ap (λ vs. n.vertex.now ∷ vs) (numbers_told table xs all.1)
+numbers_told table (n ∷ xs) all = ap (λ v. v ∷ map (vertex_at table) (numbers_of xs)) all.0.vertex ∙ ap (λ vs. lent_vertex n.vertex ∷ vs) (numbers_told table xs all.1)
 
 numbers_within : (table : Table) (xs : List NamedVertex) → AllByRecursion (IsNamed table) xs → AllByRecursion (IsNumber table) (numbers_of xs)
 numbers_within table [] all = tt
 numbers_within table (n ∷ xs) all = (all.0.number, numbers_within table xs all.1)
 
 -- a list of numbers with their vertices, before and after it is sorted, and the numbers that are read off it
-module _ (table : Table) (xs ys : List NamedVertex) (all : AllByRecursion (IsNamed table) xs) (moved : IsPermutation xs ys) (up : IsSorted impl.ghosts.cmp ys) (sorted : List ℕ) (read : sorted ≡ numbers_of ys) where
+module _ (table : Table) (xs ys : List NamedVertex) (all : AllByRecursion (IsNamed table) xs) (moved : IsPermutation xs ys) (up : IsSorted named_cmp ys) (sorted : List ℕ) (read : sorted ≡ numbers_of ys) where
   all_moved : AllByRecursion (IsNamed table) ys
   all_moved = recursion_from_All (IsNamed table) ys (All-permutation (IsNamed table) xs ys moved (All-from_recursion (IsNamed table) xs all))
 
@@ -86,7 +72,7 @@ module _ (table : Table) (xs ys : List NamedVertex) (all : AllByRecursion (IsNam
   same_numbers numbers are = subst (IsPermutation numbers) (sym read) (subst (λ (ns : List ℕ). IsPermutation ns (numbers_of ys)) are (IsPermutation-map (λ (n : NamedVertex). n.number) xs ys moved))
 
   pub numbers_in_order : IsSorted vertex_cmp (map (vertex_at table) sorted)
-  numbers_in_order = subst (IsSorted vertex_cmp) (sym (ap (map (vertex_at table)) read ∙ numbers_told table ys all_moved)) (vertices_sorted table ys all_moved up)
+  numbers_in_order = subst (IsSorted vertex_cmp) (sym (ap (map (vertex_at table)) read ∙ numbers_told table ys all_moved)) (vertices_sorted ys up)
 
   pub numbers_of_table : AllByRecursion (IsNumber table) sorted
   numbers_of_table = subst (AllByRecursion (IsNumber table)) (sym read) (numbers_within table ys all_moved)

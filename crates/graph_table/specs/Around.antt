@@ -5,6 +5,7 @@ use Rattle.grove_sorts.specs.declared.position.Position.{Position}
 use Rattle.grove_edits.specs.declared.vertex.Vertex.{Vertex}
 use Rattle.grove_edits.specs.declared.edge.Edge.{Edge}
 use Rattle.grove_edits.specs.declared.edit.Edit.{Edit}
+use Rattle.grove_edits.specs.declared.edit.EditKind.{EditKind}
 use Rattle.grove_edits.specs.Edit.{edit_edge, edit_kind}
 use Rattle.grove_edits.specs.Vertex.{is_same_vertex}
 use Rattle.grove_sorts.specs.Position.{is_same_position}
@@ -91,9 +92,9 @@ with_last_at number index ends = set ends number (record { last = index + 1; par
 abbrev pub with_parent_at : ℕ → ℕ → List Ends → List Ends
 with_parent_at number index ends = set ends number (record { last = (ends_at ends number).last; parents = with_parent (ends_at ends number).parents index })
 
--- what is kept of the vertices after an edit with an index, whose ends have these numbers
-abbrev pub ends_noted : ℕ → Edit → ℕ → ℕ → List Ends → List Ends
-ends_noted index edit source target ends = if is_insertion (edit_kind edit) then with_parent_at target index (with_last_at source index ends) else ends
+-- what is kept of the vertices after an edit of a kind with an index, whose ends have these numbers
+abbrev pub ends_noted : ℕ → EditKind → ℕ → ℕ → List Ends → List Ends
+ends_noted index kind source target ends = if is_insertion kind then with_parent_at target index (with_last_at source index ends) else ends
 
-abbrev pub link_of : Edit → ℕ → List Ends → Link
-link_of edit source ends = record { position = (edit_edge edit).position; before = (ends_at ends source).last }
+abbrev pub link_of : Position → ℕ → List Ends → Link
+link_of position source ends = record { position = position; before = (ends_at ends source).last }

@@ -1,8 +1,5 @@
 pub mod Table
 pub mod Named
-pub mod Homes
-pub mod Narrow
-pub mod Numbering
 pub mod Around
 pub mod Chain
 pub mod Parts

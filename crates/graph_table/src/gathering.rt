@@ -1,13 +1,13 @@
-ghost use Rattle.std.specs.Prelude.{◌≡◌, ◌<◌, ◌+◌, ◌^◌, ◌++◌, ◌∷◌, [], length, map, replicate, IfOk, OnOk};
-ghost use Rattle.graph_table.specs.Numbering.{AreNumbered};
+ghost use Rattle.std.specs.Prelude.{◌≡◌, ◌<◌, ◌+◌, ◌^◌, ◌++◌, ◌∷◌, [], length, map, replicate, IfOk};
 ghost use Rattle.graph_table.specs.Around.{no_ends, neighbours, ends_noted, with_last_at, with_parent_at, link_of};
 ghost use Rattle.graph_table.specs.Chain.{AreAround};
 
 use crate::around::Around;
 use crate::link::Link;
 use crate::no_memory::NoMemory;
-use crate::numbering::Numbering;
-use grove_edits::{Edit, EditKind};
+use edit_table::EditTable;
+use grove_edits::EditKind;
+use grove_sorts::Position;
 use std::alloc::Global;
 
 /// What is around each vertex by number, and a link for each edit by index.
@@ -43,56 +43,44 @@ fn add_parent(around: &mut [Around], number: usize, index: usize)
     around[number].add_parent(index)
 }
 
-/// Notes an edit with an index, whose ends have these numbers.
-fn note(around: &mut [Around], index: usize, edit: &Edit, source: usize, target: usize)
+/// Notes an edit of a kind with an index, whose ends have these numbers.
+fn note(around: &mut [Around], index: usize, kind: EditKind, source: usize, target: usize)
     requires source { source < length around.old }
     requires target { target < length around.old }
     requires index { index + 1 < 2 ^ 32 }
-    ensures { around.new ≡ ends_noted index edit.now source target around.old }
+    ensures { around.new ≡ ends_noted index kind source target around.old }
 {
-    if edit.kind() == EditKind::Insert {
+    if kind == EditKind::Insert {
         set_last(around, source, index);
         add_parent(around, target, index);
     }
 }
 
-fn link(around: &[Around], edit: &Edit, source: usize) -> Link
+fn link(around: &[Around], position: Position, source: usize) -> Link
     requires { source < length around.now }
-    ensures { result ≡ link_of edit.now source around.now }
+    ensures { result ≡ link_of position source around.now }
 {
     Link {
-        position: edit.position(),
+        position,
         before: around[source].last(),
     }
 }
 
-// Indices and those that are one more are kept in 32 bits.
-fn want_indices(edits: &[Edit]) -> Result<(), NoMemory>
-    ensures { OnOk result (length edits.now + 1 < 2 ^ 32) }
+pub(crate) fn gather(alloc: Global, table: &EditTable) -> Result<Gathered, NoMemory>
+    ensures { IfOk result (λ gathered. AreAround gathered.links.items gathered.around.items (map (neighbours table.now.edits) table.now.vertices)) }
 {
-    if edits.len() >= u32::MAX as usize {
-        return Err(NoMemory);
-    }
-    Ok(())
-}
-
-pub(crate) fn gather(
-    alloc: Global,
-    edits: &[Edit],
-    numbering: &Numbering,
-) -> Result<Gathered, NoMemory>
-    requires { AreNumbered edits.now numbering.now.numbers numbering.now.sources.items numbering.now.targets.items }
-    ensures { IfOk result (λ gathered. AreAround gathered.links.items gathered.around.items (map (neighbours edits.now) numbering.now.numbers)) }
-{
-    want_indices(edits)?;
-    let mut around = nothing_around(alloc, numbering.numbers.len())?;
-    let mut links = Vec::with_capacity(alloc, edits.len())?;
-    for index in 0..edits.len() {
-        let source = numbering.sources[index] as usize;
-        let target = numbering.targets[index] as usize;
-        let edit = &edits[index];
-        links.push(link(&around, edit, source))?;
-        note(&mut around, index, edit, source, target);
+    let mut around = nothing_around(alloc, table.vertex_count())?;
+    let mut links = Vec::with_capacity(alloc, table.len())?;
+    for index in 0..table.len() {
+        let source = table.source(index);
+        links.push(link(&around, table.position(index), source))?;
+        note(
+            &mut around,
+            index,
+            table.kind(index),
+            source,
+            table.target(index),
+        );
     }
     Ok(Gathered { around, links })
 }

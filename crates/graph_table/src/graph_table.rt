@@ -1,39 +1,33 @@
-ghost use Rattle.std.specs.Prelude.{◌≡◌, ◌<◌, true, [], length, map, IfOk, OnOk, OnErr};
+ghost use Rattle.std.specs.Prelude.{◌≡◌, true, [], length, map, IfOk, OnOk, OnErr};
 ghost use Rattle.std.specs.List.{AllByRecursion, IsDistinct};
 ghost use Rattle.std.specs.List.Sorted.{IsPermutation, IsSorted};
 ghost use Rattle.grove_edits.specs.declared.vertex.Vertex.{Vertex};
-ghost use Rattle.grove_edits.specs.Edit.{edit_edge};
 ghost use Rattle.grove_edits.specs.Graph.{graph, Ascends};
 ghost use Rattle.walks.specs.Few.{first_two};
 ghost use Rattle.walks.specs.Live.{parents_of, children_of};
 ghost use Rattle.grove_edits.specs.Vertex.{vertex_cmp, stands_in, is_same_vertex};
 ghost use Rattle.walks.specs.Whole.{AreLive, IsVertexOf};
+ghost use Rattle.edit_table.specs.TableEdge.{table_edge};
+ghost use Rattle.edit_table.specs.TableVertex.{table_vertex};
 ghost use Rattle.graph_table.specs.ParentIndices.{AreIndices};
 ghost use Rattle.graph_table.specs.Table.{live, vertex_at, edge_at, few_at, IsNumber, IsIndex};
 
 use crate::around::Around;
 use crate::following::children_at;
 use crate::gathering::{Gathered, gather};
-use crate::home::Home;
 use crate::link::Link;
 use crate::no_memory::NoMemory;
-use crate::numbering::Numbering;
 use crate::ordering::in_vertex_order;
 use crate::parents::Parents;
-use grove_edits::{Edit, EditList, Vertex};
+use edit_table::{EditTable, TableEdge, TableVertex};
 use grove_sorts::Position;
-use seeded_hash::HashSeed;
 use std::alloc::Global;
 use std::marker::Model;
 
 /// A graph by numbers. Contracts see its edits and its vertices, in the order of their numbers.
 #[derive(Drop)]
 pub struct GraphTable {
-    edits: EditList,
-    own: Vec<Vertex>,
-    homes: Vec<Home>,
-    sources: Vec<u32>,
-    targets: Vec<u32>,
+    table: EditTable,
     links: Vec<Link>,
     around: Vec<Around>,
 }
@@ -43,45 +37,23 @@ impl Model for GraphTable {
 
     ghost Value = { Table };
 
-    ghost use Rattle.graph_table.specs.Parts.{IsTable};
-    ghost use Rattle.graph_table.specs.Homes.{vertices_in};
+    ghost use Rattle.graph_table.specs.Parts.{IsGraph};
 
-    ghost view = { λ table. record { edits = table.edits; vertices = vertices_in table.edits table.own.items table.homes.items } };
+    ghost view = { λ graph. graph.table };
 
-    ghost invariant = { λ table. IsTable table.edits table.own.items table.homes.items table.sources.items table.targets.items table.links.items table.around.items };
+    ghost invariant = { λ graph. IsGraph graph.table graph.links.items graph.around.items };
 }
 
 impl GraphTable {
-    /// The table of a canonical list whose vertices are trusted.
-    pub fn of(alloc: Global, edits: EditList) -> Result<GraphTable, NoMemory>
-        requires { Ascends edits }
-        ensures edits { IfOk result (λ table. table.edits ≡ edits) }
-        ensures live { IfOk result (λ table. AreLive (graph edits) (live table)) }
+    /// The graph of a table whose edits ascend.
+    pub fn of(alloc: Global, table: EditTable) -> Result<GraphTable, NoMemory>
+        requires { Ascends table.edits }
+        ensures edits { IfOk result (λ numbered. numbered.edits ≡ table.edits) }
+        ensures live { IfOk result (λ numbered. AreLive (graph table.edits) (live numbered)) }
     {
-        GraphTable::with_seed(alloc, edits, HashSeed::FIXED)
-    }
-
-    /// The table of a canonical list, which tells its vertices apart by their hash under a seed.
-    pub fn with_seed(alloc: Global, edits: EditList, seed: HashSeed) -> Result<GraphTable, NoMemory>
-        requires { Ascends edits }
-        ensures edits { IfOk result (λ table. table.edits ≡ edits) }
-        ensures live { IfOk result (λ table. AreLive (graph edits) (live table)) }
-    {
-        let numbering = Numbering::of(alloc, edits.as_slice(), seed)?;
-        let Gathered { around, links } = gather(alloc, edits.as_slice(), &numbering)?;
-        let Numbering {
-            numbers: _,
-            own,
-            homes,
-            sources,
-            targets,
-        } = numbering;
+        let Gathered { around, links } = gather(alloc, &table)?;
         Ok(GraphTable {
-            edits,
-            own,
-            homes,
-            sources,
-            targets,
+            table,
             links,
             around,
         })
@@ -94,7 +66,7 @@ impl GraphTable {
         ensures each { (v : Vertex) → IsVertexOf (graph self.now.edits) v → stands_in v self.now.vertices ≡ true }
         ensures no_other { (v : Vertex) → stands_in v self.now.vertices ≡ true → IsVertexOf (graph self.now.edits) v }
     {
-        self.homes.len()
+        self.table.vertex_count()
     }
 
     /// Some numbers, in the order of their vertices.
@@ -104,26 +76,23 @@ impl GraphTable {
         ensures order { IfOk result (λ list. IsSorted vertex_cmp (map (vertex_at self.now) list.items)) }
         ensures numbers { IfOk result (λ list. AllByRecursion (IsNumber self.now) list.items) }
     {
-        in_vertex_order(alloc, self, numbers)
+        in_vertex_order(alloc, &self.table, numbers)
     }
 
-    /// The edit at an index, where it stands.
-    pub fn edit_ref(&self, index: usize) -> &Edit
+    /// The edge of the edit at an index, as the table lends it.
+    pub fn edge(&self, index: usize) -> TableEdge<'_>
         requires { IsIndex self.now index }
-        ensures { edit_edge result.now ≡ edge_at self.now index }
+        ensures { table_edge result ≡ edge_at self.now index }
     {
-        &self.edits.as_slice()[index]
+        self.table.edge(index)
     }
 
-    /// The vertex with a number, where it stands.
-    pub fn vertex(&self, number: usize) -> &Vertex
+    /// The vertex with a number, as the table lends it.
+    pub fn vertex(&self, number: usize) -> TableVertex<'_>
         requires { IsNumber self.now number }
-        ensures { result.now ≡ vertex_at self.now number }
+        ensures { table_vertex result ≡ vertex_at self.now number }
     {
-        match self.homes[number] {
-            Home::Own(index) => &self.own[index as usize],
-            Home::Target(index) => self.edit_ref(index as usize).target(),
-        }
+        self.table.vertex(number)
     }
 
     /// The number of the vertex from which the edge at an index leads.
@@ -132,7 +101,7 @@ impl GraphTable {
         ensures number { IsNumber self.now result }
         ensures source { vertex_at self.now result ≡ (edge_at self.now index).source }
     {
-        self.sources[index] as usize
+        self.table.source(index)
     }
 
     /// The number of the vertex to which the edge at an index leads.
@@ -141,7 +110,7 @@ impl GraphTable {
         ensures number { IsNumber self.now result }
         ensures target { vertex_at self.now result ≡ (edge_at self.now index).target }
     {
-        self.targets[index] as usize
+        self.table.target(index)
     }
 
     /// The live edges to the vertex with a number: the least two in edge order, or fewer where there are fewer.

@@ -1,11 +1,8 @@
-use grove_edits::Vertex;
-use grove_names::Name;
+use edit_table::LentVertex;
 
-/// A vertex where it stands, and its number, ordered by the vertex. Its name comes first, so that the rest of a vertex, which is wide
-/// and lies elsewhere, is read only where two share a name.
-#[derive(Clone, Copy, PartialEq, Eq, PartialOrd, Ord)]
+/// A vertex as a table lends it, and its number.
+#[derive(Clone, Copy)]
 pub(crate) struct NamedVertex<'t> {
-    pub(crate) name: Name,
-    pub(crate) vertex: &'t Vertex,
+    pub(crate) vertex: LentVertex<'t>,
     pub(crate) number: u32,
 }

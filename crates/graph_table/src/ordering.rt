@@ -5,15 +5,15 @@ ghost use Rattle.grove_edits.specs.Vertex.{vertex_cmp};
 ghost use Rattle.graph_table.specs.Table.{vertex_at, IsNumber};
 ghost use Rattle.graph_table.specs.Named.{numbers_of, IsNamed};
 
-use crate::graph_table::GraphTable;
 use crate::named_vertex::NamedVertex;
 use crate::no_memory::NoMemory;
+use edit_table::{EditTable, compare_lent};
 use std::alloc::Global;
 
 // Some numbers of vertices, in vertex order.
 pub(crate) fn in_vertex_order(
     alloc: Global,
-    table: &GraphTable,
+    table: &EditTable,
     numbers: &[u32],
 ) -> Result<Vec<u32>, NoMemory>
     requires { AllByRecursion (IsNumber table.now) numbers.now }
@@ -22,13 +22,13 @@ pub(crate) fn in_vertex_order(
     ensures numbers { IfOk result (λ list. AllByRecursion (IsNumber table.now) list.items) }
 {
     let mut list = named_vertices(alloc, table, numbers)?;
-    list.sort_unstable();
+    list.sort_unstable_by(|a, b| compare_lent(&a.vertex, &b.vertex));
     numbers_of(alloc, &list)
 }
 
 fn named_vertices<'t>(
     alloc: Global,
-    table: &'t GraphTable,
+    table: &'t EditTable,
     numbers: &[u32],
 ) -> Result<Vec<NamedVertex<'t>>, NoMemory>
     requires { AllByRecursion (IsNumber table.now) numbers.now }
@@ -37,10 +37,8 @@ fn named_vertices<'t>(
 {
     let mut list = Vec::with_capacity(alloc, numbers.len())?;
     for number in numbers {
-        let vertex = table.vertex(*number as usize);
         list.push(NamedVertex {
-            name: vertex.name,
-            vertex,
+            vertex: table.lent(*number as usize),
             number: *number,
         })?;
     }

@@ -1,7 +1,9 @@
+use edit_table::{EditTable, is_same_lent};
 use graph_table::*;
 use grove_edits::{Edge, Edit, EditKind, EditList, Vertex};
 use grove_names::Name;
 use grove_sorts::{Ctor, Position, Version, read_ident};
+use seeded_hash::HashSeed;
 use std::alloc::Global;
 use std::test::Fail;
 
@@ -29,6 +31,12 @@ fn edit(
     Ok(Edit::new(kind, edge)?)
 }
 
+// The graph of some edits, by number.
+fn graph_of(alloc: Global, edits: EditList) -> Result<GraphTable, Fail> {
+    let table = EditTable::of_list(alloc, &edits, HashSeed::FIXED)?;
+    Ok(GraphTable::of(alloc, table)?)
+}
+
 // A sum with two children on its left, one of which is on its right too, and a third child that was deleted.
 fn sum(alloc: Global) -> Result<GraphTable, Fail> {
     let plus = vertex(1, Ctor::Plus);
@@ -49,7 +57,7 @@ fn sum(alloc: Global) -> Result<GraphTable, Fail> {
         )?,
         edit(EditKind::Insert, 2, Vertex::ROOT, Position::Main, plus)?,
     ])?;
-    Ok(GraphTable::of(alloc, list.into_canonical())?)
+    graph_of(alloc, list)
 }
 
 #[test]
@@ -59,8 +67,8 @@ fn vertices_have_numbers_and_an_order(rt: HostRuntime) -> Result<(), Fail> {
     assert!(rt; table.number_count() == 5);
     let numbers = table.sort_numbers(rt.alloc(), &[4, 3, 2, 1, 0])?;
     assert!(rt; numbers.as_slice() == [0, 1, 3, 4, 2].as_slice());
-    assert!(rt; *table.vertex(0) == Vertex::ROOT);
-    assert!(rt; *table.vertex(1) == vertex(1, Ctor::Plus));
+    assert!(rt; table.vertex(0).lent().vertex() == Vertex::ROOT);
+    assert!(rt; table.vertex(1).lent().vertex() == vertex(1, Ctor::Plus));
     Ok(())
 }
 
@@ -93,7 +101,7 @@ fn namesakes(alloc: Global) -> Result<GraphTable, Fail> {
             vertex(1, ctor),
         )?)?;
     }
-    Ok(GraphTable::of(alloc, list.into_canonical())?)
+    graph_of(alloc, list)
 }
 
 #[test]
@@ -103,7 +111,9 @@ fn vertices_of_one_name_are_in_vertex_order(rt: HostRuntime) -> Result<(), Fail>
     let list = table.sort_numbers(rt.alloc(), &[0, 1, 2, 3])?;
     assert!(rt; list.len() == 4);
     for i in 1..list.len() {
-        assert!(rt; table.vertex(list[i - 1] as usize) < table.vertex(list[i] as usize));
+        let before = table.vertex(list[i - 1] as usize).lent();
+        let after = table.vertex(list[i] as usize).lent();
+        assert!(rt; before.vertex() < after.vertex());
     }
     Ok(())
 }
@@ -117,7 +127,7 @@ fn children_are_in_edge_order(rt: HostRuntime) -> Result<(), Fail> {
     table.children(root, Position::Main, &mut out)?;
     assert!(rt; out.as_slice() == [0, 1, 2].as_slice());
     for index in &out {
-        assert!(rt; table.edit_ref(*index).source() == Vertex::ROOT);
+        assert!(rt; table.edge(*index).edge().source == Vertex::ROOT);
     }
     table.children(root, Position::Left, &mut out)?;
     assert!(rt; out.is_empty());
@@ -139,7 +149,7 @@ fn variables(alloc: Global) -> Result<GraphTable, Fail> {
         edit(EditKind::Insert, 14, lam, Position::Body, plus)?,
         edit(EditKind::Insert, 15, plus, Position::Left, lam)?,
     ])?;
-    Ok(GraphTable::of(alloc, list.into_canonical())?)
+    graph_of(alloc, list)
 }
 
 #[test]
@@ -147,14 +157,14 @@ fn a_vertex_has_one_number_wherever_it_stands(rt: HostRuntime) -> Result<(), Fai
     let table = variables(rt.alloc())?;
     assert!(rt; table.number_count() == 5);
     let plus = 1;
-    assert!(rt; *table.vertex(plus) == vertex(1, Ctor::Plus));
+    assert!(rt; table.vertex(plus).lent().vertex() == vertex(1, Ctor::Plus));
     let mut left = Vec::new(rt.alloc());
     table.children(plus, Position::Left, &mut left)?;
     assert!(rt; left.as_slice() == [1, 2, 3, 5].as_slice());
     for index in &left {
         let target = table.target(*index);
         assert!(rt; table.source(*index) == plus);
-        assert!(rt; table.vertex(target) == table.edit_ref(*index).target());
+        assert!(rt; is_same_lent(&table.vertex(target).lent(), &table.edge(*index).target()));
     }
     // The variable that stands twice, and the one that shares its name.
     assert!(rt; table.target(1) == table.target(3));
@@ -189,7 +199,7 @@ fn names_that_follow_each_other_have_numbers_of_their_own(rt: HostRuntime) -> Re
             )?)?;
         }
     }
-    let table = GraphTable::of(rt.alloc(), list.into_canonical())?;
+    let table = graph_of(rt.alloc(), list)?;
     assert!(rt; table.number_count() == 161);
     let root = 0;
     let mut out = Vec::new(rt.alloc());
@@ -197,7 +207,7 @@ fn names_that_follow_each_other_have_numbers_of_their_own(rt: HostRuntime) -> Re
     assert!(rt; out.len() == 160);
     for index in &out {
         let target = table.target(*index);
-        assert!(rt; table.vertex(target) == table.edit_ref(*index).target());
+        assert!(rt; is_same_lent(&table.vertex(target).lent(), &table.edge(*index).target()));
     }
     Ok(())
 }

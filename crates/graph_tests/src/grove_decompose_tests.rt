@@ -10,14 +10,16 @@ ghost use Rattle.grove_decompose.specs.Trees.{OnlyInner, vertices_of};
 
 use child_index::ChildIndex;
 use edge_lattice::State;
+use edit_table::EditTableBuilder;
 use graph_store::GraphStore;
 use graph_table::GraphTable;
 use grove_decompose::*;
-use grove_edits::{Edge, Edit, EditList, Vertex};
+use grove_edits::{Edge, Edit, Vertex};
 use grove_names::Name;
 use grove_sorts::{Ctor, Position};
 use grove_terms::{Tree, What};
 use parent_index::ParentIndex;
+use seeded_hash::HashSeed;
 use std::alloc::Global;
 use std::test::Fail;
 
@@ -108,16 +110,16 @@ fn sample(alloc: Global) -> Result<GraphTable, Fail> {
     let seven = vertex(2, Ctor::Num(7));
     let fst = vertex(3, Ctor::Fst);
     let snd = vertex(4, Ctor::Snd);
-    let mut edits = EditList::new(alloc);
+    let mut edits = EditTableBuilder::with_seed(alloc, HashSeed::FIXED)?;
     for inserted in [
         edge(6, sum, Position::Left, seven),
         edge(7, sum, Position::Right, seven),
         edge(8, fst, Position::Operand, snd),
         edge(9, snd, Position::Operand, fst),
     ] {
-        edits.push(Edit::insert(inserted)?)?;
+        edits.push(&Edit::insert(inserted)?)?;
     }
-    Ok(GraphTable::of(alloc, edits.into_canonical())?)
+    Ok(GraphTable::of(alloc, edits.into_table(alloc)?)?)
 }
 
 #[test]

@@ -8,6 +8,8 @@ mod edge_index_tests;
 #[cfg(test)]
 mod edge_lists_tests;
 #[cfg(test)]
+mod edit_table_tests;
+#[cfg(test)]
 mod graph_store_tests;
 #[cfg(test)]
 mod graph_table_tests;
@@ -23,6 +25,8 @@ mod numbers_by_name_tests;
 mod parent_index_tests;
 #[cfg(test)]
 mod seeded_hash_tests;
+#[cfg(test)]
+mod table_text_tests;
 #[cfg(test)]
 mod unicycle_roots_tests;
 #[cfg(test)]

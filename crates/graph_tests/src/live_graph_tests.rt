@@ -1,7 +1,7 @@
 ghost use Rattle.std.specs.Prelude.{◌≡◌, ◌<◌};
 
 use edge_lattice::State;
-use grove_edits::{Edge, Edit, EditKind, Vertex};
+use grove_edits::{Edge, Edit, EditKind, EditList, Vertex};
 use grove_names::Name;
 use grove_sorts::{Ctor, Position};
 use live_graph::*;
@@ -71,43 +71,71 @@ fn graph_of(alloc: Global, steps: &[(Option<EditKind>, Edge)]) -> Result<LiveGra
     Ok(graph)
 }
 
-fn check_rising<R: Abort>(rt: &R, graph: &mut LiveGraph) -> Result<(), NoMemory> {
+// What each of three edits of one edge changes.
+fn rises(graph: &mut LiveGraph) -> Result<[Option<Change>; 3], NoMemory> {
     let first = raise(graph, EditKind::Insert, edge(1, 5))?;
-    assert!(rt; first == Some(Change::Raised { old: State::Absent }));
     let again = raise(graph, EditKind::Insert, edge(1, 5))?;
-    assert!(rt; again == Some(Change::Same));
     let gone = raise(graph, EditKind::Delete, edge(1, 5))?;
-    assert!(rt; gone == Some(Change::Raised { old: State::Live }));
-    assert!(rt; graph.state(&edge(1, 5)) == State::Deleted);
+    Ok([first, again, gone])
+}
+
+// The states of that edge, once it was deleted and once it is put back.
+fn states_put_back(graph: &mut LiveGraph) -> Result<(State, State), NoMemory> {
+    let deleted = graph.state(&edge(1, 5));
     put_back(graph, &edge(1, 5), State::Live)?;
-    assert!(rt; graph.state(&edge(1, 5)) == State::Live);
-    Ok(())
+    Ok((deleted, graph.state(&edge(1, 5))))
+}
+
+fn rises_of_new(alloc: Global) -> Result<([Option<Change>; 3], (State, State)), NoMemory> {
+    let mut graph = LiveGraph::new(alloc);
+    let changes = rises(&mut graph)?;
+    let states = states_put_back(&mut graph)?;
+    Ok((changes, states))
 }
 
 #[test]
 fn an_edge_rises_and_is_put_back(rt: HostRuntime) -> Result<(), Fail> {
-    let mut graph = LiveGraph::new(rt.alloc());
-    check_rising(&rt, &mut graph)?;
+    let (changes, states) = rises_of_new(rt.alloc())?;
+    let first = Some(Change::Raised { old: State::Absent });
+    let gone = Some(Change::Raised { old: State::Live });
+    assert!(rt; changes == [first, Some(Change::Same), gone]);
+    assert!(rt; states == (State::Deleted, State::Live));
     Ok(())
 }
 
-fn check_rising_at<R: Abort>(rt: &R, graph: &mut LiveGraph) -> Result<(), NoMemory> {
+// What three edits of two edges change by number, and the states then.
+fn rises_by_number(graph: &mut LiveGraph) -> Result<[(Change, State); 3], NoMemory> {
     let first = raise_at(graph, EditKind::Insert, &edge(1, 5))?;
-    let raised = Change::Raised { old: State::Absent };
-    assert!(rt; first == (raised, State::Live));
     let other = raise_at(graph, EditKind::Delete, &edge(1, 6))?;
-    assert!(rt; other == (raised, State::Deleted));
     let again = raise_at(graph, EditKind::Insert, &edge(1, 6))?;
-    assert!(rt; again == (Change::Same, State::Deleted));
-    assert!(rt; graph.number(&edge(1, 6)) == Some(1));
-    assert!(rt; graph.number(&edge(2, 5)) == None);
-    Ok(())
+    Ok([first, other, again])
+}
+
+// The same in a new graph, and the numbers there of the second edge and of one that no edit named.
+fn numbered(
+    alloc: Global,
+) -> Result<([(Change, State); 3], Option<usize>, Option<usize>), NoMemory> {
+    let mut graph = LiveGraph::new(alloc);
+    let changes = rises_by_number(&mut graph)?;
+    Ok((
+        changes,
+        graph.number(&edge(1, 6)),
+        graph.number(&edge(2, 5)),
+    ))
 }
 
 #[test]
 fn an_edge_rises_by_its_number(rt: HostRuntime) -> Result<(), Fail> {
-    let mut graph = LiveGraph::new(rt.alloc());
-    check_rising_at(&rt, &mut graph)?;
+    let (changes, second, none) = numbered(rt.alloc())?;
+    let raised = Change::Raised { old: State::Absent };
+    let wanted = [
+        (raised, State::Live),
+        (raised, State::Deleted),
+        (Change::Same, State::Deleted),
+    ];
+    assert!(rt; changes == wanted);
+    assert!(rt; second == Some(1));
+    assert!(rt; none == None);
     Ok(())
 }
 
@@ -128,7 +156,9 @@ fn edges_of_one_name_have_states_of_their_own(rt: HostRuntime) -> Result<(), Fai
     Ok(())
 }
 
-fn first_named(alloc: Global, graph: &LiveGraph) -> Result<Vec<Edge>, NoMemory> {
+// The edges named 1.1 of a graph.
+fn first_named(alloc: Global, steps: &[(Option<EditKind>, Edge)]) -> Result<Vec<Edge>, NoMemory> {
+    let graph = graph_of(alloc, steps)?;
     let first = Name {
         author: 1,
         counter: 1,
@@ -136,17 +166,19 @@ fn first_named(alloc: Global, graph: &LiveGraph) -> Result<Vec<Edge>, NoMemory> 
     graph.edges_named(alloc, first)
 }
 
-#[test]
-fn edges_are_found_by_their_name(rt: HostRuntime) -> Result<(), Fail> {
-    let alloc = rt.alloc();
-    let steps = [
+// Two edges share a name, and a third is only given room.
+fn steps_of_one_name() -> [(Option<EditKind>, Edge); 4] {
+    [
         (Some(EditKind::Delete), edge(1, 6)),
         (Some(EditKind::Insert), edge(1, 5)),
         (Some(EditKind::Insert), edge(2, 7)),
         (None, edge(1, 4)),
-    ];
-    let graph = graph_of(alloc, steps.as_slice())?;
-    let found = first_named(alloc, &graph)?;
+    ]
+}
+
+#[test]
+fn edges_are_found_by_their_name(rt: HostRuntime) -> Result<(), Fail> {
+    let found = first_named(rt.alloc(), &steps_of_one_name())?;
     assert!(rt; found.as_slice() == [edge(1, 5), edge(1, 6)].as_slice());
     Ok(())
 }
@@ -159,84 +191,130 @@ fn other_target() -> Vertex {
     }
 }
 
-fn check_named<R: Abort>(rt: &R, graph: &LiveGraph, wanted: Named) {
-    assert!(rt; graph.vertices_named(edge(1, 5).target.name) == wanted);
+// The vertices with the name of that target.
+fn named_in(alloc: Global, steps: &[(Option<EditKind>, Edge)]) -> Result<Named, NoMemory> {
+    let graph = graph_of(alloc, steps)?;
+    Ok(graph.vertices_named(edge(1, 5).target.name))
+}
+
+fn named_root(alloc: Global) -> Named {
+    let graph = LiveGraph::new(alloc);
+    graph.vertices_named(Vertex::ROOT.name)
 }
 
 #[test]
 fn the_root_is_found_by_its_name(rt: HostRuntime) -> Result<(), Fail> {
-    let graph = LiveGraph::new(rt.alloc());
-    let found = graph.vertices_named(Vertex::ROOT.name);
+    let found = named_root(rt.alloc());
     assert!(rt; found == Named::One(Vertex::ROOT));
     Ok(())
 }
 
 #[test]
-fn vertices_are_found_by_their_name(rt: HostRuntime) -> Result<(), Fail> {
-    let alloc = rt.alloc();
-    let seven = edge(1, 5).target;
-    let room = graph_of(alloc, [(None, edge(1, 5))].as_slice())?;
-    check_named(&rt, &room, Named::Zero);
-    let first = (Some(EditKind::Insert), edge(1, 5));
-    let one = graph_of(alloc, [first].as_slice())?;
-    check_named(&rt, &one, Named::One(seven));
-    let plus = other_target();
-    let second = Edge {
-        target: plus,
-        ..edge(2, 5)
-    };
-    let steps = [first, (Some(EditKind::Insert), second)];
-    let two = graph_of(alloc, steps.as_slice())?;
-    let both = if plus < seven {
-        Named::More(plus, seven)
-    } else {
-        Named::More(seven, plus)
-    };
-    check_named(&rt, &two, both);
+fn room_makes_no_vertex(rt: HostRuntime) -> Result<(), Fail> {
+    let found = named_in(rt.alloc(), &[(None, edge(1, 5))])?;
+    assert!(rt; found == Named::Zero);
     Ok(())
 }
 
-fn check_greatest<R: Abort>(rt: &R, graph: &LiveGraph, wanted: u64) {
-    assert!(rt; graph.greatest(1) == wanted);
-    assert!(rt; graph.greatest(2) == 0);
+#[test]
+fn a_vertex_is_found_by_its_name(rt: HostRuntime) -> Result<(), Fail> {
+    let found = named_in(rt.alloc(), &[(Some(EditKind::Insert), edge(1, 5))])?;
+    assert!(rt; found == Named::One(edge(1, 5).target));
+    Ok(())
+}
+
+// Two edges whose targets share a name.
+fn steps_to_namesakes() -> [(Option<EditKind>, Edge); 2] {
+    let second = Edge {
+        target: other_target(),
+        ..edge(2, 5)
+    };
+    [
+        (Some(EditKind::Insert), edge(1, 5)),
+        (Some(EditKind::Insert), second),
+    ]
+}
+
+// Two vertices that share a name, the lesser one first.
+fn both(one: Vertex, other: Vertex) -> Named {
+    if one < other {
+        Named::More(one, other)
+    } else {
+        Named::More(other, one)
+    }
+}
+
+#[test]
+fn two_vertices_are_found_by_their_name(rt: HostRuntime) -> Result<(), Fail> {
+    let found = named_in(rt.alloc(), &steps_to_namesakes())?;
+    assert!(rt; found == both(other_target(), edge(1, 5).target));
+    Ok(())
+}
+
+// The greatest counter of an author, and that of one who made no name.
+fn greatest_in(graph: &LiveGraph) -> (u64, u64) {
+    (graph.greatest(1), graph.greatest(2))
+}
+
+// Two edges, one of them deleted, and room for a third.
+fn steps_of_one_author() -> [(Option<EditKind>, Edge); 3] {
+    [
+        (Some(EditKind::Delete), edge(3, 5)),
+        (Some(EditKind::Insert), edge(4, 2)),
+        (None, edge(9, 9)),
+    ]
+}
+
+// The greatest counters before and after the first of these edges is put back.
+fn greatest_counters(alloc: Global) -> Result<((u64, u64), (u64, u64)), NoMemory> {
+    let mut graph = graph_of(alloc, &steps_of_one_author())?;
+    let before = greatest_in(&graph);
+    put_back(&mut graph, &edge(3, 5), State::Absent)?;
+    Ok((before, greatest_in(&graph)))
 }
 
 #[test]
 fn the_greatest_counter_is_told(rt: HostRuntime) -> Result<(), Fail> {
-    let alloc = rt.alloc();
-    let steps = [
-        (Some(EditKind::Delete), edge(3, 5)),
-        (Some(EditKind::Insert), edge(4, 2)),
-        (None, edge(9, 9)),
-    ];
-    let mut graph = graph_of(alloc, steps.as_slice())?;
-    check_greatest(&rt, &graph, 5);
-    put_back(&mut graph, &edge(3, 5), State::Absent)?;
-    check_greatest(&rt, &graph, 4);
+    let (before, after) = greatest_counters(rt.alloc())?;
+    assert!(rt; before == (5, 0));
+    assert!(rt; after == (4, 0));
     Ok(())
 }
 
-fn check_lists<R: Abort>(rt: &R, alloc: Global, graph: &LiveGraph) -> Result<(), Fail> {
+fn check_edits<R: Abort>(rt: &R, edits: &[Edit]) -> Result<(), Fail> {
     let first = Edit::delete(edge(1, 5))?;
     let second = Edit::insert(edge(2, 6))?;
-    let edits = graph.in_order(alloc)?;
-    assert!(rt; edits.as_slice() == [first, second].as_slice());
-    let vertices = graph.vertices(alloc)?;
-    let wanted = [Vertex::ROOT, edge(1, 5).target, edge(2, 6).target];
-    assert!(rt; vertices.as_slice() == wanted.as_slice());
+    assert!(rt; edits == [first, second].as_slice());
     Ok(())
+}
+
+// Two edges, one of them deleted, and room for a third, which come in no order.
+fn steps_out_of_order() -> [(Option<EditKind>, Edge); 3] {
+    [
+        (Some(EditKind::Insert), edge(2, 6)),
+        (Some(EditKind::Delete), edge(1, 5)),
+        (None, edge(3, 4)),
+    ]
+}
+
+fn edits_in_order(alloc: Global) -> Result<EditList, NoMemory> {
+    let graph = graph_of(alloc, &steps_out_of_order())?;
+    graph.in_order(alloc)
+}
+
+fn vertices_in_order(alloc: Global) -> Result<Vec<Vertex>, NoMemory> {
+    let graph = graph_of(alloc, &steps_out_of_order())?;
+    graph.vertices(alloc)
 }
 
 #[test]
 fn a_graph_lists_its_edits_and_vertices(rt: HostRuntime) -> Result<(), Fail> {
-    let alloc = rt.alloc();
-    let steps = [
-        (Some(EditKind::Insert), edge(2, 6)),
-        (Some(EditKind::Delete), edge(1, 5)),
-        (None, edge(3, 4)),
-    ];
-    let graph = graph_of(alloc, steps.as_slice())?;
-    check_lists(&rt, alloc, &graph)
+    let edits = edits_in_order(rt.alloc())?;
+    check_edits(&rt, edits.as_slice())?;
+    let vertices = vertices_in_order(rt.alloc())?;
+    let wanted = [Vertex::ROOT, edge(1, 5).target, edge(2, 6).target];
+    assert!(rt; vertices.as_slice() == wanted.as_slice());
+    Ok(())
 }
 
 fn check_root_children<L: Ledger, R: Abort>(rt: &R, blank: Blank, graph: &LiveGraph)
@@ -262,26 +340,38 @@ fn check_children<R: Abort>(rt: &R, graph: &LiveGraph) {
     check_root_children::<Brand, R>(rt, Blank::new(1), graph)
 }
 
-#[test]
-fn edges_are_told_one_by_one(rt: HostRuntime) -> Result<(), Fail> {
-    let steps = [
+fn steps_of_two_edges() -> [(Option<EditKind>, Edge); 2] {
+    [
         (Some(EditKind::Insert), edge(2, 6)),
         (Some(EditKind::Insert), edge(1, 5)),
-    ];
-    let graph = graph_of(rt.alloc(), steps.as_slice())?;
+    ]
+}
+
+#[test]
+fn edges_are_told_one_by_one(rt: HostRuntime) -> Result<(), Fail> {
+    let graph = graph_of(rt.alloc(), &steps_of_two_edges())?;
     check_children(&rt, &graph);
-    assert!(rt; graph.vertex_count() == 2);
     Ok(())
+}
+
+// The steps of two edges, the first of which is deleted at the end.
+fn steps_with_a_deletion() -> [(Option<EditKind>, Edge); 3] {
+    [
+        (Some(EditKind::Insert), edge(2, 6)),
+        (Some(EditKind::Insert), edge(1, 5)),
+        (Some(EditKind::Delete), edge(2, 6)),
+    ]
+}
+
+fn vertex_count_of(alloc: Global, steps: &[(Option<EditKind>, Edge)]) -> Result<u64, NoMemory> {
+    Ok(graph_of(alloc, steps)?.vertex_count())
 }
 
 #[test]
 fn a_deleted_edge_leads_to_no_vertex(rt: HostRuntime) -> Result<(), Fail> {
-    let steps = [
-        (Some(EditKind::Insert), edge(2, 6)),
-        (Some(EditKind::Insert), edge(1, 5)),
-        (Some(EditKind::Delete), edge(2, 6)),
-    ];
-    let graph = graph_of(rt.alloc(), steps.as_slice())?;
-    assert!(rt; graph.vertex_count() == 1);
+    let before = vertex_count_of(rt.alloc(), &steps_of_two_edges())?;
+    let after = vertex_count_of(rt.alloc(), &steps_with_a_deletion())?;
+    assert!(rt; before == 2);
+    assert!(rt; after == 1);
     Ok(())
 }

@@ -11,7 +11,7 @@ use crate::no_memory::NoMemory;
 use crate::program::Program;
 use crate::report::Report;
 use crate::reporting::report_program;
-use grove_edits::EditList;
+use edit_table::EditTable;
 use grove_printer::{Section, print_marked_lines_of};
 use marking::MarkedTree;
 use seeded_hash::HashSeed;
@@ -19,13 +19,13 @@ use std::alloc::Global;
 use text_parts::write_number;
 use type_core::TypeTable;
 
-/// The text of `check`, of a canonical list: the lines of `show` with a mark, and how many trees there are and how many are typed.
+/// The text of `check`, of a table whose edits ascend: the lines of `show` with a mark, and how many trees there are and how many are typed.
 /// What it looks up it finds by hashes under a seed.
-pub fn check_text(alloc: Global, edits: EditList, seed: HashSeed) -> Result<Vec<u8>, NoMemory>
-    requires { Ascends edits }
-    ensures { IfOk result (λ text. IsCheckText (graph edits) text.items) }
+pub fn check_text(alloc: Global, table: EditTable, seed: HashSeed) -> Result<Vec<u8>, NoMemory>
+    requires { Ascends table.edits }
+    ensures { IfOk result (λ text. IsCheckText (graph table.edits) text.items) }
 {
-    let program = Program::of(alloc, edits, seed)?;
+    let program = Program::of(alloc, table, seed)?;
     let mut checked = Checked {
         text: Vec::new(alloc),
         roots: 0,

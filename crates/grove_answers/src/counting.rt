@@ -10,7 +10,7 @@ use crate::no_memory::NoMemory;
 use crate::program::Program;
 use crate::report::Report;
 use crate::reporting::report_program;
-use grove_edits::EditList;
+use edit_table::EditTable;
 use grove_printer::Section;
 use grove_terms::{LentNode, LentWhat};
 use marking::MarkedTree;
@@ -18,12 +18,12 @@ use seeded_hash::HashSeed;
 use std::alloc::Global;
 use type_core::TypeTable;
 
-/// The counts of a canonical list's graph. What it looks up it finds by hashes under a seed.
-pub fn grove_counts(alloc: Global, edits: EditList, seed: HashSeed) -> Result<Counts, NoMemory>
-    requires { Ascends edits }
-    ensures { IfOk result (AreCounts (graph edits)) }
+/// The counts of the graph of a table whose edits ascend. What it looks up it finds by hashes under a seed.
+pub fn grove_counts(alloc: Global, table: EditTable, seed: HashSeed) -> Result<Counts, NoMemory>
+    requires { Ascends table.edits }
+    ensures { IfOk result (AreCounts (graph table.edits)) }
 {
-    let program = Program::of(alloc, edits, seed)?;
+    let program = Program::of(alloc, table, seed)?;
     let mut counts = Counts {
         none: 0,
         multi: 0,

@@ -1,4 +1,4 @@
-//! The way from a canonical list of edits to the text of `merge`, `show` and `check`: the graph by numbers, its trees one after
+//! The way from edits that ascend to the text of `merge`, `show` and `check`: the graph by numbers, its trees one after
 //! the other, each with its marking, and what is written of them. The commands stand on this crate.
 #![tactic(auto)]
 

@@ -3,9 +3,9 @@ ghost use Rattle.grove_edits.specs.Graph.{Ascends};
 ghost use Rattle.grove_answers.specs.Program.{IsProgram};
 
 use crate::no_memory::NoMemory;
+use edit_table::EditTable;
 use graph_table::GraphTable;
 use grove_decompose::{NumberedHeads, heads_of};
-use grove_edits::EditList;
 use seeded_hash::HashSeed;
 use std::alloc::Global;
 
@@ -19,13 +19,13 @@ pub(crate) struct Program {
 }
 
 impl Program {
-    /// The program of a canonical list.
-    pub(crate) fn of(alloc: Global, edits: EditList, seed: HashSeed) -> Result<Program, NoMemory>
-        requires { Ascends edits }
+    /// The program of a table whose edits ascend.
+    pub(crate) fn of(alloc: Global, table: EditTable, seed: HashSeed) -> Result<Program, NoMemory>
+        requires { Ascends table.edits }
         ensures program { IfOk result IsProgram }
-        ensures edits { IfOk result (λ program. program.table.edits ≡ edits) }
+        ensures edits { IfOk result (λ program. program.table.edits ≡ table.edits) }
     {
-        let table = GraphTable::with_seed(alloc, edits, seed)?;
+        let table = GraphTable::of(alloc, table)?;
         let heads = heads_of(alloc, &table)?;
         Ok(Program { table, seed, heads })
     }

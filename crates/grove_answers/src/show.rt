@@ -8,20 +8,20 @@ use crate::no_memory::NoMemory;
 use crate::program::Program;
 use crate::report::Report;
 use crate::reporting::report_program;
-use grove_edits::EditList;
+use edit_table::EditTable;
 use grove_printer::{Section, print_heading, print_tree};
 use marking::MarkedTree;
 use seeded_hash::HashSeed;
 use std::alloc::Global;
 use type_core::TypeTable;
 
-/// The text of `show`, of a canonical list: under a heading for each of the three lists of trees a line for each node. What it
+/// The text of `show`, of a table whose edits ascend: under a heading for each of the three lists of trees a line for each node. What it
 /// looks up it finds by hashes under a seed.
-pub fn print_text(alloc: Global, edits: EditList, seed: HashSeed) -> Result<Vec<u8>, NoMemory>
-    requires { Ascends edits }
-    ensures { IfOk result (λ text. IsPrintText (graph edits) text.items) }
+pub fn print_text(alloc: Global, table: EditTable, seed: HashSeed) -> Result<Vec<u8>, NoMemory>
+    requires { Ascends table.edits }
+    ensures { IfOk result (λ text. IsPrintText (graph table.edits) text.items) }
 {
-    let program = Program::of(alloc, edits, seed)?;
+    let program = Program::of(alloc, table, seed)?;
     let mut shown = Shown {
         text: Vec::new(alloc),
     };

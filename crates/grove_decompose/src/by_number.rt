@@ -42,7 +42,7 @@ impl<'g> LiveGraph<'g> for LiveTable<'g> {
     ghost AreInner = { λ it seen. OnlyInner it.table.now seen };
 
     fn edge(&self, link: &usize) -> LentEdge<'g> {
-        LentEdge::OfEdit(self.table.edit_ref(*link))
+        LentEdge::OfTable(self.table.edge(*link))
     }
 
     fn target(&self, link: &usize) -> usize {

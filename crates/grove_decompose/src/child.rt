@@ -1,39 +1,39 @@
 ghost use Rattle.std.specs.Prelude.{◌≡◌, ◌≢◌, ◌++◌, ◌∷◌, ◌≤◌, [], true, length, map, OnOk, IfOk, IfSome};
 ghost use Rattle.std.specs.List.{AllByRecursion};
 ghost use Rattle.walks.specs.declared.class.Class.TheVariants.{Inner};
-ghost use Rattle.grove_edits.specs.Vertex.{vertex_cmp, is_same_vertex};
 ghost use Rattle.walks.specs.Live.{holds_edge};
 ghost use Rattle.walks.specs.Class.{class};
+ghost use Rattle.edit_table.specs.Lent.{lent_vertex};
 ghost use Rattle.grove_terms.specs.Lent.{edge_of, what_as};
 ghost use Rattle.grove_terms.specs.Nodes.{child_node};
 ghost use Rattle.grove_decompose.specs.Tasks.{what_by, child_rest, task_at, IsFound, IsUnder};
 
 use crate::live_graph::LiveGraph;
 use crate::no_memory::NoMemory;
-use crate::place::push_places;
+use crate::place::push_lent_places;
 use crate::task::Task;
-use grove_edits::{Vertex, is_same_vertex};
+use edit_table::{LentVertex, is_same_lent};
 use grove_terms::{LentEdge, LentNode, Role, Tree};
 
 // What a child is: under a root only the root itself heads a tree with one parent.
 fn role_of<'g, G: LiveGraph<'g>>(
     edge: &LentEdge<'g>,
     target: &G::Spot,
-    root: &Vertex,
+    root: &LentVertex,
     graph: &G,
     counter: &mut G::Counter,
 ) -> Role
     requires spot { G.IsSpot graph.now target.now }
     requires target { G.vertex_at graph.now target.now ≡ (edge_of edge.now).target }
-    requires outer { class (G.live graph.now) root.now ≢ Inner }
+    requires outer { class (G.live graph.now) (lent_vertex root.now) ≢ Inner }
     requires held { holds_edge (edge_of edge.now) (G.live graph.now) ≡ true }
-    requires under { IsUnder (G.live graph.now) root.now (edge_of edge.now).source }
+    requires under { IsUnder (G.live graph.now) (lent_vertex root.now) (edge_of edge.now).source }
     ensures { what_as result (edge_of edge.now).target ≡ what_by (class (G.live graph.now) (edge_of edge.now).target) (edge_of edge.now).target }
 {
     if graph.is_shared(target, counter) {
         return Role::MultiRef;
     }
-    if is_same_vertex(edge.target(), root) {
+    if is_same_lent(&edge.target(), root) {
         Role::CycleRef
     } else {
         Role::Vertex
@@ -44,16 +44,16 @@ fn role_of<'g, G: LiveGraph<'g>>(
 pub(crate) fn list_child<'g, G: LiveGraph<'g>>(
     link: &G::Link,
     depth: u64,
-    root: &Vertex,
+    root: &LentVertex,
     graph: &G,
     tree: &mut Tree<'g>,
     tasks: &mut Vec<Task<G::Spot, G::Link>>,
     counter: &mut G::Counter,
 ) -> Result<Option<G::Spot>, NoMemory>
     requires link { G.IsLink graph.now link.now }
-    requires outer { class (G.live graph.now) root.now ≢ Inner }
+    requires outer { class (G.live graph.now) (lent_vertex root.now) ≢ Inner }
     requires held { holds_edge (G.edge_at graph.now link.now) (G.live graph.now) ≡ true }
-    requires under { IsUnder (G.live graph.now) root.now (G.edge_at graph.now link.now).source }
+    requires under { IsUnder (G.live graph.now) (lent_vertex root.now) (G.edge_at graph.now link.now).source }
     requires depth { depth ≤ length tree.old }
     requires found { AllByRecursion (IsFound (G.IsSpot graph.now) (G.IsLink graph.now)) tasks.old.items }
     ensures node { let edge = G.edge_at graph.now link.now in OnOk result (tree.new ≡ tree.old
@@ -71,7 +71,7 @@ pub(crate) fn list_child<'g, G: LiveGraph<'g>>(
     tree.push(LentNode::child(depth, edge, role))?;
     match role {
         Role::Vertex => {
-            push_places(&target, &edge.target().ctor, depth + 1, tasks)?;
+            push_lent_places(&target, edge.target().ctor, depth + 1, tasks)?;
             Ok(Some(target))
         }
         Role::MultiRef | Role::CycleRef => Ok(None),

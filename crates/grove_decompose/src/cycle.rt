@@ -7,8 +7,8 @@ ghost use Rattle.unicycle_roots.specs.Met.{is_on_cycle, leads_to};
 ghost use Rattle.graph_table.specs.Table.{live, vertex_at, IsNumber};
 
 use crate::above::number_above;
+use edit_table::compare_lent;
 use graph_table::GraphTable;
-use grove_edits::compare_vertices;
 use std::cmp::Ordering;
 
 /// The number of the lesser of two vertices, and the first of two that are one.
@@ -18,7 +18,7 @@ fn lesser(table: &GraphTable, a: usize, b: usize) -> usize
     ensures number { IsNumber table.now result }
     ensures lesser { vertex_at table.now result ≡ (if is_gt (vertex_cmp (vertex_at table.now a) (vertex_at table.now b)) then vertex_at table.now b else vertex_at table.now a) }
 {
-    match compare_vertices(table.vertex(a), table.vertex(b)) {
+    match compare_lent(&table.vertex(a).lent(), &table.vertex(b).lent()) {
         Ordering::Less | Ordering::Equal => a,
         Ordering::Greater => b,
     }

@@ -5,6 +5,8 @@ ghost use Rattle.walks.specs.Class.{class};
 ghost use Rattle.walks.specs.Whole.{IsVertexOf};
 ghost use Rattle.graph_store.specs.Store.{state_in};
 ghost use Rattle.edge_index.specs.Lists.{live};
+ghost use Rattle.edit_table.specs.Lent.{lent_vertex};
+ghost use Rattle.grove_terms.specs.Lent.{node_of};
 ghost use Rattle.grove_terms.specs.Nodes.{head_node};
 ghost use Rattle.grove_terms.specs.Grove.{IsTreeOf, AreTreesOf};
 ghost use Rattle.grove_decompose.specs.Tasks.{IsFound, IsSound, step_nodes, step_tasks, task_at};
@@ -13,9 +15,10 @@ use crate::child::list_child;
 use crate::live_graph::LiveGraph;
 use crate::live_indexes::{LiveIndexes, NoNotes};
 use crate::no_memory::NoMemory;
-use crate::place::{list_place, push_places};
+use crate::place::{list_place, push_lent_places};
 use crate::task::Task;
 use child_index::ChildIndex;
+use edit_table::LentVertex;
 use graph_store::GraphStore;
 use grove_edits::Vertex;
 use grove_terms::{LentNode, Tree, TreeList};
@@ -29,15 +32,15 @@ use walks::Steps;
 // if it does. The list is for the children of a position.
 fn take<'g, G: LiveGraph<'g>>(
     task: &Task<G::Spot, G::Link>,
-    root: &Vertex,
+    root: &LentVertex,
     graph: &G,
     links: &mut Vec<G::Link>,
     tree: &mut Tree<'g>,
     tasks: &mut Vec<Task<G::Spot, G::Link>>,
     counter: &mut G::Counter,
 ) -> Result<Option<G::Spot>, NoMemory>
-    requires outer { class (G.live graph.now) root.now ≢ Inner }
-    requires sound { IsSound (G.live graph.now) root.now (length tree.old) (task_at (G.vertex_at graph.now) (G.edge_at graph.now) task.now) }
+    requires outer { class (G.live graph.now) (lent_vertex root.now) ≢ Inner }
+    requires sound { IsSound (G.live graph.now) (lent_vertex root.now) (length tree.old) (task_at (G.vertex_at graph.now) (G.edge_at graph.now) task.now) }
     requires task_found { IsFound (G.IsSpot graph.now) (G.IsLink graph.now) task.now }
     requires found { AllByRecursion (IsFound (G.IsSpot graph.now) (G.IsLink graph.now)) tasks.old.items }
     ensures nodes { OnOk result (tree.new ≡ tree.old ++ step_nodes (G.live graph.now) (task_at (G.vertex_at graph.now) (G.edge_at graph.now) task.now)) }
@@ -61,37 +64,32 @@ fn take<'g, G: LiveGraph<'g>>(
     }
 }
 
-fn push_head<'g>(root: &'g Vertex, tree: &mut Tree<'g>) -> Result<(), NoMemory>
-    ensures { OnOk result (tree.new ≡ tree.old ++ head_node root.now ∷ []) }
-{
-    tree.push(LentNode::head(root))?;
-    Ok(())
-}
-
 /// The tree of a vertex that heads one. What stands in it under another one is noted, also where memory runs out in the midst of it.
 pub(crate) fn tree_of<'g, G: LiveGraph<'g>>(
     alloc: Global,
     spot: &G::Spot,
-    root: &'g Vertex,
+    root: LentVertex<'g>,
+    head: LentNode<'g>,
     graph: &G,
     notes: &mut G::Notes,
     counter: &mut G::Counter,
 ) -> Result<Tree<'g>, NoMemory>
     requires spot { G.IsSpot graph.now spot.now }
-    requires root { G.vertex_at graph.now spot.now ≡ root.now }
-    requires outer { class (G.live graph.now) root.now ≢ Inner }
+    requires root { G.vertex_at graph.now spot.now ≡ lent_vertex root }
+    requires head { node_of head ≡ head_node (lent_vertex root) }
+    requires outer { class (G.live graph.now) (lent_vertex root) ≢ Inner }
     requires noted { G.AreInner graph.now notes.old }
-    ensures tree { IfOk result (λ tree. IsTreeOf (G.live graph.now) root.now tree) }
+    ensures tree { IfOk result (λ tree. IsTreeOf (G.live graph.now) (lent_vertex root.entry) tree) }
     ensures noted { G.AreInner graph.now notes.new }
 {
     let mut tree: Tree<'g> = Tree::new(alloc);
-    push_head(root, &mut tree)?;
+    tree.push(head)?;
     let mut links = Vec::new(alloc);
     let mut tasks = Vec::new(alloc);
-    push_places(spot, &root.ctor, 1, &mut tasks)?;
+    push_lent_places(spot, root.ctor, 1, &mut tasks)?;
     while let Some(task) = tasks.pop() {
         let met = take(
-            &task, root, graph, &mut links, &mut tree, &mut tasks, counter,
+            &task, &root, graph, &mut links, &mut tree, &mut tasks, counter,
         )?;
         if let Some(inner) = met {
             graph.note(&inner, notes);
@@ -116,7 +114,15 @@ fn tree_at<'g, L: Ledger>(
         parents,
         ledger: PhantomData,
     };
-    tree_of(alloc, root, root, &indexes, &mut NoNotes, steps)
+    tree_of(
+        alloc,
+        root,
+        LentVertex::of(root),
+        LentNode::head(root),
+        &indexes,
+        &mut NoNotes,
+        steps,
+    )
 }
 
 /// The trees of some vertices of a graph that head one each.

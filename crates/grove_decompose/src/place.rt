@@ -1,14 +1,16 @@
 ghost use Rattle.std.specs.Prelude.{◌≡◌, ◌++◌, ◌≤◌, length, OnOk};
 ghost use Rattle.grove_sorts.specs.Ctor.{positions};
+ghost use Rattle.edit_table.specs.Lent.{lent_ctor};
 ghost use Rattle.grove_decompose.specs.Tasks.{place_tasks, child_tasks, place_head, place_rest};
 
 use crate::no_memory::NoMemory;
 use crate::task::Task;
+use edit_table::LentCtor;
 use grove_sorts::{Ctor, Position, Sort, place_at, position_count};
 use grove_terms::{LentNode, Tree};
 
-/// Adds a task for each position of a vertex, so that the first position is taken first.
-pub(crate) fn push_places<S: Copy, L: Copy>(
+// Adds a task for each position of a vertex, so that the first position is taken first.
+fn push_places<S: Copy, L: Copy>(
     spot: &S,
     ctor: &Ctor,
     depth: u64,
@@ -29,6 +31,21 @@ pub(crate) fn push_places<S: Copy, L: Copy>(
         }
     }
     Ok(())
+}
+
+/// Adds a task for each position of a vertex, so that the first position is taken first. A literal has none.
+pub(crate) fn push_lent_places<S: Copy, L: Copy>(
+    spot: &S,
+    ctor: LentCtor,
+    depth: u64,
+    tasks: &mut Vec<Task<S, L>>,
+) -> Result<(), NoMemory>
+    ensures { OnOk result (tasks.new.items ≡ tasks.old.items ++ place_tasks spot.now depth (positions (lent_ctor ctor.entry))) }
+{
+    match ctor {
+        LentCtor::At(ctor) => push_places(spot, ctor, depth, tasks),
+        LentCtor::Literal(_) => Ok(()),
+    }
 }
 
 // Adds a task for each child, so that the first child is taken first.

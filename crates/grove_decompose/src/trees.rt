@@ -18,7 +18,7 @@ use crate::narrow_count::narrow_count;
 use crate::no_memory::NoMemory;
 use crate::seen::Seen;
 use graph_table::{GraphTable, Parents};
-use grove_terms::Tree;
+use grove_terms::{LentNode, Tree};
 use std::alloc::Global;
 
 /// The numbers of vertices that head trees and stand on no cycle.
@@ -81,10 +81,12 @@ pub fn tree_by_number<'g>(
     ensures seen { OnlyInner table.now seen.new }
 {
     let root = root as usize;
+    let vertex = table.vertex(root);
     tree_of(
         alloc,
         &root,
-        table.vertex(root),
+        vertex.lent(),
+        LentNode::head_at(vertex),
         &LiveTable { table },
         seen,
         &mut NoCounter,

@@ -12,3 +12,8 @@ extends_appended a b c more x is = extends_further a b c x (more, is)
 pub after_error : {T E P : Type 0} (r : Result T E) → P → OnErr r P
 after_error (Ok x) p = tt
 after_error (Err e) p = p
+
+-- what was written before an error stays the beginning
+pub extends_on_error : {T E : Type 0} (r : Result T E) (a b c : List ℕ) → Extends a b → OnErr r (Extends b c) → OnErr r (Extends a c)
+extends_on_error (Ok x) a b c before part = tt
+extends_on_error (Err e) a b c before part = extends_further a b c before part

@@ -1,9 +1,12 @@
 ghost use Rattle.std.specs.Prelude.{◌≡◌, ◌++◌, OnOk, OnErr};
+ghost use Rattle.grove_sorts.specs.Ctor.{ctor_text};
+ghost use Rattle.edit_table.specs.Lent.{lent_ctor};
 ghost use Rattle.grove_terms.specs.Lent.{edge_of, node_of, what_of};
 ghost use Rattle.std.specs.Option.{option_map};
 ghost use Rattle.grove_printer.specs.Print.{Extends, position_column, edge_column, vertex_column, what_column, place_columns, node_columns};
 
 use crate::no_memory::NoMemory;
+use edit_table::LentCtor;
 use grove_names::write_name;
 use grove_sorts::{Position, write_ctor, write_position};
 use grove_terms::{LentEdge, LentNode, LentWhat};
@@ -70,12 +73,27 @@ fn append_vertex(what: &LentWhat, out: &mut Vec<u8>) -> Result<(), NoMemory>
     Ok(())
 }
 
+// A literal is written by its number, so that no wide constructor is made of it.
+fn append_ctor(ctor: &LentCtor, out: &mut Vec<u8>) -> Result<(), NoMemory>
+    ensures appended { OnOk result (out.new.items ≡ out.old.items ++ ctor_text (lent_ctor ctor.now)) }
+    ensures in_part { OnErr result (Extends out.old.items out.new.items) }
+{
+    match ctor {
+        LentCtor::At(ctor) => write_ctor(ctor, out)?,
+        LentCtor::Literal(number) => {
+            out.extend_from_slice(b"num:")?;
+            write_number(*number, out)?
+        }
+    }
+    Ok(())
+}
+
 fn append_what(what: &LentWhat, out: &mut Vec<u8>) -> Result<(), NoMemory>
     ensures appended { OnOk result (out.new.items ≡ out.old.items ++ what_column (what_of what.now)) }
     ensures in_part { OnErr result (Extends out.old.items out.new.items) }
 {
     match what {
-        LentWhat::Vertex(vertex) => write_ctor(&vertex.ctor, out)?,
+        LentWhat::Vertex(vertex) => append_ctor(&vertex.ctor, out)?,
         LentWhat::Hole(_) => out.extend_from_slice(b"hole")?,
         LentWhat::Conflict(_, count) => {
             out.extend_from_slice(b"conflict:")?;
@@ -83,11 +101,11 @@ fn append_what(what: &LentWhat, out: &mut Vec<u8>) -> Result<(), NoMemory>
         }
         LentWhat::MultiRef(vertex) => {
             out.extend_from_slice(b"multi:")?;
-            write_ctor(&vertex.ctor, out)?
+            append_ctor(&vertex.ctor, out)?
         }
         LentWhat::CycleRef(vertex) => {
             out.extend_from_slice(b"cycle:")?;
-            write_ctor(&vertex.ctor, out)?
+            append_ctor(&vertex.ctor, out)?
         }
     }
     Ok(())

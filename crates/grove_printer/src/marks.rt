@@ -9,7 +9,7 @@ ghost use Rattle.marking.specs.Numbers.{IsMarkedNodeOf};
 ghost use Rattle.grove_printer.specs.Print.{Extends, sort_of_node, mode_column, type_column, mark_text, mark_columns};
 
 use crate::no_memory::NoMemory;
-use grove_sorts::{Sort, sort_of, write_sort};
+use grove_sorts::{Sort, write_sort};
 use grove_terms::{LentNode, LentWhat};
 use mark_step::{Mark, Mode};
 use marking::Added;
@@ -77,7 +77,7 @@ fn sort_of_node(what: &LentWhat) -> Sort
 {
     match what {
         LentWhat::Vertex(vertex) | LentWhat::MultiRef(vertex) | LentWhat::CycleRef(vertex) => {
-            sort_of(&vertex.ctor)
+            vertex.ctor.sort()
         }
         LentWhat::Hole(sort) | LentWhat::Conflict(sort, _) => *sort,
     }

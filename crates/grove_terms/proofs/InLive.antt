@@ -3,18 +3,15 @@ use Rattle.std.proofs.Common.{◌≡◌, Bool, true, false, cond, List, [], ◌�
 use Rattle.std.specs.Prelude.{◌||◌, ◌&&◌, Some}
 use Rattle.std.specs.List.{AllByRecursion}
 use Rattle.std.specs.Ordering.{is_eq}
-use Rattle.std.specs.declared.cmp.Ordering.{Ordering}
-use Rattle.std.specs.declared.cmp.Ordering.TheVariants.{Less, Equal, Greater}
 use Rattle.grove_sorts.proofs.Truths.{or_left, or_right, both_true}
 use Rattle.grove_sorts.specs.declared.position.Position.{Position}
 use Rattle.grove_sorts.specs.declared.sort.Sort.{Sort}
 use Rattle.grove_sorts.specs.Ctor.{positions}
 use Rattle.grove_edits.specs.declared.vertex.Vertex.{Vertex}
 use Rattle.grove_edits.specs.declared.edge.Edge.{Edge}
-use Rattle.grove_edits.specs.Edge.{edge_cmp}
 use Rattle.grove_edits.specs.Graph.{is_same_edge}
 use Rattle.std.proofs.lemmas.Cmp.{tied_itself}
-use Rattle.grove_edits.proofs.Orders.{edge_cmp_exact, edge_cmp_total, one_edge}
+use Rattle.grove_edits.proofs.Orders.{edge_cmp_total, one_edge}
 use Rattle.walks.specs.declared.class.Class.TheVariants.{NoParent, Inner}
 use Rattle.walks.specs.Live.{holds_edge, parents_of, children_of}
 use Rattle.grove_edits.specs.Vertex.{is_same_vertex}

@@ -3,7 +3,9 @@ use Rattle.std.specs.Prelude.{List, map, Option, Some, None}
 use Rattle.grove_sorts.specs.declared.position.Position.{Position}
 use Rattle.grove_edits.specs.declared.edge.Edge.{Edge}
 use Rattle.grove_edits.specs.declared.vertex.Vertex.{Vertex}
-use Rattle.grove_edits.specs.Edit.{edit_edge}
+use Rattle.edit_table.specs.Lent.{lent_vertex}
+use Rattle.edit_table.specs.TableEdge.{table_edge}
+use Rattle.edit_table.specs.TableVertex.{table_vertex}
 use Rattle.grove_terms.specs.declared.node.LentEdge.{LentEdge}
 use Rattle.grove_terms.specs.declared.node.LentEdge.TheVariants as edges
 use Rattle.grove_terms.specs.declared.node.Node.{Node}
@@ -18,16 +20,16 @@ use Rattle.grove_terms.specs.declared.node.LentWhat.{LentWhat}
 use Rattle.grove_terms.specs.declared.node.LentWhat.TheVariants as lent
 
 abbrev pub what_of : LentWhat → What
-what_of (lent.Vertex v) = whats.Vertex v.now
+what_of (lent.Vertex v) = whats.Vertex (lent_vertex v)
 what_of (lent.Hole sort) = whats.Hole sort
 what_of (lent.Conflict sort count) = whats.Conflict sort count
-what_of (lent.MultiRef v) = whats.MultiRef v.now
-what_of (lent.CycleRef v) = whats.CycleRef v.now
+what_of (lent.MultiRef v) = whats.MultiRef (lent_vertex v)
+what_of (lent.CycleRef v) = whats.CycleRef (lent_vertex v)
 
 -- the edge that is lent
 abbrev pub edge_of : LentEdge → Edge
 edge_of (edges.Whole e) = e.now
-edge_of (edges.OfEdit edit) = edit_edge edit.now
+edge_of (edges.OfTable e) = table_edge e
 
 -- what a child is in a role, where its edge leads to this vertex
 abbrev pub what_as : Role → Vertex → What
@@ -38,22 +40,24 @@ what_as roles.CycleRef v = whats.CycleRef v
 -- the position of a place: that of its edge, for a child
 abbrev pub position_in : Place → Option Position
 position_in (places.Head v) = None
-position_in (places.Whole e role) = Some e.now.position
-position_in (places.OfEdit edit role) = Some (edit_edge edit.now).position
+position_in (places.HeadAt v) = None
+position_in (places.Whole role e) = Some e.now.position
+position_in (places.OfTable role e) = Some (table_edge e).position
 position_in (places.Hole p sort) = Some p
 position_in (places.Conflict p sort count) = Some p
 
 -- the edge to a place, for a child
 abbrev pub edge_in : Place → Option Edge
-edge_in (places.Whole e role) = Some e.now
-edge_in (places.OfEdit edit role) = Some (edit_edge edit.now)
+edge_in (places.Whole role e) = Some e.now
+edge_in (places.OfTable role e) = Some (table_edge e)
 edge_in _ = None
 
 -- what stands at a place: the target of its edge in its role, for a child
 abbrev pub what_in : Place → What
 what_in (places.Head v) = whats.Vertex v.now
-what_in (places.Whole e role) = what_as role e.now.target
-what_in (places.OfEdit edit role) = what_as role (edit_edge edit.now).target
+what_in (places.HeadAt v) = whats.Vertex (table_vertex v)
+what_in (places.Whole role e) = what_as role e.now.target
+what_in (places.OfTable role e) = what_as role (table_edge e).target
 what_in (places.Hole p sort) = whats.Hole sort
 what_in (places.Conflict p sort count) = whats.Conflict sort count
 

@@ -2,7 +2,8 @@ ghost use Rattle.std.specs.Prelude.{◌≡◌};
 ghost use Rattle.std.specs.Option.{option_map};
 ghost use Rattle.grove_terms.specs.Lent.{edge_of};
 
-use grove_edits::{Edge, Edit, Vertex};
+use edit_table::{LentVertex, TableEdge, TableVertex};
+use grove_edits::{Edge, Vertex};
 use grove_names::Name;
 use grove_sorts::{Position, Sort};
 
@@ -41,14 +42,15 @@ pub enum Role {
 }
 
 /// An edge as the graph that lends it has it.
-#[derive(Clone, Copy, Debug, PartialEq, Eq)]
+#[derive(Clone, Copy, Debug)]
 pub enum LentEdge<'g> {
     Whole(&'g Edge),
-    /// The edge of an edit, which is kept in parts.
-    OfEdit(&'g Edit),
+    /// An edge of a table, which is kept in parts.
+    OfTable(TableEdge<'g>),
 }
 
 impl<'g> LentEdge<'g> {
+    ghost use Rattle.edit_table.specs.Lent.{lent_vertex};
     ghost use Rattle.grove_terms.specs.Lent.{edge_of};
 
     /// The edge itself.
@@ -57,7 +59,7 @@ impl<'g> LentEdge<'g> {
     {
         match self {
             LentEdge::Whole(edge) => **edge,
-            LentEdge::OfEdit(edit) => edit.edge(),
+            LentEdge::OfTable(edge) => edge.edge(),
         }
     }
 
@@ -67,7 +69,7 @@ impl<'g> LentEdge<'g> {
     {
         match self {
             LentEdge::Whole(edge) => edge.name,
-            LentEdge::OfEdit(edit) => edit.name(),
+            LentEdge::OfTable(edge) => edge.name(),
         }
     }
 
@@ -77,38 +79,39 @@ impl<'g> LentEdge<'g> {
     {
         match self {
             LentEdge::Whole(edge) => edge.position,
-            LentEdge::OfEdit(edit) => edit.position(),
+            LentEdge::OfTable(edge) => edge.position(),
         }
     }
 
     /// The vertex to which the edge leads.
-    pub fn target(&self) -> &'g Vertex
-        ensures { result.now ≡ (edge_of self.now).target }
+    pub fn target(&self) -> LentVertex<'g>
+        ensures { lent_vertex result ≡ (edge_of self.now).target }
     {
         match self {
-            LentEdge::Whole(edge) => &edge.target,
-            LentEdge::OfEdit(edit) => edit.target(),
+            LentEdge::Whole(edge) => LentVertex::of(&edge.target),
+            LentEdge::OfTable(edge) => edge.target(),
         }
     }
 }
 
 /// What a lent node is: see `What`.
-#[derive(Clone, Copy, Debug, PartialEq, Eq)]
+#[derive(Clone, Copy, Debug)]
 pub enum LentWhat<'g> {
-    Vertex(&'g Vertex),
+    Vertex(LentVertex<'g>),
     Hole(Sort),
     Conflict(Sort, u64),
-    MultiRef(&'g Vertex),
-    CycleRef(&'g Vertex),
+    MultiRef(LentVertex<'g>),
+    CycleRef(LentVertex<'g>),
 }
 
 impl<'g> LentWhat<'g> {
+    ghost use Rattle.edit_table.specs.Lent.{lent_vertex};
     ghost use Rattle.grove_terms.specs.Lent.{what_as, what_of};
 
     // What a child is in a role, where its edge leads to this vertex.
     #[inline(always)]
-    fn in_role(role: Role, vertex: &'g Vertex) -> LentWhat<'g>
-        ensures { what_of result ≡ what_as role vertex.now }
+    fn in_role(role: Role, vertex: LentVertex<'g>) -> LentWhat<'g>
+        ensures { what_of result ≡ what_as role (lent_vertex vertex.entry) }
     {
         match role {
             Role::Vertex => LentWhat::Vertex(vertex),
@@ -121,34 +124,37 @@ impl<'g> LentWhat<'g> {
         ensures { result ≡ what_of self.now }
     {
         match self {
-            LentWhat::Vertex(vertex) => What::Vertex(**vertex),
+            LentWhat::Vertex(vertex) => What::Vertex(vertex.vertex()),
             LentWhat::Hole(sort) => What::Hole(*sort),
             LentWhat::Conflict(sort, count) => What::Conflict(*sort, *count),
-            LentWhat::MultiRef(vertex) => What::MultiRef(**vertex),
-            LentWhat::CycleRef(vertex) => What::CycleRef(**vertex),
+            LentWhat::MultiRef(vertex) => What::MultiRef(vertex.vertex()),
+            LentWhat::CycleRef(vertex) => What::CycleRef(vertex.vertex()),
         }
     }
 }
 
 /// A node of a tree whose edge or vertex is lent by the graph, since both are wide.
-#[derive(Clone, Copy, Debug, PartialEq, Eq)]
+#[derive(Clone, Copy, Debug)]
 pub struct LentNode<'g> {
     depth: u64,
     place: Place<'g>,
 }
 
 // Where a node stands, and what it is. A child stands at the position of its edge, and its vertex is the target of its edge, so it tells
-// the edge alone. The two forms of an edge stand here, and no `LentEdge`, whose tag would make each node a word wider.
-#[derive(Clone, Copy, Debug, PartialEq, Eq)]
+// the edge alone. The two forms of an edge stand here, and no `LentEdge`, whose tag would make each node a word wider; so do the two forms
+// of a head. A role comes first, where it has room beside the tag.
+#[derive(Clone, Copy, Debug)]
 enum Place<'g> {
     Head(&'g Vertex),
-    Whole(&'g Edge, Role),
-    OfEdit(&'g Edit, Role),
+    HeadAt(TableVertex<'g>),
+    Whole(Role, &'g Edge),
+    OfTable(Role, TableEdge<'g>),
     Hole(Position, Sort),
     Conflict(Position, Sort, u64),
 }
 
 impl<'g> LentNode<'g> {
+    ghost use Rattle.edit_table.specs.TableVertex.{table_vertex};
     ghost use Rattle.grove_terms.specs.declared.node.What.TheVariants as whats;
     ghost use Rattle.grove_terms.specs.Nodes.{child_node, head_node, node_at};
     ghost use Rattle.grove_terms.specs.Lent.{edge_of, node_of, what_as, what_of};
@@ -164,14 +170,25 @@ impl<'g> LentNode<'g> {
         }
     }
 
+    /// The node at the head of a tree, where a table has its vertex.
+    #[inline(always)]
+    pub fn head_at(vertex: TableVertex<'g>) -> LentNode<'g>
+        ensures { node_of result ≡ head_node (table_vertex vertex.entry) }
+    {
+        LentNode {
+            depth: 0,
+            place: Place::HeadAt(vertex),
+        }
+    }
+
     /// The node of a child, at the position of its edge.
     #[inline(always)]
     pub fn child(depth: u64, edge: LentEdge<'g>, role: Role) -> LentNode<'g>
         ensures { let whole = edge_of edge.entry in node_of result ≡ child_node depth whole.position whole (what_as role whole.target) }
     {
         let place = match edge {
-            LentEdge::Whole(edge) => Place::Whole(edge, role),
-            LentEdge::OfEdit(edit) => Place::OfEdit(edit, role),
+            LentEdge::Whole(edge) => Place::Whole(role, edge),
+            LentEdge::OfTable(edge) => Place::OfTable(role, edge),
         };
         LentNode { depth, place }
     }
@@ -212,9 +229,9 @@ impl<'g> LentNode<'g> {
         ensures { result ≡ (node_of self.now).position }
     {
         match self.place {
-            Place::Head(_) => None,
-            Place::Whole(edge, _) => Some(edge.position),
-            Place::OfEdit(edit, _) => Some(edit.position()),
+            Place::Head(_) | Place::HeadAt(_) => None,
+            Place::Whole(_, edge) => Some(edge.position),
+            Place::OfTable(_, edge) => Some(edge.position()),
             Place::Hole(position, _) | Place::Conflict(position, _, _) => Some(position),
         }
     }
@@ -225,9 +242,11 @@ impl<'g> LentNode<'g> {
         ensures { option_map edge_of result ≡ (node_of self.now).edge }
     {
         match self.place {
-            Place::Whole(edge, _) => Some(LentEdge::Whole(edge)),
-            Place::OfEdit(edit, _) => Some(LentEdge::OfEdit(edit)),
-            Place::Head(_) | Place::Hole(_, _) | Place::Conflict(_, _, _) => None,
+            Place::Whole(_, edge) => Some(LentEdge::Whole(edge)),
+            Place::OfTable(_, edge) => Some(LentEdge::OfTable(edge)),
+            Place::Head(_) | Place::HeadAt(_) | Place::Hole(_, _) | Place::Conflict(_, _, _) => {
+                None
+            }
         }
     }
 
@@ -236,9 +255,10 @@ impl<'g> LentNode<'g> {
         ensures { what_of result ≡ (node_of self.now).what }
     {
         match self.place {
-            Place::Head(vertex) => LentWhat::Vertex(vertex),
-            Place::Whole(edge, role) => LentWhat::in_role(role, &edge.target),
-            Place::OfEdit(edit, role) => LentWhat::in_role(role, edit.target()),
+            Place::Head(vertex) => LentWhat::Vertex(LentVertex::of(vertex)),
+            Place::HeadAt(vertex) => LentWhat::Vertex(vertex.lent()),
+            Place::Whole(role, edge) => LentWhat::in_role(role, LentVertex::of(&edge.target)),
+            Place::OfTable(role, edge) => LentWhat::in_role(role, edge.target()),
             Place::Hole(_, sort) => LentWhat::Hole(sort),
             Place::Conflict(_, sort, count) => LentWhat::Conflict(sort, count),
         }

@@ -12,9 +12,9 @@ use crate::no_memory::NoMemory;
 use crate::outcome::{Fault, Status};
 use crate::reading::{fault_of_text, read_edits};
 use edit_merge::merge_lines;
+use edit_table::EditTable;
 use edit_text::{TextFault, split_version, write_version};
 use grove_answers::{check_text, print_text};
-use grove_edits::EditList;
 use grove_io::Gate;
 use grove_sorts::Version;
 use replica_core::Replica;
@@ -150,28 +150,28 @@ fn answer(
     match question {
         Question::Merge => merge_text(alloc, text),
         Question::Show => {
-            let edits = read_edits(alloc, text)?;
-            Ok(show(alloc, seed, edits)?)
+            let table = read_edits(alloc, text, seed)?;
+            Ok(show(alloc, seed, table)?)
         }
         Question::Check => {
-            let edits = read_edits(alloc, text)?;
-            Ok(check(alloc, seed, edits)?)
+            let table = read_edits(alloc, text, seed)?;
+            Ok(check(alloc, seed, table)?)
         }
     }
 }
 
-fn show(alloc: Global, seed: HashSeed, edits: EditList) -> Result<Vec<u8>, NoMemory>
-    requires { Ascends edits }
-    ensures { IfOk result (λ text. IsPrintText (graph edits) text.items) }
+fn show(alloc: Global, seed: HashSeed, table: EditTable) -> Result<Vec<u8>, NoMemory>
+    requires { Ascends table.edits }
+    ensures { IfOk result (λ text. IsPrintText (graph table.edits) text.items) }
 {
-    Ok(print_text(alloc, edits, seed)?)
+    Ok(print_text(alloc, table, seed)?)
 }
 
-fn check(alloc: Global, seed: HashSeed, edits: EditList) -> Result<Vec<u8>, NoMemory>
-    requires { Ascends edits }
-    ensures { IfOk result (λ text. IsCheckText (graph edits) text.items) }
+fn check(alloc: Global, seed: HashSeed, table: EditTable) -> Result<Vec<u8>, NoMemory>
+    requires { Ascends table.edits }
+    ensures { IfOk result (λ text. IsCheckText (graph table.edits) text.items) }
 {
-    Ok(check_text(alloc, edits, seed)?)
+    Ok(check_text(alloc, table, seed)?)
 }
 
 // No edit is kept: the lines are sorted where they stand.

@@ -60,12 +60,6 @@ impl From<edit_text::NoMemory> for NoMemory {
     }
 }
 
-impl From<edit_stream::NoMemory> for NoMemory {
-    fn from(_error: edit_stream::NoMemory) -> NoMemory {
-        NoMemory
-    }
-}
-
 impl From<grove_answers::NoMemory> for NoMemory {
     fn from(_error: grove_answers::NoMemory) -> NoMemory {
         NoMemory

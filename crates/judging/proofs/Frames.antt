@@ -53,15 +53,22 @@ stays_open types ctxs place o fs new out some pushed = by (left-cases (positions
       ∙ ap (λ ps. machine.at (frame_of place (opened_at types ctxs o) ps ∷ frames_at types ctxs fs) out) left
       ∙ ap (λ ps. machine.opened place (opened_at types ctxs o) ps (frames_at types ctxs fs) out) (sym left)
 
--- where none is left, what marking adds is put to its node
+-- where a vertex has no positions, what marking adds is put to its node
+pub closes_at_once : (old new : List Typ) (ctxs : List Context) (place : ℕ) (v : machine.Opened) (c : Closed) (fs : List (ℕ × Frame)) (out after : List MarkedNode) → KeepsTypes old new → AreFramesOf old ctxs (frames_in fs)
+    → added_at new c ≡ machine.added_of v → given_at new c.given ≡ machine.given_of v → after ≡ machine.add_at (added_at new c) out place
+    → machine.deliver (given_at new c.given) (frames_at new ctxs fs) after ≡ machine.opened place v [] (frames_at old ctxs fs) out
+closes_at_once old new ctxs place v c fs out after keeps frames adds gives is =
+    ap (λ x. machine.deliver x (frames_at new ctxs fs) after) gives
+    ∙ ap (λ xs. machine.deliver (machine.given_of v) xs after) (frames_at-kept old new ctxs ctxs keeps (contexts-itself ctxs) fs frames)
+    ∙ ap (λ xs. machine.deliver (machine.given_of v) (frames_at old ctxs fs) xs) (is ∙ ap (λ (a : machine.Added). machine.add_at a out place) adds)
+
+-- so it is where none is left
 pub closes : (old new : List Typ) (ctxs : List Context) (place : ℕ) (o : OpenVertex) (c : Closed) (fs : List (ℕ × Frame)) (out after : List MarkedNode) → KeepsTypes old new → AreFramesOf old ctxs (frames_in fs)
     → length (positions o.ctor.now) ≤ o.next → added_at new c ≡ machine.added_of (opened_at old ctxs o) → given_at new c.given ≡ machine.given_of (opened_at old ctxs o)
     → after ≡ machine.add_at (added_at new c) out place
     → machine.deliver (given_at new c.given) (frames_at new ctxs fs) after ≡ machine.opened place (opened_at old ctxs o) (left_of o) (frames_at old ctxs fs) out
 closes old new ctxs place o c fs out after keeps frames whole adds gives is =
-    ap (λ x. machine.deliver x (frames_at new ctxs fs) after) gives
-    ∙ ap (λ xs. machine.deliver (machine.given_of (opened_at old ctxs o)) xs after) (frames_at-kept old new ctxs ctxs keeps (contexts-itself ctxs) fs frames)
-    ∙ ap (λ xs. machine.deliver (machine.given_of (opened_at old ctxs o)) (frames_at old ctxs fs) xs) (is ∙ ap (λ (a : machine.Added). machine.add_at a out place) adds)
+    closes_at_once old new ctxs place (opened_at old ctxs o) c fs out after keeps frames adds gives is
     ∙ ap (λ ps. machine.opened place (opened_at old ctxs o) ps (frames_at old ctxs fs) out) (sym (left_none (positions o.ctor.now) o.next whole))
 
 pub framed : (types : List Typ) (ctxs : List Context) (fs new : List Frame) (f : Frame) → AreFramesOf types ctxs fs → IsFrameOf types ctxs f → new ≡ fs ++ f ∷ [] → AreFramesOf types ctxs new

@@ -1,20 +1,23 @@
 ghost use Rattle.std.specs.Prelude.{◌≡◌, map, length, None, IfOk};
 ghost use Rattle.std.specs.Option.{option_map};
+ghost use Rattle.grove_sorts.specs.declared.ctor.Ctor.TheVariants.{Num};
 ghost use Rattle.grove_sorts.specs.declared.sort.Sort.{Sort};
 ghost use Rattle.grove_sorts.specs.Ctor.{positions, sort_of_ctor};
 ghost use Rattle.mark_step.specs.declared.node.Mark.{Mark};
+ghost use Rattle.mark_step.specs.Node.{demanded_at, IsDemandOf};
 ghost use Rattle.type_core.specs.TypeTable.{IsTypeOf, type_at, KeepsTypes};
 ghost use Rattle.marking.specs.Types.{pattern_name};
+ghost use Rattle.judging.specs.Machine as machine;
 ghost use Rattle.judging.specs.Machine.{made, made_of, of_type, type_added, given_of, given_by_sort, added_of, added_by_sort};
 ghost use Rattle.judging.specs.Frames.{given_at, given_before, opened_at, added_at, IsFilledOf, IsOpenOf, IsClosedOf};
 
 use crate::frame::{Closed, Given, OpenVertex};
 use crate::no_memory::NoMemory;
-use crate::opening::nothing;
+use crate::opening::{fresh, nothing};
 use crate::view::view;
 use ctx_table::CtxTable;
 use grove_sorts::{Ctor, Ident, Sort, sort_of};
-use mark_step::{Mark, settle};
+use mark_step::{Demand, Mark, settle};
 use std::alloc::Global;
 use type_core::{TypeId, TypeTable};
 
@@ -134,4 +137,33 @@ pub fn close<'t>(
         })),
         Sort::Top => Ok(untyped(nothing(types))),
     }
+}
+
+/// What marking adds to the node of a literal with this number, of which this is demanded, and what it gives. It has no positions, so it
+/// is closed at once; and it is no pattern, so what it gives refers to no vertex. The numbers of the table keep their meaning, also where
+/// memory runs out.
+pub fn close_literal<'t>(
+    alloc: Global,
+    types: &mut TypeTable,
+    ctxs: &CtxTable,
+    number: u64,
+    demand: Demand,
+) -> Result<Closed<'t>, NoMemory>
+    requires { IsDemandOf types.old ctxs.now demand }
+    ensures added { IfOk result (λ c. added_at types.new c ≡ added_of (machine.fresh (Num number) (demanded_at types.old ctxs.now demand))) }
+    ensures given { IfOk result (λ c. given_at types.new c.given ≡ given_of (machine.fresh (Num number) (demanded_at types.old ctxs.now demand))) }
+    ensures numbers { IfOk result (IsClosedOf types.new) }
+    ensures kept { KeepsTypes types.old types.new }
+{
+    let literal = Ctor::Num(number);
+    let closed = close(alloc, types, ctxs, &fresh(types, &literal, demand))?;
+    Ok(Closed {
+        mode: closed.mode,
+        typ: closed.typ,
+        mark: closed.mark,
+        given: Given {
+            typ: closed.given.typ,
+            name: None,
+        },
+    })
 }

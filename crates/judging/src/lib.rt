@@ -9,7 +9,7 @@ mod no_memory;
 mod opening;
 mod view;
 
-pub use closing::close;
+pub use closing::{close, close_literal};
 pub use frame::{Closed, Frame, Given, GivenRow, OpenVertex};
 pub use laws::taking_all_nodes_marks_the_tree;
 pub use no_memory::NoMemory;

@@ -66,14 +66,28 @@ fresh_opens types ctxs place o ctor d fs new out some is left pushed =
 
 -- ---- a vertex is closed
 
+settled_is : (old new : List Typ) (place : ℕ) (c : Closed) (ns : List LentNode) (added after : List Added) → KeepsTypes old new → AreAddedOf old added → after ≡ set added place (added_by c)
+    → meant_nodes new (marked_nodes ns after) ≡ machine.add_at (added_at new c) (meant_nodes old (marked_nodes ns added)) place
+settled_is old new place c ns added after keeps numbers is =
+    ap (λ xs. meant_nodes new (marked_nodes ns xs)) is ∙ meant_nodes-settled new ns added place c
+    ∙ ap (λ ms. machine.add_at (added_at new c) ms place) (meant_nodes_kept old new keeps (marked_nodes ns added) (are_marked old ns added numbers))
+
+-- it has no positions
+pub closes_at_once : (old new : List Typ) (ctxs : List Context) (place : ℕ) (v : machine.Opened) (c : Closed) (fs : List (ℕ × Frame)) (ns : List LentNode) (added after : List Added) → KeepsTypes old new
+    → AreFramesOf old ctxs (frames_in fs) → AreAddedOf old added → added_at new c ≡ machine.added_of v → given_at new c.given ≡ machine.given_of v → after ≡ set added place (added_by c)
+    → machine.deliver (given_at new c.given) (frames_at new ctxs fs) (meant_nodes new (marked_nodes ns after)) ≡ machine.opened place v [] (frames_at old ctxs fs) (meant_nodes old (marked_nodes ns added))
+closes_at_once old new ctxs place v c fs ns added after keeps all numbers adds gives is =
+    frames.closes_at_once old new ctxs place v c fs (meant_nodes old (marked_nodes ns added)) (meant_nodes new (marked_nodes ns after)) keeps all adds gives
+    (settled_is old new place c ns added after keeps numbers is)
+
+-- none of its positions is left
 pub is_closed : (old new : List Typ) (ctxs : List Context) (place : ℕ) (o : OpenVertex) (c : Closed) (fs : List (ℕ × Frame)) (ns : List LentNode) (added after : List Added) → KeepsTypes old new → AreFramesOf old ctxs (frames_in fs)
     → AreAddedOf old added → length (positions o.ctor.now) ≤ o.next → added_at new c ≡ machine.added_of (opened_at old ctxs o) → given_at new c.given ≡ machine.given_of (opened_at old ctxs o) → after ≡ set added place (added_by c)
     → machine.deliver (given_at new c.given) (frames_at new ctxs fs) (meant_nodes new (marked_nodes ns after))
     ≡ machine.opened place (opened_at old ctxs o) (left_of o) (frames_at old ctxs fs) (meant_nodes old (marked_nodes ns added))
 is_closed old new ctxs place o c fs ns added after keeps all numbers whole adds gives is =
     frames.closes old new ctxs place o c fs (meant_nodes old (marked_nodes ns added)) (meant_nodes new (marked_nodes ns after)) keeps all whole adds gives
-    (ap (λ xs. meant_nodes new (marked_nodes ns xs)) is ∙ meant_nodes-settled new ns added place c
-    ∙ ap (λ ms. machine.add_at (added_at new c) ms place) (meant_nodes_kept old new keeps (marked_nodes ns added) (are_marked old ns added numbers)))
+    (settled_is old new place c ns added after keeps numbers is)
 
 pub fresh_closes : (old new : List Typ) (ctxs : List Context) (place : ℕ) (o : OpenVertex) (ctor : Ctor) (d : Demanded) (c : Closed) (fs : List (ℕ × Frame)) (ns : List LentNode) (added after : List Added) → KeepsTypes old new
     → AreFramesOf old ctxs (frames_in fs) → AreAddedOf old added → length (positions ctor) ≤ 0 → opened_at old ctxs o ≡ machine.fresh ctor d → left_of o ≡ positions ctor

@@ -1,7 +1,9 @@
 ghost use Rattle.std.specs.Prelude.{◌≡◌, ◌+◌, ◌-◌, ◌<◌, List, ◌∷◌, ◌++◌, [], length, set, slice_get, Some, IfOk, OnOk, IfSome};
 ghost use Rattle.std.specs.Option.{option_map};
 ghost use Rattle.grove_terms.specs.declared.node.LentNode.{LentNode};
+ghost use Rattle.grove_sorts.specs.declared.ctor.Ctor.TheVariants.{Num};
 ghost use Rattle.grove_sorts.specs.Ctor.{positions};
+ghost use Rattle.edit_table.specs.Lent.{lent_ctor};
 ghost use Rattle.grove_terms.specs.Lent.{node_of};
 ghost use Rattle.type_core.specs.Typ.{Typ};
 ghost use Rattle.type_core.specs.TypeTable.{KeepsTypes};
@@ -18,9 +20,12 @@ ghost use Rattle.mark_rules.specs.Walking.{state_at, given_on, added_by, IsWalkO
 
 use crate::no_memory::NoMemory;
 use ctx_table::CtxTable;
-use grove_sorts::{Ctor, Sort, position_count, sort_of};
+use edit_table::LentCtor;
+use grove_sorts::{Ctor, Sort, position_count};
 use grove_terms::{LentNode, LentWhat};
-use judging::{Closed, Frame, Given, OpenVertex, close, demand_next, fresh, nothing};
+use judging::{
+    Closed, Frame, Given, OpenVertex, close, close_literal, demand_next, fresh, nothing,
+};
 use mark_step::{Demand, Mark, Mode};
 use marking::Added;
 use std::alloc::Global;
@@ -147,6 +152,59 @@ fn open<'t>(
     Ok(Some(closed.given))
 }
 
+// Closes a literal, whose node has this index, and tells what it gives.
+fn settle_literal<'t>(
+    alloc: Global,
+    types: &mut TypeTable,
+    ctxs: &CtxTable,
+    walk: &mut Walk<'t>,
+    place: usize,
+    number: u64,
+    demand: Demand,
+) -> Result<Given<'t>, NoMemory>
+    requires walk { IsWalkOf types.old ctxs.now walk.old }
+    requires demand { IsDemandOf types.old ctxs.now demand }
+    ensures state { IfOk result (λ given. (nodes : List LentNode)
+        → given_on types.new ctxs.now nodes (Some given) walk.new ≡ opened place (machine.fresh (Num number) (demanded_at types.old ctxs.now demand)) []
+        (frames_at types.old ctxs.now walk.old.frames.items) (meant_nodes types.old (marked_nodes nodes walk.old.added.items))) }
+    ensures count { OnOk result (length walk.new.added.items ≡ length walk.old.added.items) }
+    ensures given { IfOk result (IsGivenOf types.new) }
+    ensures walk { OnOk result (IsWalkOf types.new ctxs.now walk.new) }
+    ensures kept { KeepsTypes types.old types.new }
+{
+    let closed = close_literal(alloc, types, ctxs, number, demand)?;
+    settle(&mut walk.added, place, added_by(&closed));
+    Ok(closed.given)
+}
+
+// Opens a vertex whose constructor is lent.
+fn open_lent<'t>(
+    alloc: Global,
+    types: &mut TypeTable,
+    ctxs: &CtxTable,
+    walk: &mut Walk<'t>,
+    place: usize,
+    ctor: LentCtor<'t>,
+    demand: Demand,
+) -> Result<Option<Given<'t>>, NoMemory>
+    requires walk { IsWalkOf types.old ctxs.now walk.old }
+    requires demand { IsDemandOf types.old ctxs.now demand }
+    ensures state { IfOk result (λ given. (nodes : List LentNode)
+        → given_on types.new ctxs.now nodes given walk.new ≡ opened place (machine.fresh (lent_ctor ctor.entry) (demanded_at types.old ctxs.now demand))
+        (positions (lent_ctor ctor.entry)) (frames_at types.old ctxs.now walk.old.frames.items) (meant_nodes types.old (marked_nodes nodes walk.old.added.items))) }
+    ensures count { OnOk result (length walk.new.added.items ≡ length walk.old.added.items) }
+    ensures given { IfOk result (λ given. IfSome given (IsGivenOf types.new)) }
+    ensures walk { OnOk result (IsWalkOf types.new ctxs.now walk.new) }
+    ensures kept { KeepsTypes types.old types.new }
+{
+    match ctor {
+        LentCtor::At(ctor) => open(alloc, types, ctxs, walk, place, ctor, demand),
+        LentCtor::Literal(number) => Ok(Some(settle_literal(
+            alloc, types, ctxs, walk, place, number, demand,
+        )?)),
+    }
+}
+
 // Gives a vertex what the child at its next position has given, as `judging::fill` does, which writes the whole wide row: here only that
 // position is written.
 fn fill<'t>(vertex: &mut OpenVertex<'t>, given: Given<'t>)
@@ -255,7 +313,7 @@ fn begin<'t>(
     match node.what() {
         LentWhat::Vertex(vertex) => {
             list(&mut walk.added, unsettled())?;
-            open(alloc, types, ctxs, walk, place, &vertex.ctor, demand)
+            open_lent(alloc, types, ctxs, walk, place, vertex.ctor, demand)
         }
         LentWhat::Hole(sort) => Ok(Some(list_plain(types, &mut walk.added, sort, mode)?)),
         LentWhat::Conflict(sort, count) => {
@@ -270,7 +328,7 @@ fn begin<'t>(
             Ok(None)
         }
         LentWhat::MultiRef(vertex) | LentWhat::CycleRef(vertex) => {
-            let sort = sort_of(&vertex.ctor);
+            let sort = vertex.ctor.sort();
             Ok(Some(list_plain(types, &mut walk.added, sort, mode)?))
         }
     }

@@ -2,13 +2,15 @@ ghost use Rattle.std.specs.Prelude.{List, IfOk};
 ghost use Rattle.type_core.specs.Typ.{Typ};
 ghost use Rattle.marking.specs.Numbers.{IsAddedOf, AreMarkedNodesOf, IsMarkedGroveOf};
 
-use grove_edits::{Edge, Vertex};
+use edit_table::EditTable;
+use grove_edits::{Edge, Edit, EditKind, EditList, Vertex};
 use grove_names::Name;
 use grove_printer::*;
 use grove_sorts::{Ctor, Position, Sort};
 use grove_terms::{LentEdge, LentNode, Role};
 use mark_step::{Mark, Mode};
 use marking::{Added, MarkedGrove, MarkedTree, MarkedTreeList};
+use seeded_hash::HashSeed;
 use std::alloc::Global;
 use std::test::Fail;
 use type_core::TypeTable;
@@ -169,5 +171,47 @@ fn an_injection_against_a_number_is_printed(rt: HostRuntime) -> Result<(), Fail>
     let mut text = Vec::new(rt.alloc());
     print_marked_lines(&marked, &types, &mut text)?;
     assert!(rt; text.as_slice() == b"2 left 1.4 1.3 inl ana:num num inj-against\n".as_slice());
+    Ok(())
+}
+
+#[test]
+fn nodes_of_a_table_are_printed(rt: HostRuntime) -> Result<(), Fail> {
+    let types = TypeTable::new(rt.alloc())?;
+    let edge = Edge {
+        name: Name {
+            author: 1,
+            counter: 4,
+        },
+        source: Vertex::ROOT,
+        position: Position::Main,
+        target: vertex(1, 3, Ctor::Num(7)),
+    };
+    let mut edits = EditList::new(rt.alloc());
+    edits.push(Edit::new(EditKind::Insert, edge)?)?;
+    let table = EditTable::of_list(rt.alloc(), &edits, HashSeed::FIXED)?;
+    if table.len() == 0 || table.vertex_count() == 0 {
+        return Err(Fail::from("an edge of the root"));
+    }
+    let head = LentNode::head_at(table.vertex(0));
+    let child = LentNode::child(1, LentEdge::OfTable(table.edge(0)), Role::MultiRef);
+    let root = Vertex::ROOT;
+    assert!(rt; head.node() == LentNode::head(&root).node());
+    assert!(rt; child.node() == LentNode::child(1, LentEdge::Whole(&edge), Role::MultiRef).node());
+    let nodes = [head, child];
+    let added = Added {
+        mode: Some(Mode::Syn),
+        typ: Some(types.unknown()),
+        mark: Mark::None,
+    };
+    let tree = tree_of(rt.alloc(), &nodes, added)?;
+    let mut text = Vec::new(rt.alloc());
+    print_tree(&tree, &types, &mut text)?;
+    assert!(rt;
+        text.as_slice()
+            == b"0 - - 0.0 root top - -
+1 main 1.4 1.3 multi:num:7 syn ? -
+"
+                .as_slice()
+    );
     Ok(())
 }

@@ -5,7 +5,7 @@ use grove_sorts::{Ctor, Position, Sort};
 use grove_terms::{Grove, LentNode, Tree, TreeList};
 use mark_rules::{erase, mark_grove};
 use mark_step::{Mark, Mode};
-use marking::{Added, MarkedGrove, MarkedNode, MarkedTree, MarkedTreeList};
+use marking::{Added, MarkedGrove, MarkedTree, MarkedTreeList};
 use std::test::Fail;
 use type_core::TypeTable;
 
@@ -22,7 +22,7 @@ fn a_hole_is_a_hole_again(rt: HostRuntime) -> Result<(), Fail> {
     })?;
     let tree = MarkedTree::new(&nodes, added);
     assert!(rt; tree.len() == 1);
-    assert!(rt; tree.get(1) == None);
+    assert!(rt; tree.get(1).is_none());
     let mut none = MarkedTreeList::new(rt.alloc());
     none.push(tree)?;
     let marked = MarkedGrove {
@@ -61,15 +61,13 @@ fn a_number_is_marked(rt: HostRuntime) -> Result<(), Fail> {
         cycle: TreeList::new(rt.alloc()),
     };
     let marked = mark_grove(rt.alloc(), &grove, &mut types, &mut ctxs)?;
-    assert!(rt;
-        marked.none.get(0).and_then(|tree| tree.get(0))
-            == Some(MarkedNode {
-                node: seven,
-                mode: Some(Mode::Syn),
-                typ: Some(types.num()),
-                mark: Mark::None,
-            })
-    );
+    let Some(number) = marked.none.get(0).and_then(|tree| tree.get(0)) else {
+        return Err(Fail::from("a marked number"));
+    };
+    assert!(rt; number.node.node() == seven.node());
+    assert!(rt; number.mode == Some(Mode::Syn));
+    assert!(rt; number.typ == Some(types.num()));
+    assert!(rt; number.mark == Mark::None);
     assert!(rt; marked.none.len() == 1);
     assert!(rt; marked.multi.len() + marked.cycle.len() == 0);
     Ok(())

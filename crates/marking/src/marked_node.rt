@@ -6,7 +6,7 @@ use mark_step::{Mark, Mode};
 use type_core::TypeId;
 
 /// A node of a tree with what marking adds to it.
-#[derive(Clone, Copy, Debug, PartialEq, Eq)]
+#[derive(Clone, Copy, Debug)]
 pub struct MarkedNode<'t> {
     pub node: LentNode<'t>,
     /// What is wanted of it, where it is an expression.

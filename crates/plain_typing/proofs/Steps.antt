@@ -1,15 +1,17 @@
 -- What the walk stands for, step by step.
 use Rattle.std.proofs.Common.{◌≡◌, ◌↔◌, ℕ, zero, suc, ◌<◌, ◌≤◌, ◌⊎◌, inl, inr, Bool, true, false, List, [], ◌∷◌, ◌++◌, length, drop, Option, Some, None, refl, sym, ap, subst, ◌∙◌, arith, length-append}
 use Rattle.std.specs.Prelude.{◌||◌, ◌-◌, slice_get, Result, Ok, Err, IfOk, OnOk}
-use Rattle.std.specs.Borrow.{Bor}
 use Rattle.grove_sorts.specs.declared.position.Position.{Position}
 use Rattle.grove_sorts.specs.declared.sort.Sort.{Sort}
+use Rattle.grove_sorts.specs.declared.ctor.Ctor.{Ctor}
 use Rattle.grove_sorts.specs.Ctor.{positions, sort_of_ctor}
 use Rattle.type_core.specs.Typ.{Typ}
 use Rattle.type_core.specs.TypeTable.{KeepsTypes}
 use Rattle.ctx_table.specs.Context.{Context}
 use Rattle.ctx_table.specs.CtxTable.{KeepsContexts}
 use Rattle.grove_edits.specs.declared.vertex.Vertex.{Vertex}
+use Rattle.edit_table.specs.declared.lent_vertex.LentVertex.{LentVertex}
+use Rattle.edit_table.specs.Lent.{lent_vertex}
 use Rattle.grove_terms.specs.declared.node.Node.{Node}
 use Rattle.grove_terms.specs.declared.node.What.{What}
 use Rattle.grove_terms.specs.declared.node.What.TheVariants as whats
@@ -28,7 +30,7 @@ use Rattle.judging.specs.declared.frame.Closed.{Closed}
 use Rattle.judging.specs.Machine as machine
 use Rattle.judging.specs.Frames.{given_at, opened_at, left_of, frame_at, frames_at, frames_in, demanded_of, added_at, filled_with, IsFrameOf, AreFramesOf}
 use Rattle.judging.proofs.Kept.{contexts-itself, frames_at-push, frames_in-push, frames_at-kept}
-use Rattle.judging.proofs.Frames.{stays_open, closes, given_fills, given_several, given_last, placed_off, last_in, last_demands, begins_vertex, begins_conflict}
+use Rattle.judging.proofs.Frames.{stays_open, left_none, closes_at_once, given_fills, given_several, given_last, placed_off, last_in, last_demands, begins_conflict}
 use Rattle.plain_typing.specs.declared.walking.Walk.{Walk}
 use Rattle.plain_typing.specs.Walking.{IsUnmarkedAt, AreUnsettled, IsNoted, given_on, StandsFor}
 use Rattle.plain_typing.proofs.Unmarked.{unmarked_plain}
@@ -37,6 +39,9 @@ use Rattle.plain_typing.proofs.Places.{unmarked-last, unmarked-within, no_mark-a
 -- a frame is put on, where all have places
 put_on : (fs : List (ℕ × Frame)) (old new : List Frame) (place : ℕ) (f : Frame) → frames_in fs ≡ old → new ≡ old ++ f ∷ [] → frames_in (fs ++ (place, f) ∷ []) ≡ new
 put_on fs old new place f open_here pushed = frames_in-push fs (place, f) ∙ ap (λ xs. xs ++ f ∷ []) open_here ∙ sym pushed
+
+stands_for : (types : List Typ) (ctxs : List Context) (g : Option Given) (walk : Walk) (s t : machine.State) → s ≡ t → StandsFor types ctxs g walk s → StandsFor types ctxs g walk t
+stands_for types ctxs g walk s t same stands = subst (StandsFor types ctxs g walk) same stands
 
 -- ---- a vertex is opened or closed
 
@@ -58,12 +63,13 @@ noted-or : (b mark : Bool) (Clean : Type 0) → ((b ≡ false) ↔ Clean) → ((
 noted-or true mark Clean noted = (λ h. absurd cc, λ h. noted.1 h.0)
 noted-or false mark Clean noted = (λ h. (noted.0 refl, h), λ h. h.1)
 
-pub stands_closed : (old new : List Typ) (ctxs : List Context) (o : OpenVertex) (c : Closed) (walk after : Walk) (place : ℕ) (fs : List (ℕ × Frame)) (nodes : List MarkedNode) → KeepsTypes old new
-    → AreFramesOf old ctxs walk.frames.items → length (positions o.ctor.now) ≤ o.next → added_at new c ≡ machine.added_of (opened_at old ctxs o)
-    → given_at new c.given ≡ machine.given_of (opened_at old ctxs o) → after.frames.items ≡ walk.frames.items → after.has_mark ≡ (walk.has_mark || has_mark c.mark)
+-- a vertex without positions is closed at once
+pub stands_at_once : (old new : List Typ) (ctxs : List Context) (v : machine.Opened) (c : Closed) (walk after : Walk) (place : ℕ) (fs : List (ℕ × Frame)) (nodes : List MarkedNode) → KeepsTypes old new
+    → AreFramesOf old ctxs walk.frames.items → added_at new c ≡ machine.added_of v → given_at new c.given ≡ machine.given_of v
+    → after.frames.items ≡ walk.frames.items → after.has_mark ≡ (walk.has_mark || has_mark c.mark)
     → frames_in fs ≡ walk.frames.items → IsUnmarkedAt nodes place → AreUnsettled place (frames_at old ctxs fs) nodes → IsNoted walk nodes
-    → StandsFor new ctxs (Some c.given) after (machine.opened place (opened_at old ctxs o) (left_of o) (frames_at old ctxs fs) nodes)
-stands_closed old new ctxs o c walk after place fs nodes keeps frames whole adds gives stay marks open_here is are noted =
+    → StandsFor new ctxs (Some c.given) after (machine.opened place v [] (frames_at old ctxs fs) nodes)
+stands_at_once old new ctxs v c walk after place fs nodes keeps frames adds gives stay marks open_here is are noted =
     let added : machine.Added = added_at new c in
     let later : List MarkedNode = machine.add_at added nodes place in
     let both = noted-or walk.has_mark (has_mark c.mark) (HasNoMark nodes) noted in
@@ -74,11 +80,21 @@ stands_closed old new ctxs o c walk after place fs nodes keeps frames whole adds
       frames = fs;
       nodes = later;
       open_here = open_here ∙ sym stay;
-      comes_to = closes old new ctxs place o c fs nodes later keeps numbers whole adds gives refl;
+      comes_to = closes_at_once old new ctxs place v c fs nodes later keeps numbers adds gives refl;
       unsettled = subst (λ xs. AreUnsettled (length later) xs later) (sym (frames_at-kept old new ctxs ctxs keeps (contexts-itself ctxs) fs numbers))
           (unsettled-more place (length later) (frames_at old ctxs fs) later low (unsettled-added place (frames_at old ctxs fs) nodes place added (omega arith) are));
       noted = (λ h. put.0 (both.0 (sym marks ∙ h)), λ h. marks ∙ both.1 (put.1 h));
     }
+
+pub stands_closed : (old new : List Typ) (ctxs : List Context) (o : OpenVertex) (c : Closed) (walk after : Walk) (place : ℕ) (fs : List (ℕ × Frame)) (nodes : List MarkedNode) → KeepsTypes old new
+    → AreFramesOf old ctxs walk.frames.items → length (positions o.ctor.now) ≤ o.next → added_at new c ≡ machine.added_of (opened_at old ctxs o)
+    → given_at new c.given ≡ machine.given_of (opened_at old ctxs o) → after.frames.items ≡ walk.frames.items → after.has_mark ≡ (walk.has_mark || has_mark c.mark)
+    → frames_in fs ≡ walk.frames.items → IsUnmarkedAt nodes place → AreUnsettled place (frames_at old ctxs fs) nodes → IsNoted walk nodes
+    → StandsFor new ctxs (Some c.given) after (machine.opened place (opened_at old ctxs o) (left_of o) (frames_at old ctxs fs) nodes)
+stands_closed old new ctxs o c walk after place fs nodes keeps frames whole adds gives stay marks open_here is are noted =
+    stands_for new ctxs (Some c.given) after _ (machine.opened place (opened_at old ctxs o) (left_of o) (frames_at old ctxs fs) nodes)
+    (ap (λ ps. machine.opened place (opened_at old ctxs o) ps (frames_at old ctxs fs) nodes) (sym (left_none (positions o.ctor.now) o.next whole)))
+    (stands_at_once old new ctxs (opened_at old ctxs o) c walk after place fs nodes keeps frames adds gives stay marks open_here is are noted)
 
 -- ---- something is given to the innermost frame
 
@@ -95,14 +111,15 @@ first_open types ctxs place f o below fs nodes is frame are =
     unsettled-first place (opened_at types ctxs o) (left_of o) below fs nodes (left_some (positions o.ctor.now) o.next some.1)
     (subst (λ (x : Frame). AreUnsettled below (frame_at types ctxs place x ∷ fs) nodes) is are)
 
-stands_for : (types : List Typ) (ctxs : List Context) (g : Option Given) (walk : Walk) (s t : machine.State) → s ≡ t → StandsFor types ctxs g walk s → StandsFor types ctxs g walk t
-stands_for types ctxs g walk s t same stands = subst (StandsFor types ctxs g walk) same stands
+-- what a vertex comes to of which these positions are left
+abbrev pub OpensTo : List Typ → List Typ → List Context → Walk → machine.Opened → List (Position × Sort) → Option Given → Walk → Type 0
+OpensTo old new ctxs walk v left given after = (place : ℕ) (fs : List (ℕ × Frame)) (nodes : List MarkedNode)
+    → frames_in fs ≡ walk.frames.items → IsUnmarkedAt nodes place → AreUnsettled place (frames_at old ctxs fs) nodes → IsNoted walk nodes
+    → StandsFor new ctxs given after (machine.opened place v left (frames_at old ctxs fs) nodes)
 
 -- what a vertex comes to that is gone on with
 abbrev pub GoesOn : List Typ → List Typ → List Context → Walk → OpenVertex → Option Given → Walk → Type 0
-GoesOn old new ctxs walk o given after = (place : ℕ) (fs : List (ℕ × Frame)) (nodes : List MarkedNode)
-    → frames_in fs ≡ walk.frames.items → IsUnmarkedAt nodes place → AreUnsettled place (frames_at old ctxs fs) nodes → IsNoted walk nodes
-    → StandsFor new ctxs given after (machine.opened place (opened_at old ctxs o) (left_of o) (frames_at old ctxs fs) nodes)
+GoesOn old new ctxs walk o given after = OpensTo old new ctxs walk (opened_at old ctxs o) (left_of o) given after
 
 -- what a frame makes of what it is given
 abbrev pub Passes : List Typ → List Typ → List Context → Walk → Frame → Given → Option Given → Walk → Type 0
@@ -171,25 +188,36 @@ stands_passed old new ctxs p next g f walk rest after is popped same passes s st
 
 -- ---- a node is begun
 
-stands_begun : (types new : List Typ) (ctxs : List Context) (o : OpenVertex) (v : Vertex) (n : Node) (w : What) (d : Demanded) (given : Option Given) (walk after : Walk)
-    → opened_at types ctxs o ≡ machine.fresh v.ctor d → left_of o ≡ positions v.ctor → w ≡ whats.Vertex v → GoesOn types new ctxs walk o given after
+-- a vertex of which nothing is judged yet is gone on with
+pub stands_fresh : (old new : List Typ) (ctxs : List Context) (o : OpenVertex) (ctor : Ctor) (d : Demanded) (walk after : Walk) {E : Type 0} (given : Result (Option Given) E)
+    → opened_at old ctxs o ≡ machine.fresh ctor d → left_of o ≡ positions ctor → IfOk given (λ x. GoesOn old new ctxs walk o x after)
+    → IfOk given (λ x. OpensTo old new ctxs walk (machine.fresh ctor d) (positions ctor) x after)
+stands_fresh old new ctxs o ctor d walk after (Err e) is left goes = tt
+stands_fresh old new ctxs o ctor d walk after (Ok x) is left goes = λ place fs nodes open_here unmarked are noted.
+    stands_for new ctxs x after _ (machine.opened place (machine.fresh ctor d) (positions ctor) (frames_at old ctxs fs) nodes)
+    (ap (λ (v : machine.Opened). machine.opened place v (left_of o) (frames_at old ctxs fs) nodes) is
+    ∙ ap (λ ps. machine.opened place (machine.fresh ctor d) ps (frames_at old ctxs fs) nodes) left)
+    (goes place fs nodes open_here unmarked are noted)
+
+stands_begun : (types new : List Typ) (ctxs : List Context) (v : Vertex) (n : Node) (w : What) (d : Demanded) (given : Option Given) (walk after : Walk)
+    → w ≡ whats.Vertex v → OpensTo types new ctxs walk (machine.fresh v.ctor d) (positions v.ctor) given after
     → (s : machine.State) → StandsFor types ctxs None walk s → StandsFor new ctxs given after (machine.taken w n d s.frames s.out)
-stands_begun types new ctxs o v n w d given walk after is left what goes s stands =
+stands_begun types new ctxs v n w d given walk after what goes s stands =
     let nodes : List MarkedNode = stands.nodes in
     let fs : List machine.Frame = frames_at types ctxs stands.frames in
     let push = no_mark-push nodes (machine.unsettled n) refl in
-    let to = begins_vertex types ctxs o v n w d fs nodes is left what ∙ ap (λ (x : machine.State). machine.taken w n d x.frames x.out) stands.comes_to in
+    let to = ap (λ (x : What). machine.taken x n d fs nodes) (sym what) ∙ ap (λ (x : machine.State). machine.taken w n d x.frames x.out) stands.comes_to in
     stands_for new ctxs given after _ (machine.taken w n d s.frames s.out) to
     (goes (length nodes) stands.frames (nodes ++ machine.unsettled n ∷ []) stands.open_here (unmarked-last nodes (machine.unsettled n) refl)
     (unsettled-push (length nodes) fs nodes (machine.unsettled n ∷ []) stands.unsettled)
     (λ h. push.0 (stands.noted.0 h), λ h. stands.noted.1 (push.1 h)))
 
--- a vertex is begun, and gone on with
-pub stands_begun_with : (old new : List Typ) (ctxs : List Context) (o : OpenVertex) (v : Vertex) (n : Node) (w : What) (d : Demanded) (walk after : Walk) {E : Type 0} (given : Result (Option Given) E)
-    → opened_at old ctxs o ≡ machine.fresh v.ctor d → left_of o ≡ positions v.ctor → w ≡ whats.Vertex v → IfOk given (λ x. GoesOn old new ctxs walk o x after)
+-- a vertex is begun
+pub stands_begun_with : (old new : List Typ) (ctxs : List Context) (v : Vertex) (n : Node) (w : What) (d : Demanded) (walk after : Walk) {E : Type 0} (given : Result (Option Given) E)
+    → w ≡ whats.Vertex v → IfOk given (λ x. OpensTo old new ctxs walk (machine.fresh v.ctor d) (positions v.ctor) x after)
     → IfOk given (λ x. (s : machine.State) → StandsFor old ctxs None walk s → StandsFor new ctxs x after (machine.taken w n d s.frames s.out))
-stands_begun_with old new ctxs o v n w d walk after (Err e) is left what goes = tt
-stands_begun_with old new ctxs o v n w d walk after (Ok x) is left what goes = stands_begun old new ctxs o v n w d x walk after is left what goes
+stands_begun_with old new ctxs v n w d walk after (Err e) what goes = tt
+stands_begun_with old new ctxs v n w d walk after (Ok x) what goes = stands_begun old new ctxs v n w d x walk after what goes
 
 grown : (fs : List machine.Frame) (nodes : List MarkedNode) (m : MarkedNode) → AreUnsettled (length nodes) fs nodes → AreUnsettled (length (nodes ++ m ∷ [])) fs (nodes ++ m ∷ [])
 grown fs nodes m are = unsettled-push (length (nodes ++ m ∷ [])) fs nodes (m ∷ []) (unsettled-more (length nodes) (length (nodes ++ m ∷ [])) fs nodes (omega (arith, length-append nodes (m ∷ []))) are)
@@ -233,11 +261,11 @@ stands_plain types ctxs g walk sort n d gives s stands =
     }
 
 -- what a lent hole or reference stands for is one
-pub leaf_of : (w : LentWhat) (n : What) → what_of w ≡ n → ((sort : Sort) × (w ≡ lent.Hole sort)) ⊎ (((v : Bor Vertex) × (w ≡ lent.MultiRef v)) ⊎ ((v : Bor Vertex) × (w ≡ lent.CycleRef v)))
+pub leaf_of : (w : LentWhat) (n : What) → what_of w ≡ n → ((sort : Sort) × (w ≡ lent.Hole sort)) ⊎ (((v : LentVertex) × (w ≡ lent.MultiRef v)) ⊎ ((v : LentVertex) × (w ≡ lent.CycleRef v)))
     → ((sort : Sort) × (n ≡ whats.Hole sort)) ⊎ (((v : Vertex) × (n ≡ whats.MultiRef v)) ⊎ ((v : Vertex) × (n ≡ whats.CycleRef v)))
 leaf_of w n lends (inl (sort, is)) = inl (sort, sym lends ∙ ap what_of is)
-leaf_of w n lends (inr (inl (v, is))) = inr (inl (v.now, sym lends ∙ ap what_of is))
-leaf_of w n lends (inr (inr (v, is))) = inr (inr (v.now, sym lends ∙ ap what_of is))
+leaf_of w n lends (inr (inl (v, is))) = inr (inl (lent_vertex v, sym lends ∙ ap what_of is))
+leaf_of w n lends (inr (inr (v, is))) = inr (inr (lent_vertex v, sym lends ∙ ap what_of is))
 
 -- a hole or a reference is a node without children
 pub stands_leaf : (types : List Typ) (ctxs : List Context) (g : Given) (walk : Walk) (n : Node) (w : What) (d : Demanded) → given_at types g ≡ machine.nothing

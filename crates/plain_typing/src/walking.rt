@@ -1,19 +1,24 @@
-ghost use Rattle.std.specs.Prelude.{◌≡◌, ◌∷◌, ◌-◌, ℕ, List, length, slice_get, None, IfOk, OnOk, IfSome};
+ghost use Rattle.std.specs.Prelude.{◌≡◌, ◌∷◌, ◌-◌, ℕ, List, [], length, slice_get, Some, None, IfOk, OnOk, IfSome};
 ghost use Rattle.std.specs.Option.{option_map};
 ghost use Rattle.type_core.specs.TypeTable.{KeepsTypes};
 ghost use Rattle.ctx_table.specs.CtxTable.{KeepsContexts};
+ghost use Rattle.grove_sorts.specs.declared.ctor.Ctor.TheVariants.{Num};
+ghost use Rattle.grove_sorts.specs.Ctor.{positions};
+ghost use Rattle.edit_table.specs.Lent.{lent_ctor};
 ghost use Rattle.grove_terms.specs.Lent.{node_of};
 ghost use Rattle.mark_step.specs.Node.{demanded_at, IsDemandOf};
 ghost use Rattle.marking.specs.Marking.{MarkedNode};
+ghost use Rattle.judging.specs.Machine as machine;
 ghost use Rattle.judging.specs.Machine.{State, deliver, opened, taken, step};
 ghost use Rattle.judging.specs.Frames.{given_at, opened_at, left_of, frame_at, frames_at, frames_in, IsGivenOf, IsOpenOf, IsFrameOf, AreFramesOf};
 ghost use Rattle.plain_typing.specs.Walking.{IsUnmarkedAt, AreUnsettled, IsNoted, StandsFor};
 
 use crate::no_memory::NoMemory;
 use ctx_table::CtxTable;
-use grove_sorts::position_count;
+use edit_table::LentCtor;
+use grove_sorts::{Ctor, position_count};
 use grove_terms::{LentNode, LentWhat};
-use judging::{Frame, Given, OpenVertex, close, demand_next, fill, fresh, nothing};
+use judging::{Frame, Given, OpenVertex, close, close_literal, demand_next, fill, fresh, nothing};
 use mark_step::{Demand, Mode};
 use std::alloc::Global;
 use type_core::TypeTable;
@@ -115,6 +120,83 @@ fn hand_on<'t>(
     Ok(())
 }
 
+// Judges a literal, of which this is demanded, and tells what it gives.
+fn judge_literal<'t>(
+    alloc: Global,
+    types: &mut TypeTable,
+    ctxs: &CtxTable,
+    walk: &mut Walk<'t>,
+    number: u64,
+    demand: Demand,
+) -> Result<Given<'t>, NoMemory>
+    requires frames { AreFramesOf types.old ctxs.now walk.old.frames.items }
+    requires demand { IsDemandOf types.old ctxs.now demand }
+    ensures state { IfOk result (λ given. (place : ℕ) (frames : List (ℕ × Frame)) (nodes : List MarkedNode)
+        → frames_in frames ≡ walk.old.frames.items → IsUnmarkedAt nodes place
+        → AreUnsettled place (frames_at types.old ctxs.now frames) nodes → IsNoted walk.old nodes
+        → StandsFor types.new ctxs.now (Some given) walk.new
+        (opened place (machine.fresh (Num number) (demanded_at types.old ctxs.now demand)) [] (frames_at types.old ctxs.now frames) nodes)) }
+    ensures given { IfOk result (IsGivenOf types.new) }
+    ensures frames { OnOk result (AreFramesOf types.new ctxs.now walk.new.frames.items) }
+    ensures kept { KeepsTypes types.old types.new }
+{
+    let literal = close_literal(alloc, types, ctxs, number, demand)?;
+    walk.has_mark |= literal.mark.is_some();
+    Ok(literal.given)
+}
+
+// Judges a vertex, of which this is demanded, as far as it can be, and tells what it gives.
+fn begin_vertex<'t>(
+    alloc: Global,
+    types: &mut TypeTable,
+    ctxs: &CtxTable,
+    walk: &mut Walk<'t>,
+    ctor: &'t Ctor,
+    demand: Demand,
+) -> Result<Option<Given<'t>>, NoMemory>
+    requires frames { AreFramesOf types.old ctxs.now walk.old.frames.items }
+    requires demand { IsDemandOf types.old ctxs.now demand }
+    ensures state { IfOk result (λ given. (place : ℕ) (frames : List (ℕ × Frame)) (nodes : List MarkedNode)
+        → frames_in frames ≡ walk.old.frames.items → IsUnmarkedAt nodes place
+        → AreUnsettled place (frames_at types.old ctxs.now frames) nodes → IsNoted walk.old nodes
+        → StandsFor types.new ctxs.now given walk.new
+        (opened place (machine.fresh ctor.now (demanded_at types.old ctxs.now demand)) (positions ctor.now) (frames_at types.old ctxs.now frames) nodes)) }
+    ensures given { IfOk result (λ given. IfSome given (IsGivenOf types.new)) }
+    ensures frames { OnOk result (AreFramesOf types.new ctxs.now walk.new.frames.items) }
+    ensures kept { KeepsTypes types.old types.new }
+{
+    let begun = fresh(types, ctor, demand);
+    go_on(alloc, types, ctxs, walk, &begun)
+}
+
+// Judges a vertex whose constructor is lent.
+fn begin_lent<'t>(
+    alloc: Global,
+    types: &mut TypeTable,
+    ctxs: &CtxTable,
+    walk: &mut Walk<'t>,
+    ctor: LentCtor<'t>,
+    demand: Demand,
+) -> Result<Option<Given<'t>>, NoMemory>
+    requires frames { AreFramesOf types.old ctxs.now walk.old.frames.items }
+    requires demand { IsDemandOf types.old ctxs.now demand }
+    ensures state { IfOk result (λ given. (place : ℕ) (frames : List (ℕ × Frame)) (nodes : List MarkedNode)
+        → frames_in frames ≡ walk.old.frames.items → IsUnmarkedAt nodes place
+        → AreUnsettled place (frames_at types.old ctxs.now frames) nodes → IsNoted walk.old nodes
+        → StandsFor types.new ctxs.now given walk.new
+        (opened place (machine.fresh (lent_ctor ctor.entry) (demanded_at types.old ctxs.now demand)) (positions (lent_ctor ctor.entry)) (frames_at types.old ctxs.now frames) nodes)) }
+    ensures given { IfOk result (λ given. IfSome given (IsGivenOf types.new)) }
+    ensures frames { OnOk result (AreFramesOf types.new ctxs.now walk.new.frames.items) }
+    ensures kept { KeepsTypes types.old types.new }
+{
+    match ctor {
+        LentCtor::At(ctor) => begin_vertex(alloc, types, ctxs, walk, ctor, demand),
+        LentCtor::Literal(number) => Ok(Some(judge_literal(
+            alloc, types, ctxs, walk, number, demand,
+        )?)),
+    }
+}
+
 // Judges a node, of which this is demanded, as far as it can be, and tells what it gives.
 fn begin<'t>(
     alloc: Global,
@@ -133,10 +215,7 @@ fn begin<'t>(
     ensures kept { KeepsTypes types.old types.new }
 {
     match node.what() {
-        LentWhat::Vertex(vertex) => {
-            let begun = fresh(types, &vertex.ctor, demand);
-            go_on(alloc, types, ctxs, walk, &begun)
-        }
+        LentWhat::Vertex(vertex) => begin_lent(alloc, types, ctxs, walk, vertex.ctor, demand),
         LentWhat::Conflict(_, count) => {
             let each = Demand {
                 ctx: demand.ctx,

@@ -56,6 +56,12 @@ impl From<replica_core::NoMemory> for NoMemory {
     }
 }
 
+impl From<edit_table::NoMemory> for NoMemory {
+    fn from(_error: edit_table::NoMemory) -> NoMemory {
+        NoMemory
+    }
+}
+
 impl From<grove_answers::NoMemory> for NoMemory {
     fn from(_error: grove_answers::NoMemory) -> NoMemory {
         NoMemory

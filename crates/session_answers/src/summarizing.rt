@@ -1,5 +1,6 @@
 ghost use Rattle.std.specs.Prelude.{◌≡◌, ◌<◌, ◌↔◌, ℕ, true, List, length, count_by, IsTrue, IfOk};
 ghost use Rattle.grove_edits.specs.Graph.{graph, Ascends};
+ghost use Rattle.grove_answers.specs.Counts.{AreCounts};
 ghost use Rattle.grove_answers.specs.Texts.{IsPrintText};
 ghost use Rattle.session_script.specs.Session.{IsSession};
 ghost use Rattle.session_report.specs.Legal.{AreLegal};
@@ -9,8 +10,9 @@ ghost use Rattle.session_answers.specs.Summarizing.{SummarizesReplicas, PrintAli
 use crate::no_memory::NoMemory;
 use crate::ran::{Ran, run_items};
 use crate::running::Running;
-use grove_answers::grove_counts;
-use grove_edits::{Edit, EditKind};
+use edit_table::EditTable;
+use grove_answers::{Counts, grove_counts};
+use grove_edits::{Edit, EditKind, EditList};
 use grove_io::Gate;
 use replica_core::Replica;
 use seeded_hash::HashSeed;
@@ -58,9 +60,17 @@ fn summary_of(
         loads: loads_in(items) as u64,
         live,
         deleted,
-        counts: grove_counts(alloc, edits, seed)?,
+        counts: counts_of(alloc, &edits, seed)?,
         equal,
     })
+}
+
+fn counts_of(alloc: Global, edits: &EditList, seed: HashSeed) -> Result<Counts, NoMemory>
+    requires { Ascends edits.now }
+    ensures { IfOk result (AreCounts (graph edits.now)) }
+{
+    let table = EditTable::of_list(alloc, edits, seed)?;
+    Ok(grove_counts(alloc, table, seed)?)
 }
 
 fn loads_in(items: &[Item]) -> usize

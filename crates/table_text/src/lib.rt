@@ -5,6 +5,3 @@
 mod reading;
 
 pub use reading::read_table;
-
-#[cfg(test)]
-mod tests;

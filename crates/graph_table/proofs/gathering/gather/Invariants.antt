@@ -7,5 +7,5 @@ use Rattle.graph_table.proofs.gathering.gather.Given as goal
 abbrev pub invariant-loop-index : goal.invariant-loop-index
 invariant-loop-index l = record {
   count : length l.links.items ≡ l.index;
-  kept : AreAround l.links.items l.around.items (map (neighbours (take l.index l.edits)) l.numbering.numbers);
+  kept : AreAround l.links.items l.around.items (map (neighbours (take l.index l.table.edits)) l.table.vertices);
 }

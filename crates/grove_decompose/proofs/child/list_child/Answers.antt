@@ -5,6 +5,7 @@ use Rattle.grove_edits.specs.declared.vertex.Vertex.{Vertex}
 use Rattle.walks.specs.Class.{class}
 use Rattle.grove_terms.specs.declared.node.What.TheVariants as whats
 use Rattle.grove_terms.specs.declared.node.Role.{Role}
+use Rattle.edit_table.specs.Lent.{lent_vertex}
 use Rattle.grove_terms.specs.Lent.{edge_of, what_as}
 use Rattle.grove_decompose.specs.Tasks.{Task, what_by, task_at}
 use Rattle.grove_decompose.proofs.Pushing.{rest_of_vertex, rest_of_reference, no_vertex}
@@ -12,27 +13,27 @@ use Rattle.grove_decompose.proofs.Under.{inner_of_vertex}
 use Rattle.grove_decompose.proofs.Mapped.{places_pushed, found_with_places}
 use Rattle.grove_decompose.proofs.child.list_child.Goals as goal
 
-pub returns-in_ok-push_places-in-Vertex-clause-tasks : goal.returns-in_ok-push_places-in-Vertex-clause-tasks
-returns-in_ok-push_places-in-Vertex-clause-tasks g c =
+pub returns-in_ok-push_lent_places-in-Vertex-clause-tasks : goal.returns-in_ok-push_lent_places-in-Vertex-clause-tasks
+returns-in_ok-push_lent_places-in-Vertex-clause-tasks g c =
     let child = g.G.LiveGraph.edge_at c.args.graph.now c.args.link.now in
-    let is : what_by (class (g.G.LiveGraph.live c.args.graph.now) child.target) child.target ≡ whats.Vertex c.target.result.now =
+    let is : what_by (class (g.G.LiveGraph.live c.args.graph.now) child.target) child.target ≡ whats.Vertex (lent_vertex c.target.result) =
     ap (λ (e : Edge). what_by (class (g.G.LiveGraph.live c.args.graph.now) e.target) e.target) (sym c.edge-edge.ensures) ∙ sym c.role_of-role.ensures
     ∙ ap (λ (r : Role). what_as r (edge_of c.edge-edge.result).target) c.in-Vertex.is ∙ ap (λ (v : Vertex). whats.Vertex v) (sym c.target.ensures) in
-    places_pushed (g.G.LiveGraph.vertex_at c.args.graph.now) (g.G.LiveGraph.edge_at c.args.graph.now) c.args.tasks.now.items c.push_places.new.tasks.items c.target-target.result (c.args.depth + 1) (positions c.target.result.now.ctor)
-    _ c.in_ok-push_places-in-Vertex.ensures (rest_of_vertex (class (g.G.LiveGraph.live c.args.graph.now) child.target) child.target c.target.result.now _ c.args.depth is c.target-target.ensures.target)
+    places_pushed (g.G.LiveGraph.vertex_at c.args.graph.now) (g.G.LiveGraph.edge_at c.args.graph.now) c.args.tasks.now.items c.push_lent_places.new.tasks.items c.target-target.result (c.args.depth + 1) (positions (lent_vertex c.target.result).ctor)
+    _ c.in_ok-push_lent_places-in-Vertex.ensures (rest_of_vertex (class (g.G.LiveGraph.live c.args.graph.now) child.target) child.target (lent_vertex c.target.result) _ c.args.depth is c.target-target.ensures.target)
 
-pub returns-in_ok-push_places-in-Vertex-clause-inner : goal.returns-in_ok-push_places-in-Vertex-clause-inner
-returns-in_ok-push_places-in-Vertex-clause-inner g c =
+pub returns-in_ok-push_lent_places-in-Vertex-clause-inner : goal.returns-in_ok-push_lent_places-in-Vertex-clause-inner
+returns-in_ok-push_lent_places-in-Vertex-clause-inner g c =
     let child = g.G.LiveGraph.edge_at c.args.graph.now c.args.link.now in
-    let is : what_by (class (g.G.LiveGraph.live c.args.graph.now) child.target) child.target ≡ whats.Vertex c.target.result.now =
+    let is : what_by (class (g.G.LiveGraph.live c.args.graph.now) child.target) child.target ≡ whats.Vertex (lent_vertex c.target.result) =
     ap (λ (e : Edge). what_by (class (g.G.LiveGraph.live c.args.graph.now) e.target) e.target) (sym c.edge-edge.ensures) ∙ sym c.role_of-role.ensures
     ∙ ap (λ (r : Role). what_as r (edge_of c.edge-edge.result).target) c.in-Vertex.is ∙ ap (λ (v : Vertex). whats.Vertex v) (sym c.target.ensures) in
-    inner_of_vertex (g.G.LiveGraph.live c.args.graph.now) child c.target.result.now _ c.requires.held is c.target-target.ensures.target
+    inner_of_vertex (g.G.LiveGraph.live c.args.graph.now) child (lent_vertex c.target.result) _ c.requires.held is c.target-target.ensures.target
 
-pub returns-in_ok-push_places-in-Vertex-clause-found : goal.returns-in_ok-push_places-in-Vertex-clause-found
-returns-in_ok-push_places-in-Vertex-clause-found g c =
-    found_with_places (g.G.LiveGraph.IsSpot c.args.graph.now) (g.G.LiveGraph.IsLink c.args.graph.now) c.args.tasks.now.items c.push_places.new.tasks.items c.target-target.result (c.args.depth + 1) (positions c.target.result.now.ctor)
-    c.in_ok-push_places-in-Vertex.ensures c.target-target.ensures.spot c.requires.found
+pub returns-in_ok-push_lent_places-in-Vertex-clause-found : goal.returns-in_ok-push_lent_places-in-Vertex-clause-found
+returns-in_ok-push_lent_places-in-Vertex-clause-found g c =
+    found_with_places (g.G.LiveGraph.IsSpot c.args.graph.now) (g.G.LiveGraph.IsLink c.args.graph.now) c.args.tasks.now.items c.push_lent_places.new.tasks.items c.target-target.result (c.args.depth + 1) (positions (lent_vertex c.target.result).ctor)
+    c.in_ok-push_lent_places-in-Vertex.ensures c.target-target.ensures.spot c.requires.found
 
 pub returns-in-MultiRef-clause-tasks : goal.returns-in-MultiRef-clause-tasks
 returns-in-MultiRef-clause-tasks g c =

@@ -1,4 +1,5 @@
 use Rattle.std.proofs.Common.{map}
+use Rattle.edit_table.specs.Lent.{lent_vertex}
 use Rattle.grove_decompose.specs.Tasks.{task_at}
 use Rattle.grove_decompose.proofs.Taking.{weight}
 use Rattle.grove_decompose.proofs.Listing.{IsListingBy}
@@ -6,7 +7,7 @@ use Rattle.grove_decompose.proofs.descent.tree_of.Given as goal
 
 abbrev pub invariant-loop-task : goal.invariant-loop-task
 invariant-loop-task g l = record {
-  listing : IsListingBy (g.G.LiveGraph.vertex_at l.graph) (g.G.LiveGraph.edge_at l.graph) (g.G.LiveGraph.IsSpot l.graph) (g.G.LiveGraph.IsLink l.graph) (g.G.LiveGraph.live l.graph) l.fn.root l.tree l.tasks.items;
+  listing : IsListingBy (g.G.LiveGraph.vertex_at l.graph) (g.G.LiveGraph.edge_at l.graph) (g.G.LiveGraph.IsSpot l.graph) (g.G.LiveGraph.IsLink l.graph) (g.G.LiveGraph.live l.graph) (lent_vertex l.fn.root) l.tree l.tasks.items;
   noted : g.G.LiveGraph.AreInner l.graph l.notes;
 }
 

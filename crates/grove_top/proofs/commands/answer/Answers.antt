@@ -10,7 +10,7 @@ returns-in_ok-show-in-Show-clause-answered c =
     let text = c.args.text.now in
     let shown = c.in_ok-show-in-Show.field-0.items in
     subst (λ question. IsAnswered question text shown) (sym c.in-Show.is)
-    (answer_told Show text shown c.in_ok-edits-in-Show.edits c.in_ok-edits-in-Show.ensures.list c.in_ok-show-in-Show.ensures)
+    (answer_told Show text shown c.in_ok-table-in-Show.table.edits c.in_ok-table-in-Show.ensures.list c.in_ok-show-in-Show.ensures)
 
 pub returns-in_ok-check-in-Check-clause-answered :
     goal.returns-in_ok-check-in-Check-clause-answered
@@ -18,4 +18,4 @@ returns-in_ok-check-in-Check-clause-answered c =
     let text = c.args.text.now in
     let checked = c.in_ok-check-in-Check.field-0.items in
     subst (λ question. IsAnswered question text checked) (sym c.in-Check.is)
-    (answer_told Check text checked c.in_ok-edits-in-Check.edits c.in_ok-edits-in-Check.ensures.list c.in_ok-check-in-Check.ensures)
+    (answer_told Check text checked c.in_ok-table-in-Check.table.edits c.in_ok-table-in-Check.ensures.list c.in_ok-check-in-Check.ensures)

@@ -1,6 +1,7 @@
 use Rattle.std.proofs.Common.{◌≡◌, ◌++◌, ◌∷◌, [], refl, sym, ap, ◌∙◌, arith}
 use Rattle.std.proofs.lemmas.Grind.{common_steps}
 use Rattle.grove_terms.specs.declared.node.What.TheVariants as whats
+use Rattle.edit_table.specs.Lent.{lent_vertex}
 use Rattle.grove_terms.specs.Lent.{node_of}
 use Rattle.mark_step.specs.declared.node.Demand.{Demand}
 use Rattle.mark_step.specs.declared.node.Mode.TheVariants.{Syn}
@@ -14,18 +15,18 @@ use Rattle.mark_rules.specs.Walking.{given_on}
 use Rattle.mark_rules.proofs.Walks.{if_ok_next, one_more_added, begins_vertex, begins_conflict}
 use Rattle.mark_rules.proofs.taking.begin.Goals as goal
 
-pub open-requires-clause-walk : goal.open-requires-clause-walk
-open-requires-clause-walk c = record {
+pub open_lent-requires-clause-walk : goal.open_lent-requires-clause-walk
+open_lent-requires-clause-walk c = record {
   frames = c.requires.walk.frames;
   added = one_more_added c.args.types.now c.args.walk.now.added.items c.list.new.added.items c.unsettled.result c.requires.walk.added (c.unsettled.ensures.numbers c.args.types.now) c.in_ok-list-in-Vertex.ensures;
 }
 
 pub returns-in_ok-list-in-Vertex-clause-state : goal.returns-in_ok-list-in-Vertex-clause-state
 returns-in_ok-list-in-Vertex-clause-state c =
-    let is : (node_of c.args.node.now).what ≡ whats.Vertex c.in-Vertex.vertex.now = sym c.in-Vertex.ensures in
-    if_ok_next c.open.result (λ nodes g. given_on c.open.new.types c.args.ctxs.now nodes g c.open.new.walk) _ _ c.open.ensures.state
+    let is : (node_of c.args.node.now).what ≡ whats.Vertex (lent_vertex c.in-Vertex.vertex) = sym c.in-Vertex.ensures in
+    if_ok_next c.open_lent.result (λ nodes g. given_on c.open_lent.new.types c.args.ctxs.now nodes g c.open_lent.new.walk) _ _ c.open_lent.ensures.state
     (λ nodes next.
-    begins_vertex c.args.types.now c.len-place.result c.in-Vertex.vertex.now c.args.node.now (node_of c.args.node.now).what (demanded_at c.args.types.now c.args.ctxs.now c.args.demand)
+    begins_vertex c.args.types.now c.len-place.result (lent_vertex c.in-Vertex.vertex) c.args.node.now (node_of c.args.node.now).what (demanded_at c.args.types.now c.args.ctxs.now c.args.demand)
     (frames_at c.args.types.now c.args.ctxs.now c.args.walk.now.frames.items) nodes c.args.walk.now.added.items c.list.new.added.items c.unsettled.result
     next (grind (arith, common_steps)) is (c.unsettled.ensures.node c.args.types.now c.args.node.now) c.in_ok-list-in-Vertex.ensures)
 

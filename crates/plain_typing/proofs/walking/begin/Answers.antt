@@ -1,5 +1,6 @@
 use Rattle.std.proofs.Common.{◌≡◌, refl, sym}
 use Rattle.grove_terms.specs.declared.node.What.TheVariants as whats
+use Rattle.edit_table.specs.Lent.{lent_vertex}
 use Rattle.grove_terms.specs.Lent.{node_of}
 use Rattle.mark_step.specs.declared.node.Demand.{Demand}
 use Rattle.mark_step.specs.declared.node.Mode.TheVariants.{Syn}
@@ -11,9 +12,9 @@ use Rattle.plain_typing.proofs.walking.begin.Goals as goal
 
 pub returns-in-Vertex-clause-state : goal.returns-in-Vertex-clause-state
 returns-in-Vertex-clause-state c =
-    let is : (node_of c.args.node.now).what ≡ whats.Vertex c.in-Vertex.vertex.now = sym c.in-Vertex.ensures in
-    stands_begun_with c.args.types.now c.go_on.new.types c.args.ctxs.now c.fresh-begun.result c.in-Vertex.vertex.now (node_of c.args.node.now) (node_of c.args.node.now).what
-    (demanded_at c.args.types.now c.args.ctxs.now c.args.demand) c.args.walk.now c.go_on.new.walk c.go_on.result (c.fresh-begun.ensures.opened c.args.ctxs.now) c.fresh-begun.ensures.left is c.go_on.ensures.state
+    let is : (node_of c.args.node.now).what ≡ whats.Vertex (lent_vertex c.in-Vertex.vertex) = sym c.in-Vertex.ensures in
+    stands_begun_with c.args.types.now c.begin_lent.new.types c.args.ctxs.now (lent_vertex c.in-Vertex.vertex) (node_of c.args.node.now) (node_of c.args.node.now).what
+    (demanded_at c.args.types.now c.args.ctxs.now c.args.demand) c.args.walk.now c.begin_lent.new.walk c.begin_lent.result is c.begin_lent.ensures.state
 
 pub returns-in_ok-push-in-Conflict-clause-state : goal.returns-in_ok-push-in-Conflict-clause-state
 returns-in_ok-push-in-Conflict-clause-state c = λ s stands.

@@ -1,20 +1,14 @@
-use Rattle.std.proofs.Common.{subst}
-use Rattle.graph_table.specs.Table.{Table}
-use Rattle.graph_table.specs.Numbering.{HaveNumbers}
-use Rattle.graph_table.proofs.Ends.{end_is_vertex, vertex_is_end}
+use Rattle.graph_table.proofs.Ends.{IsWhole, whole_in_view}
 use Rattle.graph_table.proofs.graph_table.GraphTable.number_count.Goals as goal
 
+whole : (c : goal.After-vertex_count) → IsWhole c.args.self.now
+whole c = whole_in_view c.self.inside.table c.args.self.now c.self.view_is c.vertex_count.ensures.vertices
+
 pub returns-clause-once : goal.returns-clause-once
-returns-clause-once c =
-    let numbers : HaveNumbers c.args.self.now.edits c.args.self.now.vertices = subst (λ (t : Table). HaveNumbers t.edits t.vertices) c.self.view_is c.self.invariant.numbers in
-    numbers.once
+returns-clause-once c = (whole c).once
 
 pub returns-clause-each : goal.returns-clause-each
-returns-clause-each c = λ v is_vertex.
-    let numbers : HaveNumbers c.args.self.now.edits c.args.self.now.vertices = subst (λ (t : Table). HaveNumbers t.edits t.vertices) c.self.view_is c.self.invariant.numbers in
-    numbers.each v (vertex_is_end c.args.self.now.edits v is_vertex)
+returns-clause-each c = (whole c).each
 
 pub returns-clause-no_other : goal.returns-clause-no_other
-returns-clause-no_other c = λ v stands.
-    let numbers : HaveNumbers c.args.self.now.edits c.args.self.now.vertices = subst (λ (t : Table). HaveNumbers t.edits t.vertices) c.self.view_is c.self.invariant.numbers in
-    end_is_vertex c.args.self.now.edits v (numbers.no_other v stands)
+returns-clause-no_other c = (whole c).no_other
