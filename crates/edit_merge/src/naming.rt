@@ -4,7 +4,7 @@ ghost use Rattle.edit_merge.specs.Named.{AreNamed};
 
 use crate::named_line::NamedLine;
 use crate::no_memory::NoMemory;
-use edit_text::{TextFault, read_line};
+use edit_text::{TextFault, read_spelled_line};
 use grove_sorts::Version;
 use std::alloc::Global;
 use text_parts::split_at_first;
@@ -21,7 +21,7 @@ pub(crate) fn name_lines(
     let mut lines = Vec::new(alloc);
     let mut rest = text;
     while let Some((line, after)) = split_at_first(rest, b'\n') {
-        match read_line(version, line) {
+        match read_spelled_line(version, line) {
             Ok(edit) => {
                 let name = edit.name();
                 let start = text.len() - rest.len();

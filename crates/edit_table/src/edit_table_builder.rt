@@ -9,7 +9,7 @@ use crate::record::Record;
 use crate::renumbering::renumber;
 use crate::sorting::make_canonical;
 use crate::vertex_key::{CtorKey, VertexKey};
-use grove_edits::{Edit, EditList, Vertex};
+use grove_edits::{EditList, SpelledEdit, Vertex};
 use grove_sorts::Ctor;
 use indexmap::IndexSet;
 use seeded_hash::HashSeed;
@@ -67,7 +67,7 @@ impl EditTableBuilder {
         let mut table = EditTableBuilder::with_seed(alloc, seed)?;
         table.reserve(edits.len())?;
         for edit in edits.as_slice() {
-            table.push(edit)?;
+            table.push(&SpelledEdit::of(edit))?;
         }
         Ok(table)
     }
@@ -82,7 +82,7 @@ impl EditTableBuilder {
     }
 
     /// Appends an edit. Vertices that the table has keep their numbers.
-    pub fn push(&mut self, edit: &Edit) -> Result<(), NoMemory>
+    pub fn push(&mut self, edit: &SpelledEdit) -> Result<(), NoMemory>
         ensures appended { OnOk result (self.new.edits ≡ self.old.edits ++ edit.now ∷ []) }
         ensures unchanged { OnErr result (self.new ≡ self.old) }
     {

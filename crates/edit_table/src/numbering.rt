@@ -9,8 +9,8 @@ ghost use Rattle.edit_table.specs.Records.{edits_of, AreRecords};
 use crate::no_memory::NoMemory;
 use crate::record::Record;
 use crate::vertex_key::{CtorKey, VertexKey};
-use grove_edits::{Edit, Vertex};
-use grove_sorts::{Branch, Ctor};
+use grove_edits::{SpelledEdit, SpelledVertex};
+use grove_sorts::{Branch, Ctor, SpelledCtor};
 use indexmap::IndexSet;
 use seeded_hash::HashSeed;
 use std::alloc::Global;
@@ -59,7 +59,7 @@ pub(crate) fn push_record(
     ctors: &mut IndexSet<Ctor, HashSeed>,
     keys: &mut IndexSet<VertexKey, HashSeed>,
     records: &mut Vec<Record>,
-    edit: &Edit,
+    edit: &SpelledEdit,
 ) -> Result<(), NoMemory>
     requires { AreRecords ctors.old.keys keys.old.keys records.old.items }
     ensures records { OnOk result (AreRecords ctors.new.keys keys.new.keys records.new.items) }
@@ -71,7 +71,7 @@ pub(crate) fn push_record(
     ensures keys_stay { BeginsWith keys.new.keys keys.old.keys }
 {
     let source = source_number(keys, records, &source_key(edit))?;
-    let target = target_number(ctors, keys, edit.target())?;
+    let target = target_number(ctors, keys, &edit.target())?;
     if records.len() >= u32::MAX as usize {
         return Err(NoMemory);
     }
@@ -85,25 +85,14 @@ pub(crate) fn push_record(
     Ok(())
 }
 
-// The branch that the source of an edit is.
-#[inline(always)]
-fn source_branch(edit: &Edit) -> Branch
-    ensures { branch_ctor result ≡ (edit_edge edit.now).source.ctor }
-{
-    match Branch::of(&edit.source().ctor) {
-        Some(branch) => branch,
-        None => Branch::Root,
-    }
-}
-
 // The key of the source of an edit.
 #[inline(always)]
-fn source_key(edit: &Edit) -> VertexKey
+fn source_key(edit: &SpelledEdit) -> VertexKey
     ensures { (branch : Branch) × (result ≡ branch_key (edit_edge edit.now).source.name branch) × (branch_ctor branch ≡ (edit_edge edit.now).source.ctor) }
 {
     VertexKey {
-        name: edit.source().name,
-        ctor: CtorKey::At(number_of_branch(source_branch(edit))),
+        name: edit.source(),
+        ctor: CtorKey::At(number_of_branch(edit.branch())),
     }
 }
 
@@ -167,46 +156,27 @@ fn is_at(keys: &IndexSet<VertexKey, HashSeed>, number: u32, key: &VertexKey) -> 
     }
 }
 
-// The literal that a constructor is, where it is short.
-fn short_literal(ctor: &Ctor) -> Option<u32>
-    ensures short { IfSome result (λ literal. (ctor.now ≡ Ctor.Num literal) × (literal < 2 ^ 32)) }
-    ensures none { IfNone result (is_short ctor.now ≡ false) }
+// The key of a constructor. Where it was not met, it is from then on.
+#[inline(always)]
+fn ctor_key(ctors: &mut IndexSet<Ctor, HashSeed>, ctor: SpelledCtor) -> Result<CtorKey, NoMemory>
 {
     match ctor {
-        Ctor::Num(literal) => u32::try_from(*literal).ok(),
-        _ => None,
+        SpelledCtor::Branch(branch) => Ok(CtorKey::At(number_of_branch(branch))),
+        SpelledCtor::Num(literal) => match u32::try_from(literal) {
+            Ok(literal) => Ok(CtorKey::Short(literal)),
+            Err(_) => met_key(ctors, ctor),
+        }
+        _ => met_key(ctors, ctor),
     }
 }
 
-// The number of a constructor, which gets the next one where it has none. A branch has its own.
-fn ctor_number(ctors: &mut IndexSet<Ctor, HashSeed>, ctor: &Ctor) -> Result<u32, NoMemory>
-    requires ctors { AreCtors ctors.old.keys }
-    requires long { is_short ctor.now ≡ false }
-    ensures number { IfOk result (λ number. slice_get ctors.new.keys number ≡ Some ctor.now) }
-    ensures ctors { AreCtors ctors.new.keys }
-    ensures stay { BeginsWith ctors.new.keys ctors.old.keys }
+#[inline(never)]
+fn met_key(ctors: &mut IndexSet<Ctor, HashSeed>, ctor: SpelledCtor) -> Result<CtorKey, NoMemory>
 {
-    if let Some(branch) = Branch::of(ctor) {
-        return Ok(number_of_branch(branch));
-    }
-    let (index, _) = ctors.insert_full(*ctor)?;
+    let (index, _) = ctors.insert_full(ctor.ctor())?;
     let Ok(number) = u32::try_from(index) else {
         return Err(NoMemory);
     };
-    Ok(number)
-}
-
-// The key of a constructor. Where it was not met, it is from then on.
-fn ctor_key(ctors: &mut IndexSet<Ctor, HashSeed>, ctor: &Ctor) -> Result<CtorKey, NoMemory>
-    requires { AreCtors ctors.old.keys }
-    ensures key { IfOk result (λ key. IsCtorKeyOf ctors.new.keys key ctor.now) }
-    ensures ctors { AreCtors ctors.new.keys }
-    ensures stay { BeginsWith ctors.new.keys ctors.old.keys }
-{
-    if let Some(literal) = short_literal(ctor) {
-        return Ok(CtorKey::Short(literal));
-    }
-    let number = ctor_number(ctors, ctor)?;
     Ok(CtorKey::At(number))
 }
 
@@ -214,7 +184,7 @@ fn ctor_key(ctors: &mut IndexSet<Ctor, HashSeed>, ctor: &Ctor) -> Result<CtorKey
 fn target_number(
     ctors: &mut IndexSet<Ctor, HashSeed>,
     keys: &mut IndexSet<VertexKey, HashSeed>,
-    vertex: &Vertex,
+    vertex: &SpelledVertex,
 ) -> Result<u32, NoMemory>
     requires { AreKeys ctors.old.keys keys.old.keys }
     ensures number { IfOk result (λ number. slice_get (vertices_of ctors.new.keys keys.new.keys) number ≡ Some vertex.now) }
@@ -225,7 +195,7 @@ fn target_number(
     ensures ctors { AreCtors ctors.new.keys }
     ensures ctors_stay { BeginsWith ctors.new.keys ctors.old.keys }
 {
-    let ctor = ctor_key(ctors, &vertex.ctor)?;
+    let ctor = ctor_key(ctors, vertex.ctor)?;
     key_number(
         keys,
         VertexKey {

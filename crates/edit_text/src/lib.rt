@@ -12,7 +12,7 @@ mod version;
 mod write;
 
 pub use laws::{lines_are_exact, texts_are_exact, whole_texts_are_exact};
-pub use line::read_line;
+pub use line::{read_line, read_spelled_line};
 pub use line_fault::LineFault;
 pub use no_memory::NoMemory;
 pub use text_fault::TextFault;

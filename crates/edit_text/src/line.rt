@@ -17,64 +17,33 @@ ghost use Rattle.grove_edits.specs.Vertex.{VertexInRange};
 ghost use Rattle.edit_text.specs.Line.{Spells, HasFault, form, spaced, edge_parts};
 
 use crate::line_fault::LineFault;
-use grove_edits::{Edge, Edit, EditKind, Vertex};
+use grove_edits::{Edit, EditKind, SpelledEdge, SpelledEdit, SpelledVertex};
 use grove_names::Name;
-use grove_sorts::{Branch, Ctor, Position, Version, read_branch, read_ctor, read_position};
+use grove_sorts::{Position, SpelledCtor, Version, read_position, read_spelled};
 use text_parts::split_at_next;
 
 /// Reads a line of the version, given without its LF, or answers the first fault that applies. It takes no memory.
-#[inline(always)]
 pub fn read_line(version: Version, line: &[u8]) -> Result<Edit, LineFault>
     ensures edit { IfOk result (Spells version line.now) }
     ensures first_fault { IfErr result (HasFault version line.now) }
 {
-    match read_good_line(version, line) {
-        Some(edit) => Ok(edit),
-        None => read_any_line(version, line),
-    }
+    let spelled = read_spelled_line(version, line)?;
+    Ok(spelled.edit())
 }
 
-// The edit of a line that has no fault. Nearly all lines have none, and no edge, which is wide, is made of them. None says nothing of the line.
+/// Reads a line of the version
 #[inline(always)]
-fn read_good_line(version: Version, line: &[u8]) -> Option<Edit>
-    ensures { IfSome result (Spells version line.now) }
-{
-    match line {
-        [b'+', text @ ..] => read_good_edge(version, EditKind::Insert, text),
-        [b'-', text @ ..] => read_good_edge(version, EditKind::Delete, text),
-        _ => None,
-    }
-}
-
-#[inline(always)]
-fn read_good_edge(version: Version, kind: EditKind, text: &[u8]) -> Option<Edit>
-    ensures spelled { IfSome result (λ edit. text.now ≡ spaced (edge_parts (edit_edge edit))) }
-    ensures of_version { IfSome result (λ edit. IsEdgeOf version (edit_edge edit)) }
-    ensures kind { IfSome result (λ edit. edit_kind edit ≡ kind) }
-{
-    let (name, rest) = take_name(text)?;
-    let (source, rest) = take_name(rest)?;
-    let (branch, rest) = take_branch(version, rest)?;
-    let (position, rest) = take_position(version, rest)?;
-    let target = read_vertex(version, rest)?;
-    Edit::of_parts(kind, name, source, branch, position, target).ok()
-}
-
-// Any line, also one with a fault.
-#[inline(never)]
-fn read_any_line(version: Version, line: &[u8]) -> Result<Edit, LineFault>
-    ensures edit { IfOk result (Spells version line.now) }
-    ensures first_fault { IfErr result (HasFault version line.now) }
+pub fn read_spelled_line(version: Version, line: &[u8]) -> Result<SpelledEdit<'_>, LineFault>
 {
     let Some((kind, edge)) = read_form(version, line) else {
         return Err(LineFault::Syntax);
     };
-    Ok(Edit::new(kind, edge)?)
+    Ok(SpelledEdit::new(kind, edge)?)
 }
 
 // The edge of a line need not be well formed.
 #[inline(always)]
-fn read_form(version: Version, line: &[u8]) -> Option<(EditKind, Edge)>
+fn read_form(version: Version, line: &[u8]) -> Option<(EditKind, SpelledEdge<'_>)>
     ensures found { IfSome result (λ read. line.now ≡ form read.0 read.1) }
     ensures of_version { IfSome result (λ read. IsEdgeOf version read.1) }
     ensures none { IfNone result ((kind : EditKind) (edge : Edge) → EdgeInRange edge → IsEdgeOf version edge → line.now ≢ form kind edge) }
@@ -87,7 +56,7 @@ fn read_form(version: Version, line: &[u8]) -> Option<(EditKind, Edge)>
 }
 
 #[inline(always)]
-fn read_edge(version: Version, text: &[u8]) -> Option<Edge>
+fn read_edge(version: Version, text: &[u8]) -> Option<SpelledEdge<'_>>
     ensures found { IfSome result (λ edge. text.now ≡ spaced (edge_parts edge)) }
     ensures of_version { IfSome result (IsEdgeOf version) }
     ensures none { IfNone result ((edge : Edge) → EdgeInRange edge → IsEdgeOf version edge → text.now ≢ spaced (edge_parts edge)) }
@@ -96,7 +65,7 @@ fn read_edge(version: Version, text: &[u8]) -> Option<Edge>
     let (source, rest) = take_vertex(version, rest)?;
     let (position, rest) = take_position(version, rest)?;
     let target = read_vertex(version, rest)?;
-    Some(Edge {
+    Some(SpelledEdge {
         name,
         source,
         position,
@@ -106,20 +75,20 @@ fn read_edge(version: Version, text: &[u8]) -> Option<Edge>
 
 // A vertex: its name, a space and its constructor.
 #[inline(always)]
-fn read_vertex(version: Version, text: &[u8]) -> Option<Vertex>
+fn read_vertex(version: Version, text: &[u8]) -> Option<SpelledVertex<'_>>
     ensures found { IfSome result (λ vertex. text.now ≡ name_text vertex.name ++ 32 ∷ ctor_text vertex.ctor) }
     ensures of_version { IfSome result (λ vertex. IsCtorOf version vertex.ctor) }
     ensures none { IfNone result ((vertex : Vertex) → NameInRange vertex.name → CtorInRange vertex.ctor → IsCtorOf version vertex.ctor
         → text.now ≢ name_text vertex.name ++ 32 ∷ ctor_text vertex.ctor) }
 {
     let (name, rest) = take_name(text)?;
-    let ctor = read_ctor(version, rest)?;
-    Some(Vertex { name, ctor })
+    let ctor = read_spelled(version, rest)?;
+    Some(SpelledVertex { name, ctor })
 }
 
 // A vertex and the space behind it, and what stands after them.
 #[inline(always)]
-fn take_vertex(version: Version, text: &[u8]) -> Option<(Vertex, &[u8])>
+fn take_vertex(version: Version, text: &[u8]) -> Option<(SpelledVertex<'_>, &[u8])>
     ensures found { IfSome result (λ read. text.now ≡ name_text read.0.name ++ 32 ∷ (ctor_text read.0.ctor ++ 32 ∷ read.1.now)) }
     ensures of_version { IfSome result (λ read. IsCtorOf version read.0.ctor) }
     ensures only { (vertex : Vertex) (rest : List ℕ) → NameInRange vertex.name → CtorInRange vertex.ctor → IsCtorOf version vertex.ctor
@@ -128,7 +97,7 @@ fn take_vertex(version: Version, text: &[u8]) -> Option<(Vertex, &[u8])>
 {
     let (name, rest) = take_name(text)?;
     let (ctor, rest) = take_ctor(version, rest)?;
-    Some((Vertex { name, ctor }, rest))
+    Some((SpelledVertex { name, ctor }, rest))
 }
 
 // A name and the space behind it, and what stands after them.
@@ -147,26 +116,15 @@ fn take_name(text: &[u8]) -> Option<(Name, &[u8])>
 
 // A constructor and the space behind it, and what stands after them.
 #[inline(always)]
-fn take_ctor(version: Version, text: &[u8]) -> Option<(Ctor, &[u8])>
+fn take_ctor(version: Version, text: &[u8]) -> Option<(SpelledCtor<'_>, &[u8])>
     ensures found { IfSome result (λ read. text.now ≡ ctor_text read.0 ++ 32 ∷ read.1.now) }
     ensures of_version { IfSome result (λ read. IsCtorOf version read.0) }
     ensures only { (ctor : Ctor) (rest : List ℕ) → CtorInRange ctor → IsCtorOf version ctor → text.now ≡ ctor_text ctor ++ 32 ∷ rest
         → IsSomeAnd result (λ read. (read.0 ≡ ctor) × (read.1.now ≡ rest)) }
 {
     let (part, rest) = take_part(text)?;
-    let ctor = read_ctor(version, part)?;
+    let ctor = read_spelled(version, part)?;
     Some((ctor, rest))
-}
-
-// The text of a branch and the space behind it, and what stands after them.
-#[inline(always)]
-fn take_branch(version: Version, text: &[u8]) -> Option<(Branch, &[u8])>
-    ensures found { IfSome result (λ read. text.now ≡ ctor_text (branch_ctor read.0) ++ 32 ∷ read.1.now) }
-    ensures of_version { IfSome result (λ read. IsCtorOf version (branch_ctor read.0)) }
-{
-    let (part, rest) = take_part(text)?;
-    let branch = read_branch(version, part)?;
-    Some((branch, rest))
 }
 
 // A position's word and the space behind it, and what stands after them.

@@ -1,10 +1,11 @@
 ghost use Rattle.std.specs.Prelude.{◌≡◌, IfOk, IfErr, Some};
 ghost use Rattle.grove_edits.specs.Edge.{IsWellFormed, EdgeInRange, edge_fault, edge_from};
 
-use crate::edge::{Edge, EdgeFault, check_edge, check_parts};
+use crate::edge::{Edge, EdgeFault, check_edge};
 use crate::vertex::Vertex;
 use grove_names::Name;
-use grove_sorts::{Branch, Position};
+use crate::spelled::{SpelledEdit, SpelledVertex};
+use grove_sorts::{Branch, Position, SpelledCtor};
 
 /// What an edit does to its edge.
 #[derive(Clone, Copy, Debug, PartialEq, Eq, PartialOrd, Ord, Hash)]
@@ -50,34 +51,13 @@ impl Edit {
         })
     }
 
-    /// An edit of the edge with this name from a position of a branch to a target, or the edge's first fault. Where these parts are known,
-    /// no edge need be made.
+    pub(crate) fn from_spelled(name: Name, source: Name, branch: Branch, position: Position, target: Vertex, kind: EditKind) -> Edit {
+        Edit { name, source, branch, position, target, kind }
+    }
+
     #[inline(always)]
-    pub fn of_parts(
-        kind: EditKind,
-        name: Name,
-        source: Name,
-        branch: Branch,
-        position: Position,
-        target: Vertex,
-    ) -> Result<Edit, EdgeFault>
-        ensures edge { IfOk result (λ edit. edit_edge edit ≡ edge_from name source branch position target) }
-        ensures kind { IfOk result (λ edit. edit_kind edit ≡ kind) }
-        ensures first_fault { IfErr result (λ fault. edge_fault (edge_from name source branch position target) ≡ Some fault) }
-    {
-        let from = Vertex {
-            name: source,
-            ctor: branch.ctor(),
-        };
-        check_parts(name, &from, position, &target)?;
-        Ok(Edit {
-            name,
-            source,
-            branch,
-            position,
-            target,
-            kind,
-        })
+    pub(crate) fn spelled(&self) -> SpelledEdit<'_> {
+        SpelledEdit::from_parts(self.name, self.source, self.branch, self.position, self.kind, SpelledVertex { name: self.target.name, ctor: SpelledCtor::of(&self.target.ctor) })
     }
 
     /// The insertion of an edge, or its first fault.

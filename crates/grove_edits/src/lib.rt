@@ -15,6 +15,7 @@ mod edit;
 mod edit_list;
 mod laws;
 mod no_memory;
+mod spelled;
 mod vertex;
 
 pub use act_fault::ActFault;
@@ -31,4 +32,5 @@ pub use laws::{
     graphs_join, one_canonical_list,
 };
 pub use no_memory::NoMemory;
+pub use spelled::{SpelledEdge, SpelledEdit, SpelledVertex};
 pub use vertex::{Vertex, compare_vertices, is_same_vertex};

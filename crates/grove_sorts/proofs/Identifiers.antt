@@ -1,18 +1,15 @@
 -- Identifiers: what their fields keep, and that an identifier is its bytes.
-use Rattle.std.proofs.Common.{◌≡◌, ℕ, ◌-◌, ◌≤◌, ◌++◌, List, [], ◌∷◌, length, take, drop, replicate, ap, sym, subst, ◌∙◌, arith}
+use Rattle.std.proofs.Common.{◌≡◌, ℕ, ◌-◌, ◌≤◌, ◌++◌, List, length, take, drop, replicate, refl, ap, sym, subst, ◌∙◌, arith}
 use Rattle.std.proofs.Props.{props}
-use Rattle.std.proofs.lemmas.List.{take-append-drop, length-take, length-append, length-drop, drop-replicate}
-use Rattle.std.proofs.Math.Seq.{take-append_seam, drop-append_seam}
-use Rattle.std.proofs.lemmas.Bool.Decides.{nat_tests}
+use Rattle.std.proofs.lemmas.List.{take-append-drop, length-take}
+use Rattle.std.proofs.Math.Seq.{take-append_seam}
 use Rattle.grove_sorts.specs.declared.version.Version.{Version}
 use Rattle.grove_sorts.specs.declared.version.Version.TheVariants.{Two}
-use Rattle.grove_sorts.specs.Identifier.{longest, IsIdentifier}
+use Rattle.grove_sorts.specs.Identifier.{IsIdentifier}
 use Rattle.grove_sorts.specs.Ident.{ident_bytes}
+use Rattle.grove_sorts.specs.Padded.{Kept}
+use Rattle.grove_sorts.specs.Spelled.{ident_of}
 use Rattle.grove_sorts.specs.declared.ident.Ident.{Ident}
-
--- what the fields of an identifier keep
-abbrev pub Kept : List ℕ → ℕ → Type 0
-Kept bytes len = (length bytes ≡ 64) × (len ≤ 64) × IsIdentifier Two (take len bytes) × (drop len bytes ≡ replicate (64 - len) 0)
 
 Kept-prop : (bytes : List ℕ) (len : ℕ) → IsProp (Kept bytes len)
 Kept-prop bytes len = hlevel props
@@ -48,18 +45,11 @@ ident_exact a b e =
     same_len
     (b.whole, b.short, b.spelled, b.padded)
 
--- an identifier has at most as many bytes as its version allows
-pub identifier_short : (version : Version) (xs : List ℕ) → IsIdentifier version xs → length xs ≤ longest version
-identifier_short version [] h = omega arith
-identifier_short version (x ∷ xs) h = grind (arith, nat_tests)
+-- bytes that spell an identifier are its bytes
+pub spelled_bytes : (bytes : List ℕ) (is : IsIdentifier Two bytes) → ident_bytes (ident_of bytes is) ≡ bytes
+unfolding ident_of
+spelled_bytes bytes is = rw take-append_seam refl
 
--- a spelling and zeros after it
-pub padded_kept : (ys xs zeros : List ℕ) → ys ≡ xs → zeros ≡ replicate 64 0 → IsIdentifier Two xs → Kept (ys ++ drop (length xs) zeros) (length xs)
-padded_kept ys xs zeros e z h =
-    let short : length xs ≤ 64 = identifier_short Two xs h in
-    subst (λ ys. Kept (ys ++ drop (length xs) zeros) (length xs)) (sym e) (
-      simp (length-append, length-drop) (omega (arith, ap length z)),
-      short,
-      rw take-append_seam h,
-      rw drop-append_seam (ap (drop (length xs)) z ∙ drop-replicate (length xs) 64 0),
-    )
+-- an identifier is the one that its bytes spell
+pub spelled_again : (ident : Ident) (is : IsIdentifier Two (ident_bytes ident)) → ident_of (ident_bytes ident) is ≡ ident
+spelled_again ident is = ident_exact (ident_of (ident_bytes ident) is) ident (spelled_bytes (ident_bytes ident) is)

@@ -4,3 +4,4 @@ pub mod Texts
 pub mod Rows
 pub mod Truths
 pub mod Branches
+pub mod Plains

@@ -5,3 +5,6 @@ pub mod Ctor
 pub mod Position
 pub mod Version
 pub mod Branch
+pub mod Plain
+pub mod Padded
+pub mod Spelled

@@ -7,9 +7,11 @@ mod ctor;
 mod ident;
 mod laws;
 mod no_memory;
+mod plain;
 mod position;
 mod read;
 mod sort;
+mod spelled;
 mod table;
 mod version;
 mod write;
@@ -22,9 +24,11 @@ pub use laws::{
     identifiers_are_ordered, positions_are_ordered, positions_are_their_words, rows_are_in_order,
 };
 pub use no_memory::NoMemory;
+pub use plain::Plain;
 pub use position::Position;
-pub use read::{read_branch, read_ctor, read_ident, read_position};
+pub use read::{read_ctor, read_ident, read_position, read_spelled};
 pub use sort::Sort;
+pub use spelled::{SpelledCtor, Spelling};
 pub use table::{
     WIDEST, first_position_of_sort, place_at, position_at, position_count, position_sort, sort_of,
 };

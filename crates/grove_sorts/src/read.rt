@@ -4,17 +4,19 @@ ghost use Rattle.grove_sorts.specs.Identifier.{is_inner_byte, is_identifier, IsI
 ghost use Rattle.grove_sorts.specs.Ident.{ident_bytes};
 ghost use Rattle.grove_sorts.specs.Ctor.{InRange, IsPlain, ctor_text};
 ghost use Rattle.grove_sorts.specs.declared.ctor.Ctor.{Ctor};
-ghost use Rattle.grove_sorts.specs.declared.branch.Branch.{Branch};
-ghost use Rattle.grove_sorts.specs.Branch.{branch_ctor};
+ghost use Rattle.grove_sorts.specs.declared.plain.Plain.{Plain};
+ghost use Rattle.grove_sorts.specs.Plain.{plain_ctor};
+ghost use Rattle.grove_sorts.specs.Spelled.{spelled_ctor, spelled_ident};
 ghost use Rattle.grove_sorts.specs.Position.{position_text};
 ghost use Rattle.grove_sorts.specs.declared.position.Position.{Position};
 ghost use Rattle.grove_sorts.specs.Version.{IsCtorOf, IsPositionOf};
 
-use crate::branch::Branch;
 use crate::ctor::Ctor;
 use crate::ident::{Ident, IdentFault};
+use crate::plain::Plain;
 use crate::position::Position;
-use crate::version::{Version, knows_ctor, knows_position, longest_identifier};
+use crate::spelled::{SpelledCtor, Spelling};
+use crate::version::{Version, knows_position, knows_spelled, longest_identifier};
 use text_parts::read_number;
 
 /// Reads an identifier of the version: a lower-case letter, then lower-case letters, digits and underscores, up to 32 bytes in version one and up to 64 in version two.
@@ -52,72 +54,95 @@ fn is_inner_byte(byte: u8) -> bool
 }
 
 /// Reads the text of a constructor of the version.
-#[inline(always)]
 pub fn read_ctor(version: Version, bytes: &[u8]) -> Option<Ctor>
     ensures found { IfSome result (λ ctor. bytes.now ≡ ctor_text ctor) }
     ensures in_range { IfSome result InRange }
     ensures of_version { IfSome result (IsCtorOf version) }
     ensures none { IfNone result ((ctor : Ctor) → InRange ctor → IsCtorOf version ctor → bytes.now ≢ ctor_text ctor) }
 {
-    read_any_ctor(bytes).filter(|ctor| knows_ctor(version, ctor))
+    let spelled = read_spelled(version, bytes)?;
+    Some(spelled.ctor())
+}
+
+/// Reads the text of a constructor of the version, and leaves its identifier where it stands.
+#[inline(always)]
+pub fn read_spelled(version: Version, bytes: &[u8]) -> Option<SpelledCtor<'_>>
+    ensures found { IfSome result (λ spelled. bytes.now ≡ ctor_text (spelled_ctor spelled)) }
+    ensures in_range { IfSome result (λ spelled. InRange (spelled_ctor spelled)) }
+    ensures of_version { IfSome result (λ spelled. IsCtorOf version (spelled_ctor spelled)) }
+    ensures none { IfNone result ((ctor : Ctor) → InRange ctor → IsCtorOf version ctor → bytes.now ≢ ctor_text ctor) }
+{
+    let spelled = read_any_ctor(bytes)?;
+    if knows_spelled(version, &spelled) {
+        Some(spelled)
+    } else {
+        None
+    }
 }
 
 #[inline(always)]
-fn read_any_ctor(bytes: &[u8]) -> Option<Ctor>
-    ensures found { IfSome result (λ ctor. bytes.now ≡ ctor_text ctor) }
-    ensures in_range { IfSome result InRange }
+fn read_any_ctor(bytes: &[u8]) -> Option<SpelledCtor<'_>>
+    ensures found { IfSome result (λ spelled. bytes.now ≡ ctor_text (spelled_ctor spelled)) }
+    ensures in_range { IfSome result (λ spelled. InRange (spelled_ctor spelled)) }
     ensures none { IfNone result ((ctor : Ctor) → InRange ctor → bytes.now ≢ ctor_text ctor) }
 {
     match bytes {
-        [b'v', b'a', b'r', b':', name @ ..] => read_ident(Version::Two, name).ok().map(Ctor::Var),
-        [b'p', b'v', b'a', b'r', b':', name @ ..] => {
-            read_ident(Version::Two, name).ok().map(Ctor::PVar)
-        }
-        [b'n', b'u', b'm', b':', digits @ ..] => read_number(digits).map(Ctor::Num),
-        _ => read_plain(bytes),
+        [b'v', b'a', b'r', b':', name @ ..] => Some(SpelledCtor::Var(read_spelling(name)?)),
+        [b'p', b'v', b'a', b'r', b':', name @ ..] => Some(SpelledCtor::PVar(read_spelling(name)?)),
+        [b'n', b'u', b'm', b':', digits @ ..] => Some(SpelledCtor::Num(read_number(digits)?)),
+        _ => read_plain_ctor(bytes),
+    }
+}
+
+// Reads an identifier of any version.
+fn read_spelling(bytes: &[u8]) -> Option<Spelling<'_>>
+    ensures found { IfSome result (λ spelling. ident_bytes (spelled_ident spelling) ≡ bytes.now) }
+    ensures none { IfNone result (¬ IsIdentifier Version.Two bytes.now) }
+{
+    if is_identifier(Version::Two, bytes) {
+        Some(Spelling::new(bytes))
+    } else {
+        None
     }
 }
 
 #[inline(always)]
-fn read_plain(bytes: &[u8]) -> Option<Ctor>
-    ensures found { IfSome result (λ ctor. bytes.now ≡ ctor_text ctor) }
-    ensures plain { IfSome result IsPlain }
+fn read_plain_ctor(bytes: &[u8]) -> Option<SpelledCtor<'static>>
+    ensures found { IfSome result (λ spelled. bytes.now ≡ ctor_text (spelled_ctor spelled)) }
+    ensures plain { IfSome result (λ spelled. IsPlain (spelled_ctor spelled)) }
     ensures none { IfNone result ((ctor : Ctor) → IsPlain ctor → bytes.now ≢ ctor_text ctor) }
 {
-    match bytes {
-        b"root" => Some(Ctor::Root),
-        b"lam" => Some(Ctor::Lam),
-        b"ap" => Some(Ctor::Ap),
-        b"plus" => Some(Ctor::Plus),
-        b"true" => Some(Ctor::LitTrue),
-        b"false" => Some(Ctor::LitFalse),
-        b"if" => Some(Ctor::Choose),
-        b"pair" => Some(Ctor::Pair),
-        b"fst" => Some(Ctor::Fst),
-        b"snd" => Some(Ctor::Snd),
-        b"tnum" => Some(Ctor::TNum),
-        b"tbool" => Some(Ctor::TBool),
-        b"tarrow" => Some(Ctor::TArrow),
-        b"tprod" => Some(Ctor::TProd),
-        b"let" => Some(Ctor::Let),
-        b"inl" => Some(Ctor::Inl),
-        b"inr" => Some(Ctor::Inr),
-        b"case" => Some(Ctor::Case),
-        b"tsum" => Some(Ctor::TSum),
-        _ => None,
-    }
+    let plain = read_plain(bytes)?;
+    Some(SpelledCtor::Plain(plain))
 }
 
-/// Reads the text of a constructor of the version that has positions.
 #[inline(always)]
-pub fn read_branch(version: Version, bytes: &[u8]) -> Option<Branch>
-    ensures found { IfSome result (λ branch. bytes.now ≡ ctor_text (branch_ctor branch)) }
-    ensures of_version { IfSome result (λ branch. IsCtorOf version (branch_ctor branch)) }
-    ensures none { IfNone result ((branch : Branch) → IsCtorOf version (branch_ctor branch) → bytes.now ≢ ctor_text (branch_ctor branch)) }
+fn read_plain(bytes: &[u8]) -> Option<Plain>
+    ensures found { IfSome result (λ plain. bytes.now ≡ ctor_text (plain_ctor plain)) }
+    ensures none { IfNone result ((plain : Plain) → bytes.now ≢ ctor_text (plain_ctor plain)) }
 {
-    let ctor = read_plain(bytes)?;
-    let branch = Branch::of(&ctor)?;
-    knows_ctor(version, &ctor).then_some(branch)
+    match bytes {
+        b"root" => Some(Plain::Root),
+        b"lam" => Some(Plain::Lam),
+        b"ap" => Some(Plain::Ap),
+        b"plus" => Some(Plain::Plus),
+        b"true" => Some(Plain::LitTrue),
+        b"false" => Some(Plain::LitFalse),
+        b"if" => Some(Plain::Choose),
+        b"pair" => Some(Plain::Pair),
+        b"fst" => Some(Plain::Fst),
+        b"snd" => Some(Plain::Snd),
+        b"tnum" => Some(Plain::TNum),
+        b"tbool" => Some(Plain::TBool),
+        b"tarrow" => Some(Plain::TArrow),
+        b"tprod" => Some(Plain::TProd),
+        b"let" => Some(Plain::Let),
+        b"inl" => Some(Plain::Inl),
+        b"inr" => Some(Plain::Inr),
+        b"case" => Some(Plain::Case),
+        b"tsum" => Some(Plain::TSum),
+        _ => None,
+    }
 }
 
 /// Reads the word of a position of the version.

@@ -1,10 +1,12 @@
 ghost use Rattle.std.specs.Prelude.{◌≡◌};
 ghost use Rattle.grove_sorts.specs.Identifier.{longest};
+ghost use Rattle.grove_sorts.specs.Spelled.{spelled_ctor};
 ghost use Rattle.grove_sorts.specs.Version.{knows_ctor, knows_position};
 ghost use Rattle.grove_sorts.specs.declared.version.Version.TheVariants.{One};
 
-use crate::ctor::Ctor;
+use crate::plain::Plain;
 use crate::position::Position;
+use crate::spelled::SpelledCtor;
 
 /// A version of the text: version two knows all that version one knows, and more.
 #[derive(Clone, Copy, Debug, PartialEq, Eq)]
@@ -26,8 +28,9 @@ pub fn longest_identifier(version: Version) -> usize
 }
 
 // Whether the version has the constructor, with its identifier where it has one.
-pub(crate) fn knows_ctor(version: Version, ctor: &Ctor) -> bool
-    ensures { result ≡ knows_ctor version ctor.now }
+#[inline(always)]
+pub(crate) fn knows_spelled(version: Version, ctor: &SpelledCtor) -> bool
+    ensures { result ≡ knows_ctor version (spelled_ctor ctor.now) }
 {
     match version {
         Version::One => is_of_version_one(ctor),
@@ -35,15 +38,19 @@ pub(crate) fn knows_ctor(version: Version, ctor: &Ctor) -> bool
     }
 }
 
-fn is_of_version_one(ctor: &Ctor) -> bool
-    ensures { result ≡ knows_ctor One ctor.now }
+#[inline(always)]
+fn is_of_version_one(ctor: &SpelledCtor) -> bool
+    ensures { result ≡ knows_ctor One (spelled_ctor ctor.now) }
 {
     match ctor {
-        Ctor::Var(ident) | Ctor::PVar(ident) => {
-            ident.as_slice().len() <= longest_identifier(Version::One)
+        SpelledCtor::Var(spelling) | SpelledCtor::PVar(spelling) => {
+            spelling.len() <= longest_identifier(Version::One)
         }
-        Ctor::Let | Ctor::Inl | Ctor::Inr | Ctor::Case | Ctor::TSum => false,
-        _ => true,
+        SpelledCtor::Plain(plain) => !matches!(
+            plain,
+            Plain::Let | Plain::Inl | Plain::Inr | Plain::Case | Plain::TSum
+        ),
+        SpelledCtor::Num(_literal) => true,
     }
 }
 

@@ -3,7 +3,7 @@ ghost use Rattle.edit_text.specs.Text.{HasTextFault, SpellsAll};
 ghost use Rattle.table_text.specs.Spelled.{IsListOfLines};
 
 use edit_table::{EditTable, EditTableBuilder, NoMemory};
-use edit_text::{TextFault, read_line};
+use edit_text::{TextFault, read_spelled_line};
 use grove_sorts::Version;
 use seeded_hash::HashSeed;
 use std::alloc::Global;
@@ -42,7 +42,7 @@ fn read_lines(
     };
     let mut rest = lines;
     while let Some((line, after)) = split_at_first(rest, b'\n') {
-        match read_line(version, line) {
+        match read_spelled_line(version, line) {
             Ok(edit) => match table.push(&edit) {
                 Ok(()) => {}
                 Err(NoMemory) => return Err(TextFault::NoMemory),
@@ -67,8 +67,17 @@ fn read_lines(
 
 // At least as many lines as a text can have that are all of edits: each ends with an LF, and none is shorter than `+1.1 0.0 root main 1.1 if`.
 fn most_lines(text: &[u8]) -> usize {
-    let ends = text.iter().filter(|byte| **byte == b'\n').count();
-    ends.min(text.len() / 24)
+    let most = text.len() / 24;
+    let mut rest = text;
+    let mut ends = 0;
+    while let Some((_line, after)) = split_at_first(rest, b'\n') {
+        if ends == most {
+            return most;
+        }
+        ends += 1;
+        rest = after;
+    }
+    ends
 }
 
 // The table of no edits, with room for so many.

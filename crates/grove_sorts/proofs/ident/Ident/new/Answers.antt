@@ -1,5 +1,5 @@
 use Rattle.std.proofs.Common.{refl}
-use Rattle.grove_sorts.proofs.Identifiers.{padded_kept}
+use Rattle.grove_sorts.specs.Padded.{padded_kept}
 use Rattle.grove_sorts.proofs.ident.Ident.new.Goals as goal
 
 pub invariant_of-result : goal.invariant_of-result
