@@ -161,7 +161,10 @@ fn is_at(keys: &IndexSet<VertexKey, HashSeed>, number: u32, key: &VertexKey) -> 
 fn ctor_key(ctors: &mut IndexSet<Ctor, HashSeed>, ctor: SpelledCtor) -> Result<CtorKey, NoMemory>
 {
     match ctor {
-        SpelledCtor::Branch(branch) => Ok(CtorKey::At(number_of_branch(branch))),
+        SpelledCtor::Plain(plain) => match plain.branch() {
+            Some(branch) => Ok(CtorKey::At(number_of_branch(branch))),
+            None => met_key(ctors, ctor),
+        },
         SpelledCtor::Num(literal) => match u32::try_from(literal) {
             Ok(literal) => Ok(CtorKey::Short(literal)),
             Err(_) => met_key(ctors, ctor),

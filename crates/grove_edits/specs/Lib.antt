@@ -3,3 +3,5 @@ pub mod Edge
 pub mod Edit
 pub mod Graph
 pub mod ActFault
+pub mod SpelledEdge
+pub mod SpelledEdit

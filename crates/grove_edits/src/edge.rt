@@ -58,32 +58,17 @@ pub fn check_edge(edge: &Edge) -> Result<(), EdgeFault>
     ensures first_fault { IfErr result (λ fault. edge_fault edge.now ≡ Some fault) }
     ensures in_range { EdgeInRange edge.now }
 {
-    check_parts(edge.name, &edge.source, edge.position, &edge.target)
-}
-
-// The first fault of the edge with these parts.
-#[inline(always)]
-pub(crate) fn check_parts(
-    name: Name,
-    source: &Vertex,
-    position: Position,
-    target: &Vertex,
-) -> Result<(), EdgeFault>
-    ensures well_formed { OnOk result (edge_fault (record { name = name; source = source.now; position = position; target = target.now }) ≡ None) }
-    ensures first_fault { IfErr result (λ fault. edge_fault (record { name = name; source = source.now; position = position; target = target.now }) ≡ Some fault) }
-    ensures in_range { EdgeInRange (record { name = name; source = source.now; position = position; target = target.now }) }
-{
-    let Name { author, counter } = name;
+    let Name { author, counter } = edge.name;
     let is_named = 0 < author && 0 < counter;
-    let is_source_good = is_well_formed(source);
-    let is_target_good = is_well_formed(target);
+    let is_source_good = is_well_formed(&edge.source);
+    let is_target_good = is_well_formed(&edge.target);
     if !(is_named && is_source_good && is_target_good) {
         return Err(EdgeFault::BadVertex);
     }
-    match position_sort(&source.ctor, position) {
+    match position_sort(&edge.source.ctor, edge.position) {
         None => Err(EdgeFault::NoPosition),
         Some(sort) => {
-            if sort == sort_of(&target.ctor) {
+            if sort == sort_of(&edge.target.ctor) {
                 Ok(())
             } else {
                 Err(EdgeFault::WrongSort)

@@ -4,8 +4,7 @@ ghost use Rattle.grove_edits.specs.Edge.{IsWellFormed, EdgeInRange, edge_fault, 
 use crate::edge::{Edge, EdgeFault, check_edge};
 use crate::vertex::Vertex;
 use grove_names::Name;
-use crate::spelled::{SpelledEdit, SpelledVertex};
-use grove_sorts::{Branch, Position, SpelledCtor};
+use grove_sorts::{Branch, Position};
 
 /// What an edit does to its edge.
 #[derive(Clone, Copy, Debug, PartialEq, Eq, PartialOrd, Ord, Hash)]
@@ -19,12 +18,12 @@ pub enum EditKind {
 pub struct Edit {
     // The parts of the edge. The source of a well-formed edge has a position, so its constructor is a byte here: an edit is two thirds as
     // wide as its edge.
-    name: Name,
-    source: Name,
-    branch: Branch,
-    position: Position,
-    target: Vertex,
-    kind: EditKind,
+    pub(crate) name: Name,
+    pub(crate) source: Name,
+    pub(crate) branch: Branch,
+    pub(crate) position: Position,
+    pub(crate) target: Vertex,
+    pub(crate) kind: EditKind,
     ghost well_formed: { IsWellFormed (edge_from name source branch position target) },
     ghost in_range: { EdgeInRange (edge_from name source branch position target) },
 }
@@ -49,15 +48,6 @@ impl Edit {
             target: edge.target,
             kind,
         })
-    }
-
-    pub(crate) fn from_spelled(name: Name, source: Name, branch: Branch, position: Position, target: Vertex, kind: EditKind) -> Edit {
-        Edit { name, source, branch, position, target, kind }
-    }
-
-    #[inline(always)]
-    pub(crate) fn spelled(&self) -> SpelledEdit<'_> {
-        SpelledEdit::from_parts(self.name, self.source, self.branch, self.position, self.kind, SpelledVertex { name: self.target.name, ctor: SpelledCtor::of(&self.target.ctor) })
     }
 
     /// The insertion of an edge, or its first fault.

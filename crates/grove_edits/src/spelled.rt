@@ -1,13 +1,16 @@
-ghost use Rattle.std.specs.Prelude.{◌≡◌, IfOk, IfErr, OnOk, None, Some};
-ghost use Rattle.grove_edits.specs.Edge.{edge_fault, EdgeInRange, IsWellFormed};
+ghost use Rattle.std.specs.Prelude.{◌≡◌, [], IfOk, IfErr, IfSome, IfNone, None, Some};
+ghost use Rattle.grove_sorts.specs.Ctor.{positions};
+ghost use Rattle.grove_sorts.specs.Branch.{branch_ctor};
+ghost use Rattle.grove_sorts.specs.Spelled.{spelled_ctor};
+ghost use Rattle.grove_edits.specs.Edge.{edge_fault, edge_from, EdgeInRange, IsWellFormed};
 ghost use Rattle.grove_edits.specs.Vertex.{is_vertex, VertexInRange};
-ghost use Rattle.grove_edits.specs.Spelled.{spelled_edge, spelled_from, spelled_vertex};
+ghost use Rattle.grove_edits.specs.SpelledEdge.{spelled_edge, spelled_vertex};
 
 use crate::edge::EdgeFault;
 use crate::edit::{Edit, EditKind};
 use crate::vertex::Vertex;
 use grove_names::Name;
-use grove_sorts::{Branch, Position, Sort, SpelledCtor, position_sort};
+use grove_sorts::{Branch, Plain, Position, SpelledCtor, position_sort};
 
 /// A vertex as a text spells it.
 #[derive(Clone, Copy, Debug)]
@@ -17,6 +20,17 @@ pub struct SpelledVertex<'t> {
 }
 
 impl<'t> SpelledVertex<'t> {
+    /// A vertex, its identifier lent from where it stands.
+    #[inline(always)]
+    pub fn of(vertex: &'t Vertex) -> SpelledVertex<'t>
+        ensures { spelled_vertex result ≡ vertex.now }
+    {
+        SpelledVertex {
+            name: vertex.name,
+            ctor: SpelledCtor::of(&vertex.ctor),
+        }
+    }
+
     /// The vertex itself, in its whole width.
     pub fn vertex(&self) -> Vertex
         ensures { result ≡ spelled_vertex self.now }
@@ -28,7 +42,7 @@ impl<'t> SpelledVertex<'t> {
     }
 }
 
-/// An edge as a text spells it, well formed or not.
+/// An edge as a text spells it. Not each is well formed: see `SpelledEdit::new`.
 #[derive(Clone, Copy, Debug)]
 pub struct SpelledEdge<'t> {
     pub name: Name,
@@ -37,7 +51,62 @@ pub struct SpelledEdge<'t> {
     pub target: SpelledVertex<'t>,
 }
 
-/// An edit as a text spells it, half as wide as an `Edit`.
+#[inline(always)]
+fn is_well_formed(vertex: &SpelledVertex) -> bool
+    ensures well_formed { result ≡ is_vertex (spelled_vertex vertex.now) }
+    ensures in_range { VertexInRange (spelled_vertex vertex.now) }
+{
+    let Name { author, counter } = vertex.name;
+    match vertex.ctor {
+        SpelledCtor::Plain(Plain::Root) => author == 0 && counter == 0,
+        SpelledCtor::Num(_literal) => 0 < author && 0 < counter,
+        SpelledCtor::Plain(_) | SpelledCtor::Var(_) | SpelledCtor::PVar(_) => {
+            0 < author && 0 < counter
+        }
+    }
+}
+
+// The branch that a constructor is, or None where it has no positions.
+#[inline(always)]
+fn branch_of(ctor: SpelledCtor) -> Option<Branch>
+    ensures branch { IfSome result (λ branch. branch_ctor branch ≡ spelled_ctor ctor.entry) }
+    ensures none { IfNone result (positions (spelled_ctor ctor.entry) ≡ []) }
+{
+    match ctor {
+        SpelledCtor::Plain(plain) => plain.branch(),
+        SpelledCtor::Num(_) | SpelledCtor::Var(_) | SpelledCtor::PVar(_) => None,
+    }
+}
+
+// The branch that the source of a well-formed edge is, or the first fault that applies.
+#[inline(always)]
+fn check_spelled(edge: &SpelledEdge) -> Result<Branch, EdgeFault>
+    ensures well_formed { IfOk result (λ branch. edge_fault (spelled_edge edge.now) ≡ None) }
+    ensures branch { IfOk result (λ branch. branch_ctor branch ≡ (spelled_edge edge.now).source.ctor) }
+    ensures first_fault { IfErr result (λ fault. edge_fault (spelled_edge edge.now) ≡ Some fault) }
+    ensures in_range { EdgeInRange (spelled_edge edge.now) }
+{
+    let Name { author, counter } = edge.name;
+    let is_named = 0 < author && 0 < counter;
+    let is_source_good = is_well_formed(&edge.source);
+    let is_target_good = is_well_formed(&edge.target);
+    if !(is_named && is_source_good && is_target_good) {
+        return Err(EdgeFault::BadVertex);
+    }
+    let branch = branch_of(edge.source.ctor).ok_or(EdgeFault::NoPosition)?;
+    match position_sort(&branch.ctor(), edge.position) {
+        None => Err(EdgeFault::NoPosition),
+        Some(sort) => {
+            if sort == edge.target.ctor.sort() {
+                Ok(branch)
+            } else {
+                Err(EdgeFault::WrongSort)
+            }
+        }
+    }
+}
+
+/// An edit as a text spells it: the insertion or the deletion of a well-formed edge, half as wide as an `Edit`.
 #[derive(Clone, Copy, Debug)]
 pub struct SpelledEdit<'t> {
     name: Name,
@@ -46,41 +115,13 @@ pub struct SpelledEdit<'t> {
     position: Position,
     kind: EditKind,
     target: SpelledVertex<'t>,
-    ghost well_formed: { IsWellFormed (spelled_from name source branch position target) },
-    ghost in_range: { EdgeInRange (spelled_from name source branch position target) },
-}
-
-#[inline(always)]
-fn is_named(name: Name) -> bool {
-    0 < name.author && 0 < name.counter
-}
-
-#[inline(always)]
-fn is_well_formed(vertex: &SpelledVertex) -> bool
-    ensures well_formed { result ≡ is_vertex (spelled_vertex vertex.now) }
-{
-    match vertex.ctor {
-        SpelledCtor::Branch(Branch::Root) => vertex.name.author == 0 && vertex.name.counter == 0,
-        _ => is_named(vertex.name),
-    }
-}
-
-#[inline(always)]
-fn branch_of(ctor: SpelledCtor) -> Option<Branch> {
-    match ctor {
-        SpelledCtor::Branch(branch) => Some(branch),
-        _ => None,
-    }
-}
-
-#[inline(always)]
-fn sort_at(branch: Branch, position: Position) -> Option<Sort> {
-    position_sort(&branch.ctor(), position)
+    ghost well_formed: { IsWellFormed (edge_from name source branch position (spelled_vertex target)) },
+    ghost in_range: { EdgeInRange (edge_from name source branch position (spelled_vertex target)) },
 }
 
 impl<'t> SpelledEdit<'t> {
     ghost use Rattle.grove_edits.specs.Edit.{edit_edge, edit_kind};
-    ghost use Rattle.grove_edits.specs.Spelled.{spelled_edit};
+    ghost use Rattle.grove_edits.specs.SpelledEdit.{spelled_edit};
 
     /// An edit of an edge, or the edge's first fault.
     #[inline(always)]
@@ -89,18 +130,7 @@ impl<'t> SpelledEdit<'t> {
         ensures kind { IfOk result (λ edit. edit_kind (spelled_edit edit) ≡ kind) }
         ensures first_fault { IfErr result (λ fault. edge_fault (spelled_edge edge.entry) ≡ Some fault) }
     {
-        if !(is_named(edge.name) && is_well_formed(&edge.source) && is_well_formed(&edge.target)) {
-            return Err(EdgeFault::BadVertex);
-        }
-        let Some(branch) = branch_of(edge.source.ctor) else {
-            return Err(EdgeFault::NoPosition);
-        };
-        let Some(sort) = sort_at(branch, edge.position) else {
-            return Err(EdgeFault::NoPosition);
-        };
-        if sort != edge.target.ctor.sort() {
-            return Err(EdgeFault::WrongSort);
-        }
+        let branch = check_spelled(&edge)?;
         Ok(SpelledEdit {
             name: edge.name,
             source: edge.source.name,
@@ -111,25 +141,33 @@ impl<'t> SpelledEdit<'t> {
         })
     }
 
-    /// An edit, its target's identifier lent from where it stands.
+    /// An edit, the identifier of its target lent from where it stands.
     #[inline(always)]
     pub fn of(edit: &'t Edit) -> SpelledEdit<'t>
         ensures { spelled_edit result ≡ edit.now }
     {
-        edit.spelled()
-    }
-
-    // internal
-    #[inline(always)]
-    pub(crate) fn from_parts(name: Name, source: Name, branch: Branch, position: Position, kind: EditKind, target: SpelledVertex<'t>) -> SpelledEdit<'t> {
-        SpelledEdit { name, source, branch, position, kind, target }
+        SpelledEdit {
+            name: edit.name,
+            source: edit.source,
+            branch: edit.branch,
+            position: edit.position,
+            kind: edit.kind,
+            target: SpelledVertex::of(&edit.target),
+        }
     }
 
     /// The edit itself, in its whole width.
     pub fn edit(&self) -> Edit
         ensures { result ≡ spelled_edit self.now }
     {
-        Edit::from_spelled(self.name, self.source, self.branch, self.position, self.target.vertex(), self.kind)
+        Edit {
+            name: self.name,
+            source: self.source,
+            branch: self.branch,
+            position: self.position,
+            target: self.target.vertex(),
+            kind: self.kind,
+        }
     }
 
     /// The name of the edge.
@@ -140,14 +178,15 @@ impl<'t> SpelledEdit<'t> {
     }
 
     /// The name of the vertex from which the edge leads.
-    pub fn source(&self) -> Name
+    pub fn source_name(&self) -> Name
         ensures { result ≡ (edit_edge (spelled_edit self.now)).source.name }
     {
         self.source
     }
 
-    /// The branch
+    /// The constructor of that vertex, which has the position.
     pub fn branch(&self) -> Branch
+        ensures { branch_ctor result ≡ (edit_edge (spelled_edit self.now)).source.ctor }
     {
         self.branch
     }
