@@ -3,7 +3,6 @@ use Rattle.std.proofs.Common.{◌≡◌, ℕ, ◌-◌, ◌≤◌, ◌++◌, List
 use Rattle.std.proofs.Props.{props}
 use Rattle.std.proofs.lemmas.List.{take-append-drop, length-take}
 use Rattle.std.proofs.Math.Seq.{take-append_seam}
-use Rattle.grove_sorts.specs.declared.version.Version.{Version}
 use Rattle.grove_sorts.specs.declared.version.Version.TheVariants.{Two}
 use Rattle.grove_sorts.specs.Identifier.{IsIdentifier}
 use Rattle.grove_sorts.specs.Ident.{ident_bytes}
