@@ -129,6 +129,7 @@ impl<'t> SpelledEdit<'t> {
         ensures edge { IfOk result (λ edit. edit_edge (spelled_edit edit) ≡ spelled_edge edge.entry) }
         ensures kind { IfOk result (λ edit. edit_kind (spelled_edit edit) ≡ kind) }
         ensures first_fault { IfErr result (λ fault. edge_fault (spelled_edge edge.entry) ≡ Some fault) }
+        ensures in_range { EdgeInRange (spelled_edge edge.entry) }
     {
         let branch = check_spelled(&edge)?;
         Ok(SpelledEdit {
