@@ -5,14 +5,15 @@ ghost use Rattle.grove_names.specs.Name.{name_text, InRange as NameInRange};
 ghost use Rattle.grove_sorts.specs.declared.ctor.Ctor.{Ctor};
 ghost use Rattle.grove_sorts.specs.declared.position.Position.{Position};
 ghost use Rattle.grove_sorts.specs.Ctor.{ctor_text, InRange as CtorInRange};
-ghost use Rattle.grove_sorts.specs.Branch.{branch_ctor};
+ghost use Rattle.grove_sorts.specs.Spelled.{spelled_ctor};
 ghost use Rattle.grove_sorts.specs.Position.{position_text};
 ghost use Rattle.grove_edits.specs.declared.edge.Edge.{Edge};
 ghost use Rattle.grove_edits.specs.declared.edit.EditKind.{EditKind};
 ghost use Rattle.grove_edits.specs.declared.vertex.Vertex.{Vertex};
 ghost use Rattle.grove_sorts.specs.Version.{IsCtorOf, IsPositionOf};
 ghost use Rattle.grove_edits.specs.Edge.{EdgeInRange, IsEdgeOf};
-ghost use Rattle.grove_edits.specs.Edit.{edit_edge, edit_kind};
+ghost use Rattle.grove_edits.specs.SpelledEdge.{spelled_edge};
+ghost use Rattle.grove_edits.specs.SpelledEdit.{spelled_edit};
 ghost use Rattle.grove_edits.specs.Vertex.{VertexInRange};
 ghost use Rattle.edit_text.specs.Line.{Spells, HasFault, form, spaced, edge_parts};
 
@@ -31,9 +32,11 @@ pub fn read_line(version: Version, line: &[u8]) -> Result<Edit, LineFault>
     Ok(spelled.edit())
 }
 
-/// Reads a line of the version
+/// Reads a line likewise, and leaves the identifier of the target where it stands in the line: nothing wide is made.
 #[inline(always)]
 pub fn read_spelled_line(version: Version, line: &[u8]) -> Result<SpelledEdit<'_>, LineFault>
+    ensures edit { IfOk result (λ edit. Spells version line.now (spelled_edit edit)) }
+    ensures first_fault { IfErr result (HasFault version line.now) }
 {
     let Some((kind, edge)) = read_form(version, line) else {
         return Err(LineFault::Syntax);
@@ -44,8 +47,8 @@ pub fn read_spelled_line(version: Version, line: &[u8]) -> Result<SpelledEdit<'_
 // The edge of a line need not be well formed.
 #[inline(always)]
 fn read_form(version: Version, line: &[u8]) -> Option<(EditKind, SpelledEdge<'_>)>
-    ensures found { IfSome result (λ read. line.now ≡ form read.0 read.1) }
-    ensures of_version { IfSome result (λ read. IsEdgeOf version read.1) }
+    ensures found { IfSome result (λ read. line.now ≡ form read.0 (spelled_edge read.1)) }
+    ensures of_version { IfSome result (λ read. IsEdgeOf version (spelled_edge read.1)) }
     ensures none { IfNone result ((kind : EditKind) (edge : Edge) → EdgeInRange edge → IsEdgeOf version edge → line.now ≢ form kind edge) }
 {
     match line {
@@ -57,8 +60,8 @@ fn read_form(version: Version, line: &[u8]) -> Option<(EditKind, SpelledEdge<'_>
 
 #[inline(always)]
 fn read_edge(version: Version, text: &[u8]) -> Option<SpelledEdge<'_>>
-    ensures found { IfSome result (λ edge. text.now ≡ spaced (edge_parts edge)) }
-    ensures of_version { IfSome result (IsEdgeOf version) }
+    ensures found { IfSome result (λ edge. text.now ≡ spaced (edge_parts (spelled_edge edge))) }
+    ensures of_version { IfSome result (λ edge. IsEdgeOf version (spelled_edge edge)) }
     ensures none { IfNone result ((edge : Edge) → EdgeInRange edge → IsEdgeOf version edge → text.now ≢ spaced (edge_parts edge)) }
 {
     let (name, rest) = take_name(text)?;
@@ -76,8 +79,8 @@ fn read_edge(version: Version, text: &[u8]) -> Option<SpelledEdge<'_>>
 // A vertex: its name, a space and its constructor.
 #[inline(always)]
 fn read_vertex(version: Version, text: &[u8]) -> Option<SpelledVertex<'_>>
-    ensures found { IfSome result (λ vertex. text.now ≡ name_text vertex.name ++ 32 ∷ ctor_text vertex.ctor) }
-    ensures of_version { IfSome result (λ vertex. IsCtorOf version vertex.ctor) }
+    ensures found { IfSome result (λ vertex. text.now ≡ name_text vertex.name ++ 32 ∷ ctor_text (spelled_ctor vertex.ctor)) }
+    ensures of_version { IfSome result (λ vertex. IsCtorOf version (spelled_ctor vertex.ctor)) }
     ensures none { IfNone result ((vertex : Vertex) → NameInRange vertex.name → CtorInRange vertex.ctor → IsCtorOf version vertex.ctor
         → text.now ≢ name_text vertex.name ++ 32 ∷ ctor_text vertex.ctor) }
 {
@@ -89,11 +92,11 @@ fn read_vertex(version: Version, text: &[u8]) -> Option<SpelledVertex<'_>>
 // A vertex and the space behind it, and what stands after them.
 #[inline(always)]
 fn take_vertex(version: Version, text: &[u8]) -> Option<(SpelledVertex<'_>, &[u8])>
-    ensures found { IfSome result (λ read. text.now ≡ name_text read.0.name ++ 32 ∷ (ctor_text read.0.ctor ++ 32 ∷ read.1.now)) }
-    ensures of_version { IfSome result (λ read. IsCtorOf version read.0.ctor) }
+    ensures found { IfSome result (λ read. text.now ≡ name_text read.0.name ++ 32 ∷ (ctor_text (spelled_ctor read.0.ctor) ++ 32 ∷ read.1.now)) }
+    ensures of_version { IfSome result (λ read. IsCtorOf version (spelled_ctor read.0.ctor)) }
     ensures only { (vertex : Vertex) (rest : List ℕ) → NameInRange vertex.name → CtorInRange vertex.ctor → IsCtorOf version vertex.ctor
         → text.now ≡ name_text vertex.name ++ 32 ∷ (ctor_text vertex.ctor ++ 32 ∷ rest)
-        → IsSomeAnd result (λ read. (read.0.name ≡ vertex.name) × (read.0.ctor ≡ vertex.ctor) × (read.1.now ≡ rest)) }
+        → IsSomeAnd result (λ read. (read.0.name ≡ vertex.name) × (spelled_ctor read.0.ctor ≡ vertex.ctor) × (read.1.now ≡ rest)) }
 {
     let (name, rest) = take_name(text)?;
     let (ctor, rest) = take_ctor(version, rest)?;
@@ -117,10 +120,10 @@ fn take_name(text: &[u8]) -> Option<(Name, &[u8])>
 // A constructor and the space behind it, and what stands after them.
 #[inline(always)]
 fn take_ctor(version: Version, text: &[u8]) -> Option<(SpelledCtor<'_>, &[u8])>
-    ensures found { IfSome result (λ read. text.now ≡ ctor_text read.0 ++ 32 ∷ read.1.now) }
-    ensures of_version { IfSome result (λ read. IsCtorOf version read.0) }
+    ensures found { IfSome result (λ read. text.now ≡ ctor_text (spelled_ctor read.0) ++ 32 ∷ read.1.now) }
+    ensures of_version { IfSome result (λ read. IsCtorOf version (spelled_ctor read.0)) }
     ensures only { (ctor : Ctor) (rest : List ℕ) → CtorInRange ctor → IsCtorOf version ctor → text.now ≡ ctor_text ctor ++ 32 ∷ rest
-        → IsSomeAnd result (λ read. (read.0 ≡ ctor) × (read.1.now ≡ rest)) }
+        → IsSomeAnd result (λ read. (spelled_ctor read.0 ≡ ctor) × (read.1.now ≡ rest)) }
 {
     let (part, rest) = take_part(text)?;
     let ctor = read_spelled(version, part)?;
