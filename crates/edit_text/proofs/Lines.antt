@@ -198,6 +198,13 @@ one_fault version line WrongSort BadVertex of_a of_b = ap line_fault_of (one_edg
 one_fault version line WrongSort NoPosition of_a of_b = ap line_fault_of (one_edge_fault version line edges.WrongSort edges.NoPosition of_a of_b)
 one_fault version line WrongSort WrongSort of_a of_b = refl
 
+-- a line of an edge with a fault has that fault
+pub has_edge_fault : (version : Version) (line : List ℕ) (kind : EditKind) (edge : Edge) (fault : EdgeFault) → EdgeInRange edge → IsEdgeOf version edge
+    → line ≡ form kind edge → edge_fault edge ≡ Some fault → HasFault version line (line_fault_of fault)
+has_edge_fault version line kind edge edges.BadVertex in_range of_version is has = (kind, edge, in_range, of_version, is, has)
+has_edge_fault version line kind edge edges.NoPosition in_range of_version is has = (kind, edge, in_range, of_version, is, has)
+has_edge_fault version line kind edge edges.WrongSort in_range of_version is has = (kind, edge, in_range, of_version, is, has)
+
 -- ---- a line and what stands behind it
 
 -- what stands behind an edit's line stands behind its LF

@@ -41,7 +41,10 @@ pub fn read_spelled_line(version: Version, line: &[u8]) -> Result<SpelledEdit<'_
     let Some((kind, edge)) = read_form(version, line) else {
         return Err(LineFault::Syntax);
     };
-    Ok(SpelledEdit::new(kind, edge)?)
+    match SpelledEdit::new(kind, edge) {
+        Ok(edit) => Ok(edit),
+        Err(fault) => Err(LineFault::from(fault)),
+    }
 }
 
 // The edge of a line need not be well formed.
