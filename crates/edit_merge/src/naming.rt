@@ -23,10 +23,10 @@ pub(crate) fn name_lines(
     while let Some((line, after)) = split_at_first(rest, b'\n') {
         match read_spelled_line(version, line) {
             Ok(edit) => {
-                let name = edit.name();
                 let start = text.len() - rest.len();
                 let end = start + line.len();
-                push(&mut lines, NamedLine { name, start, end })?;
+                let named = NamedLine::new(edit.name(), start, end)?;
+                push(&mut lines, named)?;
             }
             Err(fault) => {
                 let line = lines.len() as u64 + 1;

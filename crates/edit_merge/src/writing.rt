@@ -73,7 +73,7 @@ fn copy_line(text: &[u8], line: NamedLine, out: &mut Vec<u8>) -> Result<(), NoMe
     requires { (version : Version) × DoesStand version text.now line }
     ensures { OnOk result ((version : Version) (edit : Edit) → Stands version text.now line edit → out.new.items ≡ out.old.items ++ line_of edit) }
 {
-    out.extend_from_slice(&text[line.start..line.end + 1])?;
+    out.extend_from_slice(&text[line.start as usize..line.end as usize + 1])?;
     Ok(())
 }
 
@@ -108,5 +108,5 @@ fn line_at(text: &[u8], line: NamedLine) -> &[u8]
     requires { (version : Version) × DoesStand version text.now line }
     ensures { (version : Version) (edit : Edit) → Stands version text.now line edit → result.now ≡ form (edit_kind edit) (edit_edge edit) }
 {
-    &text[line.start..line.end]
+    &text[line.start as usize..line.end as usize]
 }

@@ -1,5 +1,6 @@
-use Rattle.std.proofs.Common.{ℕ, List, ◌==◌, length, refl, ap, ◌∙◌, ◌+◌, arith}
+use Rattle.std.proofs.Common.{ℕ, List, ◌==◌, length, sym, ap, ◌∙◌, ◌+◌, arith}
 use Rattle.std.proofs.lemmas.Bool.{false≢true}
+use Rattle.grove_edits.specs.SpelledEdit.{spelled_edit}
 use Rattle.edit_merge.proofs.NamedLines.{named_more, malformed_here, rest_here}
 use Rattle.edit_merge.proofs.naming.name_lines.Goals as goal
 
@@ -10,8 +11,9 @@ returns-in-Err-clause-fault c =
 
 pub loop-line-preserved : goal.loop-line-preserved
 loop-line-preserved c =
-    named_more c.args.version c.args.text.now c.loop-line.rest.now c.in-Some.line.now c.in-Some.after.now c.loop-line.lines.items c.push.new.lines.items _ c.in-Ok.edit
-    c.loop-line.invariant c.in-Some.ensures.parts c.in-Ok.ensures.edit c.name-name.ensures refl refl c.in_ok-push-in-Ok.ensures
+    named_more c.args.version c.args.text.now c.loop-line.rest.now c.in-Some.line.now c.in-Some.after.now c.loop-line.lines.items c.push.new.lines.items _
+    (spelled_edit c.in-Ok.edit) c.loop-line.invariant c.in-Some.ensures.parts c.in-Ok.ensures.edit (c.in_ok-named-in-Ok.ensures.name ∙ c.name.ensures)
+    c.in_ok-named-in-Ok.ensures.start (c.in_ok-named-in-Ok.ensures.end ∙ ap (λ (n : ℕ). n + length c.in-Some.line.now) (sym c.in_ok-named-in-Ok.ensures.start)) c.in_ok-push-in-Ok.ensures
 
 pub returns-else-is_empty-clause-fault : goal.returns-else-is_empty-clause-fault
 returns-else-is_empty-clause-fault c =
