@@ -1,13 +1,17 @@
-ghost use Rattle.std.specs.Prelude.{◌≡◌};
+ghost use Rattle.std.specs.Prelude.{◌≡◌, List};
 ghost use Rattle.std.specs.declared.cmp.Ordering.TheVariants.{Equal};
 ghost use Rattle.grove_names.specs.Name.{name_cmp};
+ghost use Rattle.grove_sorts.specs.Ctor.{ctor_cmp};
 ghost use Rattle.grove_edits.specs.Vertex.{vertex_cmp};
+ghost use Rattle.edit_table.specs.Lent.{lent_ctor};
 ghost use Rattle.edit_table.specs.Keys.{ctor_of, vertices_of};
 ghost use Rattle.edit_table.specs.Records.{numbered, record_cmp};
 
+use crate::lent_ctor::{LentCtor, compare_ctors};
 use crate::record::Record;
 use crate::vertex_key::{CtorKey, VertexKey};
-use grove_edits::{Vertex, compare_vertices};
+use grove_edits::Vertex;
+use grove_names::Name;
 use grove_sorts::Ctor;
 use std::cmp::Ordering;
 
@@ -40,36 +44,56 @@ fn compare_namesakes(ctors: &[Ctor], keys: &[VertexKey], a: &Record, b: &Record)
     sources.then(positions).then(targets).then(kinds)
 }
 
-// The order of the vertices with two numbers, of which one that no vertex has counts as the root's.
+// The order of the vertices with two numbers, of which one that no vertex has counts as the root's. Constructors are read only where
+// the vertices share a name.
 fn compare_numbered(ctors: &[Ctor], keys: &[VertexKey], a: u32, b: u32) -> Ordering
     ensures { result ≡ vertex_cmp (numbered (vertices_of ctors.now keys.now) a) (numbered (vertices_of ctors.now keys.now) b) }
 {
     if a == b {
         return Ordering::Equal;
     }
-    compare_vertices(&vertex_at(ctors, keys, a), &vertex_at(ctors, keys, b))
-}
-
-fn vertex_at(ctors: &[Ctor], keys: &[VertexKey], number: u32) -> Vertex
-    ensures { result ≡ numbered (vertices_of ctors.now keys.now) number }
-{
-    match keys.get(number as usize) {
-        Some(key) => Vertex {
-            name: key.name,
-            ctor: ctor_of(ctors, key.ctor),
-        },
-        None => Vertex::ROOT,
+    match name_at(keys, a).cmp(&name_at(keys, b)) {
+        Ordering::Equal => compare_ctors_numbered(ctors, keys, a, b),
+        unequal => unequal,
     }
 }
 
-fn ctor_of(ctors: &[Ctor], key: CtorKey) -> Ctor
-    ensures { result ≡ ctor_of ctors.now key }
+#[inline(always)]
+fn name_at(keys: &[VertexKey], number: u32) -> Name
+    ensures { (ctors : List Ctor) → result ≡ (numbered (vertices_of ctors keys.now) number).name }
+{
+    match keys.get(number as usize) {
+        Some(key) => key.name,
+        None => Vertex::ROOT.name,
+    }
+}
+
+// The order of the constructors of the vertices with two numbers.
+fn compare_ctors_numbered(ctors: &[Ctor], keys: &[VertexKey], a: u32, b: u32) -> Ordering
+    ensures { result ≡ ctor_cmp (numbered (vertices_of ctors.now keys.now) a).ctor (numbered (vertices_of ctors.now keys.now) b).ctor }
+{
+    let root = Ctor::Root;
+    let a = ctor_at(ctors, keys, a, &root);
+    let b = ctor_at(ctors, keys, b, &root);
+    compare_ctors(&a, &b)
+}
+
+fn ctor_at<'t>(ctors: &'t [Ctor], keys: &[VertexKey], number: u32, root: &'t Ctor) -> LentCtor<'t>
+    requires { root.now ≡ Ctor.Root }
+    ensures { lent_ctor result ≡ (numbered (vertices_of ctors.now keys.now) number).ctor }
+{
+    match keys.get(number as usize) {
+        Some(key) => ctor_of(ctors, key.ctor, root),
+        None => LentCtor::At(root),
+    }
+}
+
+fn ctor_of<'t>(ctors: &'t [Ctor], key: CtorKey, root: &'t Ctor) -> LentCtor<'t>
+    requires { root.now ≡ Ctor.Root }
+    ensures { lent_ctor result ≡ ctor_of ctors.now key }
 {
     match key {
-        CtorKey::Short(literal) => Ctor::Num(u64::from(literal)),
-        CtorKey::At(number) => match ctors.get(number as usize) {
-            Some(ctor) => *ctor,
-            None => Ctor::Root,
-        },
+        CtorKey::Short(literal) => LentCtor::Literal(u64::from(literal)),
+        CtorKey::At(number) => LentCtor::At(ctors.get(number as usize).unwrap_or(root)),
     }
 }

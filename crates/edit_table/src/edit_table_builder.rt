@@ -1,5 +1,6 @@
 ghost use Rattle.std.specs.Prelude.{◌≡◌, ◌<◌, ◌^◌, [], ◌∷◌, ◌++◌, length, IfOk, OnOk, OnErr};
 ghost use Rattle.grove_edits.specs.Graph.{graph, IsCanonical};
+ghost use Rattle.grove_edits.specs.SpelledEdit.{spelled_edit};
 ghost use Rattle.grove_edits.specs.Vertex.{root};
 
 use crate::edit_table::EditTable;
@@ -83,7 +84,7 @@ impl EditTableBuilder {
 
     /// Appends an edit. Vertices that the table has keep their numbers.
     pub fn push(&mut self, edit: &SpelledEdit) -> Result<(), NoMemory>
-        ensures appended { OnOk result (self.new.edits ≡ self.old.edits ++ edit.now ∷ []) }
+        ensures appended { OnOk result (self.new.edits ≡ self.old.edits ++ spelled_edit edit.now ∷ []) }
         ensures unchanged { OnErr result (self.new ≡ self.old) }
     {
         let count = self.keys.len();

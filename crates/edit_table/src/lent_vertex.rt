@@ -2,7 +2,7 @@ ghost use Rattle.std.specs.Prelude.{◌≡◌};
 ghost use Rattle.grove_edits.specs.Vertex.{is_same_vertex, vertex_cmp};
 ghost use Rattle.edit_table.specs.Lent.{lent_vertex};
 
-use crate::lent_ctor::LentCtor;
+use crate::lent_ctor::{LentCtor, compare_ctors};
 use grove_edits::Vertex;
 use grove_names::Name;
 use std::cmp::Ordering;
@@ -37,11 +37,12 @@ impl<'g> LentVertex<'g> {
 }
 
 /// The order of two lent vertices. Their constructors are read only where they share a name.
+#[inline(always)]
 pub fn compare_lent(a: &LentVertex, b: &LentVertex) -> Ordering
     ensures { result ≡ vertex_cmp (lent_vertex a.now) (lent_vertex b.now) }
 {
     match a.name.cmp(&b.name) {
-        Ordering::Equal => a.ctor.ctor().cmp(&b.ctor.ctor()),
+        Ordering::Equal => compare_ctors(&a.ctor, &b.ctor),
         unequal => unequal,
     }
 }

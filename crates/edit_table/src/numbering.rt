@@ -1,7 +1,10 @@
-ghost use Rattle.std.specs.Prelude.{◌≡◌, ◌<◌, ◌^◌, [], ◌∷◌, ◌++◌, Some, IsTrue, length, slice_get, IfOk, IfSome, IfNone, OnOk, OnErr, false};
+ghost use Rattle.std.specs.Prelude.{◌≡◌, ◌<◌, ◌^◌, [], ◌∷◌, ◌++◌, List, Some, IsTrue, length, slice_get, IfOk, IfSome, IfNone, OnOk, OnErr, false};
 ghost use Rattle.indexmap.specs.IndexSet.{insert_key};
 ghost use Rattle.grove_sorts.specs.Branch.{branch_ctor};
+ghost use Rattle.grove_sorts.specs.Spelled.{spelled_ctor};
 ghost use Rattle.grove_edits.specs.Edit.{edit_edge};
+ghost use Rattle.grove_edits.specs.SpelledEdge.{spelled_vertex};
+ghost use Rattle.grove_edits.specs.SpelledEdit.{spelled_edit};
 ghost use Rattle.edit_table.specs.declared.vertex_key.VertexKey.{VertexKey};
 ghost use Rattle.edit_table.specs.Keys.{branch_key, branch_number, is_short, vertices_of, with_vertex, AreCtors, AreKeys, BeginsWith, IsCtorKeyOf};
 ghost use Rattle.edit_table.specs.Records.{edits_of, AreRecords};
@@ -64,7 +67,7 @@ pub(crate) fn push_record(
     requires { AreRecords ctors.old.keys keys.old.keys records.old.items }
     ensures records { OnOk result (AreRecords ctors.new.keys keys.new.keys records.new.items) }
     ensures edits { OnOk result (edits_of (vertices_of ctors.new.keys keys.new.keys) records.new.items
-        ≡ edits_of (vertices_of ctors.old.keys keys.old.keys) records.old.items ++ edit.now ∷ []) }
+        ≡ edits_of (vertices_of ctors.old.keys keys.old.keys) records.old.items ++ spelled_edit edit.now ∷ []) }
     ensures unchanged { OnErr result (records.new.items ≡ records.old.items) }
     ensures ctors { AreCtors ctors.new.keys }
     ensures ctors_stay { BeginsWith ctors.new.keys ctors.old.keys }
@@ -88,10 +91,11 @@ pub(crate) fn push_record(
 // The key of the source of an edit.
 #[inline(always)]
 fn source_key(edit: &SpelledEdit) -> VertexKey
-    ensures { (branch : Branch) × (result ≡ branch_key (edit_edge edit.now).source.name branch) × (branch_ctor branch ≡ (edit_edge edit.now).source.ctor) }
+    ensures { (branch : Branch) × (result ≡ branch_key (edit_edge (spelled_edit edit.now)).source.name branch)
+        × (branch_ctor branch ≡ (edit_edge (spelled_edit edit.now)).source.ctor) }
 {
     VertexKey {
-        name: edit.source(),
+        name: edit.source_name(),
         ctor: CtorKey::At(number_of_branch(edit.branch())),
     }
 }
@@ -156,31 +160,53 @@ fn is_at(keys: &IndexSet<VertexKey, HashSeed>, number: u32, key: &VertexKey) -> 
     }
 }
 
-// The key of a constructor. Where it was not met, it is from then on.
+// The key of a constructor that has it without a look-up: a branch, or a literal that is short.
 #[inline(always)]
-fn ctor_key(ctors: &mut IndexSet<Ctor, HashSeed>, ctor: SpelledCtor) -> Result<CtorKey, NoMemory>
+fn fixed_key(ctor: &SpelledCtor) -> Option<CtorKey>
+    ensures key { IfSome result (λ key. (ctors : List Ctor) → AreCtors ctors → IsCtorKeyOf ctors key (spelled_ctor ctor.now)) }
+    ensures none { IfNone result (is_short (spelled_ctor ctor.now) ≡ false) }
 {
     match ctor {
-        SpelledCtor::Plain(plain) => match plain.branch() {
-            Some(branch) => Ok(CtorKey::At(number_of_branch(branch))),
-            None => met_key(ctors, ctor),
-        },
-        SpelledCtor::Num(literal) => match u32::try_from(literal) {
-            Ok(literal) => Ok(CtorKey::Short(literal)),
-            Err(_) => met_key(ctors, ctor),
+        SpelledCtor::Plain(plain) => {
+            let branch = plain.branch()?;
+            Some(CtorKey::At(number_of_branch(branch)))
         }
-        _ => met_key(ctors, ctor),
+        SpelledCtor::Num(literal) => {
+            let literal = u32::try_from(*literal).ok()?;
+            Some(CtorKey::Short(literal))
+        }
+        SpelledCtor::Var(_) | SpelledCtor::PVar(_) => None,
     }
 }
 
+// The key of a constructor that is looked up. Where it was not met, it is from then on.
 #[inline(never)]
-fn met_key(ctors: &mut IndexSet<Ctor, HashSeed>, ctor: SpelledCtor) -> Result<CtorKey, NoMemory>
+fn met_key(ctors: &mut IndexSet<Ctor, HashSeed>, ctor: &SpelledCtor) -> Result<CtorKey, NoMemory>
+    requires ctors { AreCtors ctors.old.keys }
+    requires long { is_short (spelled_ctor ctor.now) ≡ false }
+    ensures key { IfOk result (λ key. IsCtorKeyOf ctors.new.keys key (spelled_ctor ctor.now)) }
+    ensures ctors { AreCtors ctors.new.keys }
+    ensures stay { BeginsWith ctors.new.keys ctors.old.keys }
 {
     let (index, _) = ctors.insert_full(ctor.ctor())?;
     let Ok(number) = u32::try_from(index) else {
         return Err(NoMemory);
     };
     Ok(CtorKey::At(number))
+}
+
+// The key of a constructor. Where it was not met, it is from then on.
+#[inline(always)]
+fn ctor_key(ctors: &mut IndexSet<Ctor, HashSeed>, ctor: &SpelledCtor) -> Result<CtorKey, NoMemory>
+    requires { AreCtors ctors.old.keys }
+    ensures key { IfOk result (λ key. IsCtorKeyOf ctors.new.keys key (spelled_ctor ctor.now)) }
+    ensures ctors { AreCtors ctors.new.keys }
+    ensures stay { BeginsWith ctors.new.keys ctors.old.keys }
+{
+    match fixed_key(ctor) {
+        Some(key) => Ok(key),
+        None => met_key(ctors, ctor),
+    }
 }
 
 // The number of a vertex, which gets the next one where it has none.
@@ -190,15 +216,15 @@ fn target_number(
     vertex: &SpelledVertex,
 ) -> Result<u32, NoMemory>
     requires { AreKeys ctors.old.keys keys.old.keys }
-    ensures number { IfOk result (λ number. slice_get (vertices_of ctors.new.keys keys.new.keys) number ≡ Some vertex.now) }
-    ensures vertices { OnOk result (vertices_of ctors.new.keys keys.new.keys ≡ with_vertex vertex.now (vertices_of ctors.old.keys keys.old.keys)) }
+    ensures number { IfOk result (λ number. slice_get (vertices_of ctors.new.keys keys.new.keys) number ≡ Some (spelled_vertex vertex.now)) }
+    ensures vertices { OnOk result (vertices_of ctors.new.keys keys.new.keys ≡ with_vertex (spelled_vertex vertex.now) (vertices_of ctors.old.keys keys.old.keys)) }
     ensures keys { OnOk result (AreKeys ctors.new.keys keys.new.keys) }
     ensures unchanged { OnErr result (keys.new.keys ≡ keys.old.keys) }
     ensures keys_stay { BeginsWith keys.new.keys keys.old.keys }
     ensures ctors { AreCtors ctors.new.keys }
     ensures ctors_stay { BeginsWith ctors.new.keys ctors.old.keys }
 {
-    let ctor = ctor_key(ctors, vertex.ctor)?;
+    let ctor = ctor_key(ctors, &vertex.ctor)?;
     key_number(
         keys,
         VertexKey {
