@@ -1,6 +1,6 @@
 ghost use Rattle.std.specs.Prelude.{◌≡◌, ◌<◌, ◌^◌, length, IfOk};
 ghost use Rattle.grove_edits.specs.Graph.{graph, IsCanonical};
-ghost use Rattle.edit_table.specs.Table.{edge_at, kind_at, vertex_at, AreEnds, IsIndex, IsNumber};
+ghost use Rattle.edit_table.specs.Table.{edge_at, kind_at, vertex_at, AreEnds, IsIndex, IsNumber, IsTarget};
 
 use crate::edit_table_builder::EditTableBuilder;
 use crate::lending::lent_ctor;
@@ -74,9 +74,19 @@ impl EditTable {
         requires { IsIndex self.now index }
         ensures { table_edge result ≡ edge_at self.now index }
     {
-        // The invariant bounds the index.
+        self.edge_to(index, self.target(index))
+    }
+
+    /// The edge of the edit at an index, where the number of the vertex to which it leads is known.
+    pub fn edge_to(&self, index: usize, target: usize) -> TableEdge<'_>
+        requires index { IsIndex self.now index }
+        requires target { IsTarget self.now index target }
+        ensures { table_edge result ≡ edge_at self.now index }
+    {
+        // The invariant bounds both.
         let _ = &self.records;
-        TableEdge::at(self, index as u32)
+        let _ = &self.keys;
+        TableEdge::at(self, index as u32, target as u32)
     }
 
     /// The vertex with a number.

@@ -1,5 +1,5 @@
 ghost use Rattle.std.specs.Prelude.{◌≡◌, ◌<◌, length};
-ghost use Rattle.edit_table.specs.Table.{IsIndex};
+ghost use Rattle.edit_table.specs.Table.{IsIndex, IsTarget};
 
 use crate::edit_table::EditTable;
 use crate::lent_vertex::LentVertex;
@@ -13,7 +13,10 @@ use std::fmt;
 pub struct TableEdge<'g> {
     table: &'g EditTable,
     index: u32,
+    // The number of the vertex to which it leads.
+    target: u32,
     ghost is_index: { IsIndex table.now index },
+    ghost leads_to: { IsTarget table.now index target },
 }
 
 impl fmt::Debug for TableEdge<'_> {
@@ -27,12 +30,17 @@ impl<'g> TableEdge<'g> {
     ghost use Rattle.edit_table.specs.Lent.{lent_vertex};
     ghost use Rattle.edit_table.specs.TableEdge.{table_edge};
 
-    /// The edge of the edit at an index.
-    pub(crate) fn at(table: &'g EditTable, index: u32) -> TableEdge<'g>
-        requires { IsIndex table.now index }
+    /// The edge of the edit at an index, which leads to the vertex with this number.
+    pub(crate) fn at(table: &'g EditTable, index: u32, target: u32) -> TableEdge<'g>
+        requires index { IsIndex table.now index }
+        requires target { IsTarget table.now index target }
         ensures { table_edge result ≡ edge_at table.now index }
     {
-        TableEdge { table, index }
+        TableEdge {
+            table,
+            index,
+            target,
+        }
     }
 
     /// The name of the edge.
@@ -53,8 +61,7 @@ impl<'g> TableEdge<'g> {
     pub fn target(&self) -> LentVertex<'g>
         ensures { lent_vertex result ≡ (table_edge self.now).target }
     {
-        let table = self.table;
-        table.lent(table.target(self.index as usize))
+        self.table.lent(self.target as usize)
     }
 
     /// The edge itself, in its whole width: where a part of it does, take that.

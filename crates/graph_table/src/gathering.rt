@@ -56,12 +56,13 @@ fn note(around: &mut [Around], index: usize, kind: EditKind, source: usize, targ
     }
 }
 
-fn link(around: &[Around], position: Position, source: usize) -> Link
+fn link(around: &[Around], position: Position, source: usize, target: u32) -> Link
     requires { source < length around.now }
-    ensures { result ≡ link_of position source around.now }
+    ensures { result ≡ link_of position source target around.now }
 {
     Link {
         position,
+        target,
         before: around[source].last(),
     }
 }
@@ -73,14 +74,14 @@ pub(crate) fn gather(alloc: Global, table: &EditTable) -> Result<Gathered, NoMem
     let mut links = Vec::with_capacity(alloc, table.len())?;
     for index in 0..table.len() {
         let source = table.source(index);
-        links.push(link(&around, table.position(index), source))?;
-        note(
-            &mut around,
-            index,
-            table.kind(index),
+        let target = table.target(index);
+        links.push(link(
+            &around,
+            table.position(index),
             source,
-            table.target(index),
-        );
+            target as u32,
+        ))?;
+        note(&mut around, index, table.kind(index), source, target);
     }
     Ok(Gathered { around, links })
 }

@@ -84,7 +84,7 @@ impl GraphTable {
         requires { IsIndex self.now index }
         ensures { table_edge result ≡ edge_at self.now index }
     {
-        self.table.edge(index)
+        self.table.edge_to(index, self.links[index].target as usize)
     }
 
     /// The vertex with a number, as the table lends it.
@@ -110,7 +110,7 @@ impl GraphTable {
         ensures number { IsNumber self.now result }
         ensures target { vertex_at self.now result ≡ (edge_at self.now index).target }
     {
-        self.table.target(index)
+        self.links[index].target as usize
     }
 
     /// The live edges to the vertex with a number: the least two in edge order, or fewer where there are fewer.

@@ -1,9 +1,11 @@
 use grove_sorts::Position;
 
-/// An edit by its index: the position of its edge, and the last live edge before it from the same vertex.
+/// An edit by its index: the position of its edge, the vertex to which it leads, and the last live edge before it from the same vertex.
 #[derive(Clone, Copy)]
 pub(crate) struct Link {
     pub(crate) position: Position,
+    // The number of that vertex.
+    pub(crate) target: u32,
     // One more than the index of that edge, or zero where there is none.
     pub(crate) before: u32,
 }
