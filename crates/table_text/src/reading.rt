@@ -69,15 +69,13 @@ fn read_lines(
 fn most_lines(text: &[u8]) -> usize {
     let most = text.len() / 24;
     let mut rest = text;
-    let mut ends = 0;
-    while let Some((_line, after)) = split_at_first(rest, b'\n') {
-        if ends == most {
-            return most;
+    for ends in 0..most {
+        match split_at_first(rest, b'\n') {
+            Some((_line, after)) => rest = after,
+            None => return ends,
         }
-        ends += 1;
-        rest = after;
     }
-    ends
+    most
 }
 
 // The table of no edits, with room for so many.
