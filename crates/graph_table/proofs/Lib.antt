@@ -6,3 +6,4 @@ pub mod Positions
 pub mod Readings
 pub mod VertexOrder
 pub mod ParentIndices
+pub mod Links

@@ -96,5 +96,6 @@ with_parent_at number index ends = set ends number (record { last = (ends_at end
 abbrev pub ends_noted : ℕ → EditKind → ℕ → ℕ → List Ends → List Ends
 ends_noted index kind source target ends = if is_insertion kind then with_parent_at target index (with_last_at source index ends) else ends
 
-abbrev pub link_of : Position → ℕ → List Ends → Link
-link_of position source ends = record { position = position; before = (ends_at ends source).last }
+-- the link of an edit with this position, whose ends have these numbers
+abbrev pub link_of : Position → ℕ → ℕ → List Ends → Link
+link_of position source target ends = record { position = position; target = target; before = (ends_at ends source).last }

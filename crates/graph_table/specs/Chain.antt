@@ -7,7 +7,7 @@ use Rattle.graph_table.specs.Around.{Child, Ends, Neighbours}
 abbrev pub IsChain : List Link → ℕ → List Child → Type 0
 IsChain links last [] = last ≡ 0
 IsChain links last (c ∷ cs) =
-    (last ≡ suc c.index) × ((before : ℕ) × ((slice_get links c.index ≡ Some (record { position = c.position; before = before })) × ((before ≤ c.index) × IsChain links before cs)))
+    (last ≡ suc c.index) × ((before : ℕ) × ((target : ℕ) × ((slice_get links c.index ≡ Some (record { position = c.position; target = target; before = before })) × ((before ≤ c.index) × IsChain links before cs))))
 
 -- there is such a chain
 abbrev pub IsChained : List Link → ℕ → Type 0

@@ -1,6 +1,7 @@
 ghost use Rattle.std.specs.Prelude.{◌≡◌, ◌<◌, ◌+◌, ◌^◌, ◌++◌, ◌∷◌, [], length, map, replicate, IfOk};
 ghost use Rattle.graph_table.specs.Around.{no_ends, neighbours, ends_noted, with_last_at, with_parent_at, link_of};
 ghost use Rattle.graph_table.specs.Chain.{AreAround};
+ghost use Rattle.graph_table.specs.Parts.{AreLinks};
 
 use crate::around::Around;
 use crate::link::Link;
@@ -56,31 +57,36 @@ fn note(around: &mut [Around], index: usize, kind: EditKind, source: usize, targ
     }
 }
 
-fn link(around: &[Around], position: Position, source: usize, target: u32) -> Link
+fn link(
+    around: &[Around],
+    position: Position,
+    source: usize,
+    target: usize,
+) -> Result<Link, NoMemory>
     requires { source < length around.now }
-    ensures { result ≡ link_of position source target around.now }
+    ensures { IfOk result (λ link. link ≡ link_of position source target around.now) }
 {
-    Link {
+    let Ok(target) = u32::try_from(target) else {
+        return Err(NoMemory);
+    };
+    Ok(Link {
         position,
         target,
         before: around[source].last(),
-    }
+    })
 }
 
 pub(crate) fn gather(alloc: Global, table: &EditTable) -> Result<Gathered, NoMemory>
-    ensures { IfOk result (λ gathered. AreAround gathered.links.items gathered.around.items (map (neighbours table.now.edits) table.now.vertices)) }
+    ensures links { IfOk result (λ gathered. AreLinks table.now gathered.links.items) }
+    ensures around { IfOk result (λ gathered. AreAround gathered.links.items gathered.around.items (map (neighbours table.now.edits) table.now.vertices)) }
 {
     let mut around = nothing_around(alloc, table.vertex_count())?;
     let mut links = Vec::with_capacity(alloc, table.len())?;
     for index in 0..table.len() {
         let source = table.source(index);
         let target = table.target(index);
-        links.push(link(
-            &around,
-            table.position(index),
-            source,
-            target as u32,
-        ))?;
+        let next = link(&around, table.position(index), source, target)?;
+        links.push(next)?;
         note(&mut around, index, table.kind(index), source, target);
     }
     Ok(Gathered { around, links })

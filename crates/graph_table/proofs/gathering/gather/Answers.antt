@@ -1,10 +1,12 @@
 use Rattle.std.proofs.Common.{[], ◌∷◌, ◌++◌, ◌<◌, ◌∙◌, ap, length, replicate, sym, subst, map, arith}
 use Rattle.std.proofs.lemmas.List.{length_push}
+use Rattle.edit_table.specs.Table.{IsTarget}
 use Rattle.graph_table.specs.declared.link.Link.{Link}
 use Rattle.graph_table.specs.Around.{no_ends, neighbours, ends_noted, link_of}
 use Rattle.graph_table.specs.Chain.{AreAround}
 use Rattle.graph_table.proofs.Chains.{nothing_around}
 use Rattle.graph_table.proofs.Gathered.{nothing_noted, gathered_more, number_within}
+use Rattle.graph_table.proofs.Links.{no_targets, targets_more}
 use Rattle.graph_table.proofs.gathering.gather.Goals as goal
 
 pub loop-index-init : goal.loop-index-init
@@ -14,6 +16,7 @@ loop-index-init c =
     let count = c.in_ok-around.ensures ∙ ap (λ n. replicate n no_ends) c.vertex_count.ensures.count in
     record {
       count = ap length empty;
+      targets = no_targets c.args.table.now c.in_ok-links.links.items empty;
       kept = subst (λ es. AreAround c.in_ok-links.links.items es (map (neighbours []) vs)) (sym count)
           (subst (AreAround c.in_ok-links.links.items (replicate (length vs) no_ends)) (nothing_noted vs) (nothing_around c.in_ok-links.links.items (length vs)));
     }
@@ -30,7 +33,7 @@ note-requires-clause-source c =
 
 pub note-requires-clause-target : goal.note-requires-clause-target
 note-requires-clause-target c =
-    let within = number_within _ c.loop-index.links.items c.args.table.now c.loop-index.around.items c.target.result c.target.ensures.number c.loop-index.invariant.kept in
+    let within = number_within _ c.loop-index.links.items c.args.table.now c.loop-index.around.items c.target-target.result c.target-target.ensures.number c.loop-index.invariant.kept in
     omega (arith, within, ap length c.deref_mut.ensures.value)
 
 pub loop-index-preserved : goal.loop-index-preserved
@@ -38,15 +41,18 @@ loop-index-preserved c =
     let table = c.args.table.now in
     let i = c.loop-index.index in
     let s = c.source-source.result in
-    let t = c.target.result in
+    let t = c.target-target.result in
     let links = c.loop-index.links.items in
     let es = c.loop-index.around.items in
-    let linked = c.in_ok-push.ensures.items ∙ ap (λ (l : Link). links ++ l ∷ []) (c.link.ensures ∙ ap (link_of c.position.result s) c.deref.ensures.value) in
+    let linked = c.in_ok-push.ensures.items ∙ ap (λ (l : Link). links ++ l ∷ []) (c.in_ok-next.ensures ∙ ap (link_of c.position.result s t) c.deref.ensures.value) in
     let within : i < length table.edits = omega (arith, c.loop-index-test.true, c.len-index-end.ensures) in
     let noted = c.note.ensures ∙ ap (ends_noted i c.kind.result s t) c.deref_mut.ensures.value in
     record {
-      count = omega (arith, c.loop-index.invariant.count, ap length c.in_ok-push.ensures.items, length_push links c.link.result);
+      count = omega (arith, c.loop-index.invariant.count, ap length c.in_ok-push.ensures.items, length_push links c.in_ok-next.next);
+      targets = targets_more table links c.push.new.self.items c.in_ok-next.next i c.loop-index.invariant.count c.in_ok-push.ensures.items
+          (subst (IsTarget table i) (sym (ap (λ (l : Link). l.target) c.in_ok-next.ensures)) (c.target-target.ensures.number, c.target-target.ensures.target))
+          c.loop-index.invariant.targets;
       kept = gathered_more table i s t c.kind.result c.position.result links c.push.new.self.items es c.note.new.around c.vertex_count.ensures.vertices.once within
-          c.source-source.ensures.number c.source-source.ensures.source c.target.ensures.number c.target.ensures.target c.position.ensures c.kind.ensures
+          c.source-source.ensures.number c.source-source.ensures.source c.target-target.ensures.number c.target-target.ensures.target c.position.ensures c.kind.ensures
           c.loop-index.invariant.count c.loop-index.invariant.kept linked noted c.loop-index.around.len _ c.loop-index.around.ok.0;
     }
