@@ -1,8 +1,8 @@
 use edit_table::{EditTable, is_same_lent};
 use graph_table::*;
-use grove_edits::{Edge, Edit, EditKind, EditList, Vertex};
+use grove_edits::{Edge, EdgeFault, Edit, EditKind, EditList, Vertex};
 use grove_names::Name;
-use grove_sorts::{Ctor, Position, Version, read_ident};
+use grove_sorts::{Ctor, IdentFault, Position, Version, read_ident};
 use seeded_hash::HashSeed;
 use std::alloc::Global;
 use std::test::Fail;
@@ -20,7 +20,7 @@ fn edit(
     source: Vertex,
     position: Position,
     target: Vertex,
-) -> Result<Edit, Fail> {
+) -> Result<Edit, EdgeFault> {
     let name = Name { author: 1, counter };
     let edge = Edge {
         name,
@@ -28,36 +28,51 @@ fn edit(
         position,
         target,
     };
-    Ok(Edit::new(kind, edge)?)
+    Edit::new(kind, edge)
+}
+
+fn insertion(
+    counter: u64,
+    source: Vertex,
+    position: Position,
+    target: Vertex,
+) -> Result<Edit, EdgeFault> {
+    edit(EditKind::Insert, counter, source, position, target)
+}
+
+fn list_of(alloc: Global, edits: &[Edit]) -> Result<EditList, grove_edits::NoMemory> {
+    let mut list = EditList::new(alloc);
+    list.extend_from_slice(edits)?;
+    Ok(list)
 }
 
 // The graph of some edits, by number.
-fn graph_of(alloc: Global, edits: EditList) -> Result<GraphTable, Fail> {
-    let table = EditTable::of_list(alloc, &edits, HashSeed::FIXED)?;
+fn graph_of(alloc: Global, edits: &EditList) -> Result<GraphTable, Fail> {
+    let table = EditTable::of_list(alloc, edits, HashSeed::FIXED)?;
     Ok(GraphTable::of(alloc, table)?)
+}
+
+// The edits of a sum, as they came.
+fn edits_of_sum() -> Result<[Edit; 6], EdgeFault> {
+    let plus = vertex(1, Ctor::Plus);
+    let seven = vertex(9, Ctor::Num(7));
+    let eight = vertex(3, Ctor::Num(8));
+    let nine = vertex(5, Ctor::Num(9));
+    Ok([
+        edit(EditKind::Delete, 12, plus, Position::Right, nine)?,
+        insertion(13, plus, Position::Right, seven)?,
+        insertion(10, plus, Position::Left, seven)?,
+        insertion(12, plus, Position::Right, nine)?,
+        insertion(11, plus, Position::Left, eight)?,
+        insertion(2, Vertex::ROOT, Position::Main, plus)?,
+    ])
 }
 
 // A sum with two children on its left, one of which is on its right too, and a third child that was deleted.
 fn sum(alloc: Global) -> Result<GraphTable, Fail> {
-    let plus = vertex(1, Ctor::Plus);
-    let seven = vertex(9, Ctor::Num(7));
-    let nine = vertex(5, Ctor::Num(9));
-    let mut list = EditList::new(alloc);
-    list.extend_from_slice(&[
-        edit(EditKind::Delete, 12, plus, Position::Right, nine)?,
-        edit(EditKind::Insert, 13, plus, Position::Right, seven)?,
-        edit(EditKind::Insert, 10, plus, Position::Left, seven)?,
-        edit(EditKind::Insert, 12, plus, Position::Right, nine)?,
-        edit(
-            EditKind::Insert,
-            11,
-            plus,
-            Position::Left,
-            vertex(3, Ctor::Num(8)),
-        )?,
-        edit(EditKind::Insert, 2, Vertex::ROOT, Position::Main, plus)?,
-    ])?;
-    graph_of(alloc, list)
+    let edits = edits_of_sum()?;
+    let list = list_of(alloc, &edits)?;
+    graph_of(alloc, &list)
 }
 
 #[test]
@@ -89,19 +104,24 @@ fn live_edges_are_told_by_number(rt: HostRuntime) -> Result<(), Fail> {
     Ok(())
 }
 
-// The root with three children that share a name.
-fn namesakes(alloc: Global) -> Result<GraphTable, Fail> {
+// Appends the insertion of an edge from the root.
+fn push(list: &mut EditList, counter: u64, target: Vertex) -> Result<(), Fail> {
+    list.push(insertion(counter, Vertex::ROOT, Position::Main, target)?)?;
+    Ok(())
+}
+
+fn edits_of_namesakes(alloc: Global) -> Result<EditList, Fail> {
     let mut list = EditList::new(alloc);
     for (counter, ctor) in [(2, Ctor::Num(7)), (3, Ctor::Plus), (4, Ctor::Num(3))] {
-        list.push(edit(
-            EditKind::Insert,
-            counter,
-            Vertex::ROOT,
-            Position::Main,
-            vertex(1, ctor),
-        )?)?;
+        push(&mut list, counter, vertex(1, ctor))?;
     }
-    graph_of(alloc, list)
+    Ok(list)
+}
+
+// The root with three children that share a name.
+fn namesakes(alloc: Global) -> Result<GraphTable, Fail> {
+    let list = edits_of_namesakes(alloc)?;
+    graph_of(alloc, &list)
 }
 
 #[test]
@@ -134,22 +154,28 @@ fn children_are_in_edge_order(rt: HostRuntime) -> Result<(), Fail> {
     Ok(())
 }
 
-// A sum with four children on its left: a variable twice, another variable of the same name, and a function whose body is the sum.
-fn variables(alloc: Global) -> Result<GraphTable, Fail> {
+fn variable(text: &[u8]) -> Result<Vertex, IdentFault> {
+    Ok(vertex(9, Ctor::Var(read_ident(Version::Two, text)?)))
+}
+
+fn edits_of_variables(x: Vertex, y: Vertex) -> Result<[Edit; 6], EdgeFault> {
     let plus = vertex(1, Ctor::Plus);
     let lam = vertex(8, Ctor::Lam);
-    let x = vertex(9, Ctor::Var(read_ident(Version::Two, b"x")?));
-    let y = vertex(9, Ctor::Var(read_ident(Version::Two, b"y")?));
-    let mut list = EditList::new(alloc);
-    list.extend_from_slice(&[
-        edit(EditKind::Insert, 10, Vertex::ROOT, Position::Main, plus)?,
-        edit(EditKind::Insert, 11, plus, Position::Left, x)?,
-        edit(EditKind::Insert, 12, plus, Position::Left, y)?,
-        edit(EditKind::Insert, 13, plus, Position::Left, x)?,
-        edit(EditKind::Insert, 14, lam, Position::Body, plus)?,
-        edit(EditKind::Insert, 15, plus, Position::Left, lam)?,
-    ])?;
-    graph_of(alloc, list)
+    Ok([
+        insertion(10, Vertex::ROOT, Position::Main, plus)?,
+        insertion(11, plus, Position::Left, x)?,
+        insertion(12, plus, Position::Left, y)?,
+        insertion(13, plus, Position::Left, x)?,
+        insertion(14, lam, Position::Body, plus)?,
+        insertion(15, plus, Position::Left, lam)?,
+    ])
+}
+
+// A sum with four children on its left: a variable twice, another variable of the same name, and a function whose body is the sum.
+fn variables(alloc: Global) -> Result<GraphTable, Fail> {
+    let edits = edits_of_variables(variable(b"x")?, variable(b"y")?)?;
+    let list = list_of(alloc, &edits)?;
+    graph_of(alloc, &list)
 }
 
 #[test]
@@ -178,28 +204,31 @@ fn a_vertex_has_one_number_wherever_it_stands(rt: HostRuntime) -> Result<(), Fai
     Ok(())
 }
 
+// Four edges to vertices of one name. The last literal has the same lower half as the first.
+fn push_four(list: &mut EditList, edge: u64, target: u64) -> Result<(), Fail> {
+    for ctor in [
+        Ctor::Plus,
+        Ctor::Fst,
+        Ctor::Num(7),
+        Ctor::Num(0x1_0000_0007),
+    ] {
+        push(list, edge, vertex(target, ctor))?;
+    }
+    Ok(())
+}
+
+fn edits_of_following_names(alloc: Global) -> Result<EditList, Fail> {
+    let mut list = EditList::new(alloc);
+    for counter in 1..=40 {
+        push_four(&mut list, 100 + counter, counter)?;
+    }
+    Ok(list)
+}
+
 #[test]
 fn names_that_follow_each_other_have_numbers_of_their_own(rt: HostRuntime) -> Result<(), Fail> {
-    let mut list = EditList::new(rt.alloc());
-    for counter in 1..=40 {
-        // The last literal has the same lower half as the first.
-        for ctor in [
-            Ctor::Plus,
-            Ctor::Fst,
-            Ctor::Num(7),
-            Ctor::Num(0x1_0000_0007),
-        ] {
-            let target = vertex(counter, ctor);
-            list.push(edit(
-                EditKind::Insert,
-                100 + counter,
-                Vertex::ROOT,
-                Position::Main,
-                target,
-            )?)?;
-        }
-    }
-    let table = graph_of(rt.alloc(), list)?;
+    let list = edits_of_following_names(rt.alloc())?;
+    let table = graph_of(rt.alloc(), &list)?;
     assert!(rt; table.number_count() == 161);
     let root = 0;
     let mut out = Vec::new(rt.alloc());

@@ -14,7 +14,7 @@ use edit_table::EditTableBuilder;
 use graph_store::GraphStore;
 use graph_table::GraphTable;
 use grove_decompose::*;
-use grove_edits::{Edge, Edit, Vertex};
+use grove_edits::{Edge, Edit, SpelledEdit, Vertex};
 use grove_names::Name;
 use grove_sorts::{Ctor, Position};
 use grove_terms::{Tree, What};
@@ -104,6 +104,13 @@ fn first_tree<'g>(
     }
 }
 
+// Appends the insertion of an edge.
+fn push(edits: &mut EditTableBuilder, inserted: Edge) -> Result<(), Fail> {
+    let edit = Edit::insert(inserted)?;
+    edits.push(&SpelledEdit::of(&edit))?;
+    Ok(())
+}
+
 // A sum of two numbers that are one vertex, and a cycle of two vertices.
 fn sample(alloc: Global) -> Result<GraphTable, Fail> {
     let sum = vertex(1, Ctor::Plus);
@@ -117,7 +124,7 @@ fn sample(alloc: Global) -> Result<GraphTable, Fail> {
         edge(8, fst, Position::Operand, snd),
         edge(9, snd, Position::Operand, fst),
     ] {
-        edits.push(&Edit::insert(inserted)?)?;
+        push(&mut edits, inserted)?;
     }
     Ok(GraphTable::of(alloc, edits.into_table(alloc)?)?)
 }

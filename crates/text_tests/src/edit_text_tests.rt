@@ -1,5 +1,5 @@
 use edit_text::*;
-use grove_edits::EditList;
+use grove_edits::{Edit, EditList};
 use grove_sorts::Version;
 use std::test::Fail;
 
@@ -100,4 +100,63 @@ fn a_text_tells_its_version_in_its_first_line(rt: HostRuntime) -> Result<(), Fai
     write_version(Version::Two, &mut out)?;
     assert!(rt; out.as_slice() == b"grove 2\n".as_slice());
     Ok(())
+}
+
+// The edit that a line spells, made from its spelling.
+fn spelled_edit(version: Version, line: &[u8]) -> Result<Edit, LineFault> {
+    Ok(read_spelled_line(version, line)?.edit())
+}
+
+#[test]
+fn a_spelled_edit_is_the_one_that_is_read(rt: HostRuntime) {
+    for line in [
+        b"+1.2 0.0 root main 1.1 lam".as_slice(),
+        b"-1.2 0.0 root main 1.1 num:7".as_slice(),
+        b"+1.4 1.1 lam param 1.3 pvar:x".as_slice(),
+        b"-1.6 1.1 lam body 1.5 var:x_1".as_slice(),
+    ] {
+        let edit = read_line(Version::One, line);
+        assert!(rt; edit.is_ok());
+        assert!(rt; spelled_edit(Version::One, line) == edit);
+        assert!(rt; spelled_edit(Version::Two, line) == edit);
+    }
+}
+
+#[test]
+fn a_line_that_spells_no_edit_has_the_fault_that_is_read(rt: HostRuntime) {
+    for (version, line, want) in [
+        (
+            Version::Two,
+            b"+1.2 0.0 root main 1.1 word".as_slice(),
+            LineFault::Syntax,
+        ),
+        (
+            Version::One,
+            b"+1.2 0.0 root main 1.1 let".as_slice(),
+            LineFault::Syntax,
+        ),
+        (
+            Version::Two,
+            b"+0.2 0.0 root left 1.1 tnum".as_slice(),
+            LineFault::BadVertex,
+        ),
+        (
+            Version::Two,
+            b"+1.2 0.0 root left 1.1 tnum".as_slice(),
+            LineFault::NoPosition,
+        ),
+        (
+            Version::Two,
+            b"+1.4 1.1 num:7 left 1.3 num:8".as_slice(),
+            LineFault::NoPosition,
+        ),
+        (
+            Version::Two,
+            b"+1.2 0.0 root main 1.1 tnum".as_slice(),
+            LineFault::WrongSort,
+        ),
+    ] {
+        assert!(rt; read_spelled_line(version, line).err() == Some(want));
+        assert!(rt; read_line(version, line) == Err(want));
+    }
 }

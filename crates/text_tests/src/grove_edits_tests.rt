@@ -1,6 +1,6 @@
 use grove_edits::*;
 use grove_names::Name;
-use grove_sorts::{Ctor, Position};
+use grove_sorts::{Ctor, Position, Version, read_ident};
 use std::test::Fail;
 
 fn edge(counter: u64, position: Position, ctor: Ctor) -> Edge {
@@ -65,4 +65,53 @@ fn a_command_keeps_its_bytes(rt: HostRuntime) -> Result<(), Fail> {
         Command::Take { bytes, .. } => assert!(rt; bytes.as_slice() == [43, 49].as_slice()),
     }
     Ok(())
+}
+
+// Whether an edit of an edge to this constructor is itself again, once it is made from its spelling.
+fn is_spelled_whole(kind: EditKind, ctor: Ctor) -> Result<bool, EdgeFault> {
+    let edit = Edit::new(kind, edge(2, Position::Main, ctor))?;
+    Ok(SpelledEdit::of(&edit).edit() == edit)
+}
+
+#[test]
+fn an_edit_is_made_again_from_its_spelling(rt: HostRuntime) -> Result<(), Fail> {
+    let ident = read_ident(
+        Version::Two,
+        b"a2345678901234567890123456789_32_2345678901234567890123456789_64",
+    )
+    .ok()
+    .ok_or("an identifier")?;
+    for ctor in [Ctor::Num(7), Ctor::Lam, Ctor::Var(ident)] {
+        assert!(rt; is_spelled_whole(EditKind::Insert, ctor) == Ok(true));
+        assert!(rt; is_spelled_whole(EditKind::Delete, ctor) == Ok(true));
+    }
+    Ok(())
+}
+
+// An edge as a text spells it.
+fn spelled_edge(edge: &Edge) -> SpelledEdge<'_> {
+    SpelledEdge {
+        name: edge.name,
+        source: SpelledVertex::of(&edge.source),
+        position: edge.position,
+        target: SpelledVertex::of(&edge.target),
+    }
+}
+
+// The edit of an edge, made from its spelling, or the first fault.
+fn insertion_as_spelled(edge: &Edge) -> Result<Edit, EdgeFault> {
+    Ok(SpelledEdit::new(EditKind::Insert, spelled_edge(edge))?.edit())
+}
+
+#[test]
+fn the_first_fault_of_a_spelled_edge_is_told(rt: HostRuntime) {
+    for edge in [
+        edge(2, Position::Main, Ctor::Num(7)),
+        edge(0, Position::Left, Ctor::TNum),
+        edge(2, Position::Left, Ctor::TNum),
+        edge(2, Position::Main, Ctor::TNum),
+        edge(2, Position::Main, Ctor::Root),
+    ] {
+        assert!(rt; insertion_as_spelled(&edge) == Edit::insert(edge));
+    }
 }

@@ -198,3 +198,46 @@ fn constructors_are_ordered_by_number_and_then_payload(rt: HostRuntime) {
     assert!(rt; Ctor::Num(9) < Ctor::Num(10));
     assert!(rt; Position::Annot < Position::Body);
 }
+
+// The constructor that a text spells, made from its spelling.
+fn spelled_ctor(version: Version, text: &[u8]) -> Option<Ctor> {
+    Some(read_spelled(version, text)?.ctor())
+}
+
+fn spelled_sort(text: &[u8]) -> Option<Sort> {
+    Some(read_spelled(Version::Two, text)?.sort())
+}
+
+fn sort_as_read(text: &[u8]) -> Option<Sort> {
+    Some(sort_of(&read_ctor(Version::Two, text)?))
+}
+
+#[test]
+fn a_spelled_constructor_is_the_one_that_is_read(rt: HostRuntime) {
+    for (text, sort) in [
+        (b"root".as_slice(), Sort::Top),
+        (b"lam".as_slice(), Sort::Exp),
+        (b"tprod".as_slice(), Sort::Typ),
+        (b"num:7".as_slice(), Sort::Exp),
+        (b"var:x".as_slice(), Sort::Exp),
+        (b"pvar:x".as_slice(), Sort::Pat),
+    ] {
+        assert!(rt; spelled_ctor(Version::Two, text) == read_ctor(Version::Two, text));
+        assert!(rt; spelled_sort(text) == Some(sort));
+        assert!(rt; sort_as_read(text) == Some(sort));
+    }
+    assert!(rt; spelled_ctor(Version::Two, b"num:7") == Some(Ctor::Num(7)));
+}
+
+#[test]
+fn version_one_spells_neither_let_nor_long_identifiers(rt: HostRuntime) {
+    for text in [
+        b"let".as_slice(),
+        b"var:a2345678901234567890123456789_323".as_slice(),
+        b"pvar:a2345678901234567890123456789_323".as_slice(),
+    ] {
+        assert!(rt; read_spelled(Version::One, text).is_none());
+        assert!(rt; read_spelled(Version::Two, text).is_some());
+        assert!(rt; spelled_ctor(Version::Two, text) == read_ctor(Version::Two, text));
+    }
+}
