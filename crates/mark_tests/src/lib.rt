@@ -18,6 +18,8 @@ mod mark_step_tests;
 #[cfg(test)]
 mod mark_store_tests;
 #[cfg(test)]
+mod marking_tables;
+#[cfg(test)]
 mod plain_typing_tests;
 #[cfg(test)]
 mod type_core_tests;
