@@ -2,6 +2,7 @@ ghost use Rattle.std.specs.Prelude.{◌≡◌, IfOk};
 ghost use Rattle.type_core.specs.TypeTable.{IsTypeOf};
 ghost use Rattle.mark_step.specs.Node.{IsDemandOf};
 
+use crate::marking_tables::Tables;
 use ctx_table::CtxTable;
 use grove_sorts::{Ctor, Ident, Version, WIDEST, read_ident};
 use mark_step::{Binder, Demand, Mark, Mode, NodeView, Settled, child_demand, settle};
@@ -9,39 +10,63 @@ use std::alloc::Global;
 use std::test::Fail;
 use type_core::{TypeId, TypeTable};
 
-#[test]
-fn an_argument_is_analysed_against_the_domain(rt: HostRuntime) -> Result<(), Fail> {
-    let mut types = TypeTable::new(rt.alloc())?;
-    let mut ctxs = CtxTable::new(rt.alloc())?;
-    let numbers = types.arrow(types.num(), types.num())?;
-    let function = types.arrow(numbers, types.unknown())?;
+// What an application of this function shows, and what is demanded of its argument.
+fn application(
+    alloc: Global,
+    tables: &mut Tables,
+    numbers: TypeId,
+    function: TypeId,
+) -> Result<(Settled, Demand), Fail>
+    requires numbers { IsTypeOf tables.old.types numbers }
+    requires function { IsTypeOf tables.old.types function }
+{
     let node = NodeView {
         ctor: &Ctor::Ap,
-        ctx: ctxs.empty(),
+        ctx: tables.ctxs.empty(),
         mode: Mode::Syn,
         binder: Binder {
             name: None,
-            typ: types.unknown(),
+            typ: tables.types.unknown(),
         },
         second: Binder {
             name: None,
-            typ: types.unknown(),
+            typ: tables.types.unknown(),
         },
         done: [Some(function), Some(numbers), None, None, None],
     };
-    let given = settle(rt.alloc(), &mut types, &ctxs, &node)?;
+    let given = settle(alloc, &mut tables.types, &tables.ctxs, &node)?;
+    let argument = child_demand(alloc, &mut tables.types, &mut tables.ctxs, &node, 1)?;
+    Ok((given, argument))
+}
+
+// What is seen of the application of a function on functions of numbers, and the type of those.
+fn application_to_a_function(
+    alloc: Global,
+    tables: &mut Tables,
+) -> Result<(Settled, Demand, TypeId), Fail> {
+    let num = tables.types.num();
+    let numbers = tables.types.arrow(num, num)?;
+    let unknown = tables.types.unknown();
+    let function = tables.types.arrow(numbers, unknown)?;
+    let (given, argument) = application(alloc, tables, numbers, function)?;
+    Ok((given, argument, numbers))
+}
+
+#[test]
+fn an_argument_is_analysed_against_the_domain(rt: HostRuntime) -> Result<(), Fail> {
+    let mut tables = Tables::new(rt.alloc())?;
+    let (given, argument, numbers) = application_to_a_function(rt.alloc(), &mut tables)?;
     assert!(rt;
         given
             == Settled {
-                typ: types.unknown(),
+                typ: tables.types.unknown(),
                 mark: Mark::None
             }
     );
-    let argument = child_demand(rt.alloc(), &mut types, &mut ctxs, &node, 1)?;
     assert!(rt;
         argument
             == Demand {
-                ctx: ctxs.empty(),
+                ctx: tables.ctxs.empty(),
                 mode: Mode::Ana(numbers)
             }
     );
@@ -78,22 +103,33 @@ fn function_of_truth_values<'t>(
     Ok((given, body))
 }
 
-#[test]
-fn a_function_ascribes_another_type(rt: HostRuntime) -> Result<(), Fail> {
-    let mut types = TypeTable::new(rt.alloc())?;
-    let mut ctxs = CtxTable::new(rt.alloc())?;
-    let num = types.num();
-    let numbers = types.arrow(num, num)?;
-    let x = read_ident(Version::Two, b"x")?;
+// What such a function shows where functions of numbers are wanted, whose type comes next, what is wanted of its body, and the type that
+// the name has there.
+fn against_numbers(
+    alloc: Global,
+    tables: &mut Tables,
+    x: &Ident,
+) -> Result<(Settled, TypeId, Mode, Option<TypeId>), Fail> {
+    let num = tables.types.num();
+    let numbers = tables.types.arrow(num, num)?;
     let function = Ctor::Lam;
     let (given, body) = function_of_truth_values(
-        rt.alloc(),
-        &mut types,
-        &mut ctxs,
+        alloc,
+        &mut tables.types,
+        &mut tables.ctxs,
         &function,
-        &x,
+        x,
         numbers,
     )?;
+    let bound = tables.ctxs.look_up(body.ctx, x);
+    Ok((given, numbers, body.mode, bound))
+}
+
+#[test]
+fn a_function_ascribes_another_type(rt: HostRuntime) -> Result<(), Fail> {
+    let x = read_ident(Version::Two, b"x")?;
+    let mut tables = Tables::new(rt.alloc())?;
+    let (given, numbers, mode, bound) = against_numbers(rt.alloc(), &mut tables, &x)?;
     assert!(rt;
         given
             == Settled {
@@ -101,128 +137,152 @@ fn a_function_ascribes_another_type(rt: HostRuntime) -> Result<(), Fail> {
                 mark: Mark::Ascription
             }
     );
-    assert!(rt; body.mode == Mode::Ana(types.num()));
-    assert!(rt; ctxs.look_up(body.ctx, &x) == Some(types.boolean()));
+    assert!(rt; mode == Mode::Ana(tables.types.num()));
+    assert!(rt; bound == Some(tables.types.boolean()));
     Ok(())
+}
+
+// What a variable with the type of truth values shows where a number is wanted.
+fn variable(alloc: Global, tables: &mut Tables, x: Ident) -> Result<Settled, Fail> {
+    let empty = tables.ctxs.empty();
+    let boolean = tables.types.boolean();
+    let node = NodeView {
+        ctor: &Ctor::Var(x),
+        ctx: tables.ctxs.extend(empty, x, boolean)?,
+        mode: Mode::Ana(tables.types.num()),
+        binder: Binder {
+            name: None,
+            typ: tables.types.unknown(),
+        },
+        second: Binder {
+            name: None,
+            typ: tables.types.unknown(),
+        },
+        done: [None; WIDEST],
+    };
+    Ok(settle(alloc, &mut tables.types, &tables.ctxs, &node)?)
 }
 
 #[test]
 fn a_variable_has_another_type(rt: HostRuntime) -> Result<(), Fail> {
-    let mut types = TypeTable::new(rt.alloc())?;
-    let mut ctxs = CtxTable::new(rt.alloc())?;
     let x = read_ident(Version::Two, b"x")?;
-    let node = NodeView {
-        ctor: &Ctor::Var(x),
-        ctx: ctxs.extend(ctxs.empty(), x, types.boolean())?,
-        mode: Mode::Ana(types.num()),
-        binder: Binder {
-            name: None,
-            typ: types.unknown(),
-        },
-        second: Binder {
-            name: None,
-            typ: types.unknown(),
-        },
-        done: [None; WIDEST],
-    };
-    let given = settle(rt.alloc(), &mut types, &ctxs, &node)?;
+    let mut tables = Tables::new(rt.alloc())?;
+    let given = variable(rt.alloc(), &mut tables, x)?;
     assert!(rt;
         given
             == Settled {
-                typ: types.boolean(),
+                typ: tables.types.boolean(),
                 mark: Mark::Inconsistent
             }
     );
     Ok(())
 }
 
-#[test]
-fn branches_differ(rt: HostRuntime) -> Result<(), Fail> {
-    let mut types = TypeTable::new(rt.alloc())?;
-    let ctxs = CtxTable::new(rt.alloc())?;
+// What a conditional whose branches differ shows.
+fn conditional(alloc: Global, tables: &mut Tables) -> Result<Settled, Fail> {
     let node = NodeView {
         ctor: &Ctor::Choose,
-        ctx: ctxs.empty(),
+        ctx: tables.ctxs.empty(),
         mode: Mode::Syn,
         binder: Binder {
             name: None,
-            typ: types.unknown(),
+            typ: tables.types.unknown(),
         },
         second: Binder {
             name: None,
-            typ: types.unknown(),
+            typ: tables.types.unknown(),
         },
         done: [
-            Some(types.boolean()),
-            Some(types.num()),
-            Some(types.boolean()),
+            Some(tables.types.boolean()),
+            Some(tables.types.num()),
+            Some(tables.types.boolean()),
             None,
             None,
         ],
     };
-    let given = settle(rt.alloc(), &mut types, &ctxs, &node)?;
+    Ok(settle(alloc, &mut tables.types, &tables.ctxs, &node)?)
+}
+
+#[test]
+fn branches_differ(rt: HostRuntime) -> Result<(), Fail> {
+    let mut tables = Tables::new(rt.alloc())?;
+    let given = conditional(rt.alloc(), &mut tables)?;
     assert!(rt;
         given
             == Settled {
-                typ: types.unknown(),
+                typ: tables.types.unknown(),
                 mark: Mark::Branches
             }
     );
     Ok(())
 }
 
-#[test]
-fn analysed_branches_are_analysed(rt: HostRuntime) -> Result<(), Fail> {
-    let mut types = TypeTable::new(rt.alloc())?;
-    let mut ctxs = CtxTable::new(rt.alloc())?;
+// What is demanded of the second branch of a conditional where a number is wanted.
+fn second_branch(alloc: Global, tables: &mut Tables) -> Result<Demand, Fail> {
     let node = NodeView {
         ctor: &Ctor::Choose,
-        ctx: ctxs.empty(),
-        mode: Mode::Ana(types.num()),
+        ctx: tables.ctxs.empty(),
+        mode: Mode::Ana(tables.types.num()),
         binder: Binder {
             name: None,
-            typ: types.unknown(),
+            typ: tables.types.unknown(),
         },
         second: Binder {
             name: None,
-            typ: types.unknown(),
-        },
-        done: [Some(types.boolean()), Some(types.num()), None, None, None],
-    };
-    let branch = child_demand(rt.alloc(), &mut types, &mut ctxs, &node, 2)?;
-    assert!(rt; branch.mode == Mode::Ana(types.num()));
-    Ok(())
-}
-
-#[test]
-fn an_analysed_conditional_has_the_type_that_is_wanted(rt: HostRuntime) -> Result<(), Fail> {
-    let mut types = TypeTable::new(rt.alloc())?;
-    let ctxs = CtxTable::new(rt.alloc())?;
-    let node = NodeView {
-        ctor: &Ctor::Choose,
-        ctx: ctxs.empty(),
-        mode: Mode::Ana(types.num()),
-        binder: Binder {
-            name: None,
-            typ: types.unknown(),
-        },
-        second: Binder {
-            name: None,
-            typ: types.unknown(),
+            typ: tables.types.unknown(),
         },
         done: [
-            Some(types.boolean()),
-            Some(types.num()),
-            Some(types.boolean()),
+            Some(tables.types.boolean()),
+            Some(tables.types.num()),
+            None,
             None,
             None,
         ],
     };
-    let given = settle(rt.alloc(), &mut types, &ctxs, &node)?;
+    Ok(child_demand(alloc, &mut tables.types, &mut tables.ctxs, &node, 2)?)
+}
+
+#[test]
+fn analysed_branches_are_analysed(rt: HostRuntime) -> Result<(), Fail> {
+    let mut tables = Tables::new(rt.alloc())?;
+    let branch = second_branch(rt.alloc(), &mut tables)?;
+    assert!(rt; branch.mode == Mode::Ana(tables.types.num()));
+    Ok(())
+}
+
+// What a conditional whose branches differ shows where a number is wanted.
+fn analysed_conditional(alloc: Global, tables: &mut Tables) -> Result<Settled, Fail> {
+    let node = NodeView {
+        ctor: &Ctor::Choose,
+        ctx: tables.ctxs.empty(),
+        mode: Mode::Ana(tables.types.num()),
+        binder: Binder {
+            name: None,
+            typ: tables.types.unknown(),
+        },
+        second: Binder {
+            name: None,
+            typ: tables.types.unknown(),
+        },
+        done: [
+            Some(tables.types.boolean()),
+            Some(tables.types.num()),
+            Some(tables.types.boolean()),
+            None,
+            None,
+        ],
+    };
+    Ok(settle(alloc, &mut tables.types, &tables.ctxs, &node)?)
+}
+
+#[test]
+fn an_analysed_conditional_has_the_type_that_is_wanted(rt: HostRuntime) -> Result<(), Fail> {
+    let mut tables = Tables::new(rt.alloc())?;
+    let given = analysed_conditional(rt.alloc(), &mut tables)?;
     assert!(rt;
         given
             == Settled {
-                typ: types.num(),
+                typ: tables.types.num(),
                 mark: Mark::None
             }
     );
@@ -263,43 +323,58 @@ fn right_body<'t>(
     Ok(child_demand(alloc, types, ctxs, &node, 4)?)
 }
 
+// What is wanted of that body, and the types that the right name and the left one have there.
+fn bound_by_a_case(
+    alloc: Global,
+    tables: &mut Tables,
+    x: &Ident,
+    y: &Ident,
+) -> Result<(Mode, Option<TypeId>, Option<TypeId>), Fail> {
+    let case = Ctor::Case;
+    let body = right_body(alloc, &mut tables.types, &mut tables.ctxs, &case, x, y)?;
+    let right = tables.ctxs.look_up(body.ctx, y);
+    Ok((body.mode, right, tables.ctxs.look_up(body.ctx, x)))
+}
+
 #[test]
 fn the_right_body_of_a_case_has_the_right_part(rt: HostRuntime) -> Result<(), Fail> {
-    let mut types = TypeTable::new(rt.alloc())?;
-    let mut ctxs = CtxTable::new(rt.alloc())?;
     let x = read_ident(Version::Two, b"x")?;
     let y = read_ident(Version::Two, b"y")?;
-    let case = Ctor::Case;
-    let body = right_body(rt.alloc(), &mut types, &mut ctxs, &case, &x, &y)?;
-    assert!(rt; body.mode == Mode::Syn);
-    assert!(rt; ctxs.look_up(body.ctx, &y) == Some(types.boolean()));
-    assert!(rt; ctxs.look_up(body.ctx, &x) == None);
+    let mut tables = Tables::new(rt.alloc())?;
+    let (mode, right, left) = bound_by_a_case(rt.alloc(), &mut tables, &x, &y)?;
+    assert!(rt; mode == Mode::Syn);
+    assert!(rt; right == Some(tables.types.boolean()));
+    assert!(rt; left == None);
     Ok(())
+}
+
+// What an injection shows where a number is wanted.
+fn injection(alloc: Global, tables: &mut Tables) -> Result<Settled, Fail> {
+    let node = NodeView {
+        ctor: &Ctor::Inl,
+        ctx: tables.ctxs.empty(),
+        mode: Mode::Ana(tables.types.num()),
+        binder: Binder {
+            name: None,
+            typ: tables.types.unknown(),
+        },
+        second: Binder {
+            name: None,
+            typ: tables.types.unknown(),
+        },
+        done: [Some(tables.types.unknown()), None, None, None, None],
+    };
+    Ok(settle(alloc, &mut tables.types, &tables.ctxs, &node)?)
 }
 
 #[test]
 fn an_injection_stands_against_a_number(rt: HostRuntime) -> Result<(), Fail> {
-    let mut types = TypeTable::new(rt.alloc())?;
-    let ctxs = CtxTable::new(rt.alloc())?;
-    let node = NodeView {
-        ctor: &Ctor::Inl,
-        ctx: ctxs.empty(),
-        mode: Mode::Ana(types.num()),
-        binder: Binder {
-            name: None,
-            typ: types.unknown(),
-        },
-        second: Binder {
-            name: None,
-            typ: types.unknown(),
-        },
-        done: [Some(types.unknown()), None, None, None, None],
-    };
-    let given = settle(rt.alloc(), &mut types, &ctxs, &node)?;
+    let mut tables = Tables::new(rt.alloc())?;
+    let given = injection(rt.alloc(), &mut tables)?;
     assert!(rt;
         given
             == Settled {
-                typ: types.num(),
+                typ: tables.types.num(),
                 mark: Mark::InjAgainst
             }
     );
