@@ -80,7 +80,7 @@ fn erased<'n, 't, R: Abort>(
 fn check_erased<R: Abort>(rt: &R, grove: &Grove, node: &LentNode) {
     assert!(rt; grove.none.len() == 1);
     assert!(rt; grove.none.get(0).and_then(|tree| tree.get(0)) == Some(node.node()));
-    assert!(rt; grove.multi.len() + grove.cycle.len() == 0);
+    assert!(rt; grove.multi.len().checked_add(grove.cycle.len()) == Some(0));
 }
 
 #[test]
@@ -119,7 +119,7 @@ fn check_marked<R: Abort>(
     };
     check_number(rt, &number, vertex, num);
     assert!(rt; marked.none.len() == 1);
-    assert!(rt; marked.multi.len() + marked.cycle.len() == 0);
+    assert!(rt; marked.multi.len().checked_add(marked.cycle.len()) == Some(0));
     Ok(())
 }
 
