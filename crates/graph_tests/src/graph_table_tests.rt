@@ -79,7 +79,6 @@ fn sum(alloc: Global) -> Result<GraphTable, Fail> {
 fn vertices_have_numbers_and_an_order(rt: HostRuntime) -> Result<(), Fail> {
     let table = sum(rt.alloc())?;
     assert!(rt; table.number_count() == 5);
-    assert!(rt; table.number_count() == 5);
     let numbers = table.sort_numbers(rt.alloc(), &[4, 3, 2, 1, 0])?;
     assert!(rt; numbers.as_slice() == [0, 1, 3, 4, 2].as_slice());
     assert!(rt; table.vertex(0).lent().vertex() == Vertex::ROOT);

@@ -6,7 +6,7 @@ ghost use Rattle.grove_edits.specs.Edge.{edge_fault, edge_from, EdgeInRange, IsW
 ghost use Rattle.grove_edits.specs.Vertex.{is_vertex, VertexInRange};
 ghost use Rattle.grove_edits.specs.SpelledEdge.{spelled_edge, spelled_vertex};
 
-use crate::edge::EdgeFault;
+use crate::edge::{Edge, EdgeFault};
 use crate::edit::{Edit, EditKind};
 use crate::vertex::Vertex;
 use grove_names::Name;
@@ -51,6 +51,21 @@ pub struct SpelledEdge<'t> {
     pub target: SpelledVertex<'t>,
 }
 
+impl<'t> SpelledEdge<'t> {
+    /// An edge, its identifiers lent from where they stand.
+    #[inline(always)]
+    pub fn of(edge: &'t Edge) -> SpelledEdge<'t>
+        ensures { spelled_edge result ≡ edge.now }
+    {
+        SpelledEdge {
+            name: edge.name,
+            source: SpelledVertex::of(&edge.source),
+            position: edge.position,
+            target: SpelledVertex::of(&edge.target),
+        }
+    }
+}
+
 #[inline(always)]
 fn is_well_formed(vertex: &SpelledVertex) -> bool
     ensures well_formed { result ≡ is_vertex (spelled_vertex vertex.now) }
@@ -78,9 +93,9 @@ fn branch_of(ctor: SpelledCtor) -> Option<Branch>
     }
 }
 
-// The branch that the source of a well-formed edge is, or the first fault that applies.
+/// The branch that the source of a well-formed edge is, or the first fault that applies, in the order of `EdgeFault`.
 #[inline(always)]
-fn check_spelled(edge: &SpelledEdge) -> Result<Branch, EdgeFault>
+pub(crate) fn check_spelled(edge: &SpelledEdge) -> Result<Branch, EdgeFault>
     ensures well_formed { IfOk result (λ branch. edge_fault (spelled_edge edge.now) ≡ None) }
     ensures branch { IfOk result (λ branch. branch_ctor branch ≡ (spelled_edge edge.now).source.ctor) }
     ensures first_fault { IfErr result (λ fault. edge_fault (spelled_edge edge.now) ≡ Some fault) }
@@ -106,7 +121,7 @@ fn check_spelled(edge: &SpelledEdge) -> Result<Branch, EdgeFault>
     }
 }
 
-/// An edit as a text spells it: the insertion or the deletion of a well-formed edge, half as wide as an `Edit`.
+/// An edit as a text spells it: the insertion or the deletion of a well-formed edge, two thirds as wide as an `Edit`.
 #[derive(Clone, Copy, Debug)]
 pub struct SpelledEdit<'t> {
     name: Name,

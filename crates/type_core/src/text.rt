@@ -1,7 +1,8 @@
-ghost use Rattle.std.specs.Prelude.{◌≡◌, ◌<◌, ◌++◌, ◌∷◌, [], IfOk, OnOk, OnErr};
+ghost use Rattle.std.specs.Prelude.{◌≡◌, ◌++◌, [], IfOk, OnOk, OnErr};
+ghost use Rattle.type_core.specs.Typ as typ;
 ghost use Rattle.type_core.specs.Typ.{type_text};
 ghost use Rattle.type_core.specs.TypeTable.{IsTypeOf, type_at};
-ghost use Rattle.type_core.specs.Pieces.{IsPieceOf, FormOf, Writes, Lengthens};
+ghost use Rattle.type_core.specs.Pieces.{IsPieceOf, piece_text, piece_cost, type_cost, FormOf, Writes, Lengthens};
 
 use crate::former::Former;
 use crate::no_memory::NoMemory;
@@ -12,13 +13,12 @@ use crate::type_id::TypeId;
 // A piece of a type's text that is still to be written.
 #[derive(Clone, Copy)]
 enum Piece {
-    // A type down to so many levels.
-    Whole(TypeId, u32),
-    Sign(Former),
+    // The sign, the second part down to so many levels and the closing bracket.
+    Second(Former, TypeId, u32),
     Close,
 }
 
-// How a piece is written.
+// How a type is written.
 #[derive(Clone, Copy)]
 enum Form {
     Fixed(&'static [u8]),
@@ -34,7 +34,7 @@ impl TypeTable {
         ensures written { OnOk result (out.new.items ≡ out.old.items ++ type_text levels (type_at self.now t)) }
         ensures unchanged { OnErr result (out.new.items ≡ out.old.items) }
     {
-        match self.form(Piece::Whole(t, levels)) {
+        match self.form(t, levels) {
             Form::Fixed(text) => Ok(out.extend_from_slice(text)?),
             Form::Parts(_, _, _, _) => self.write_parts(t, levels, out),
         }
@@ -61,11 +61,39 @@ impl TypeTable {
         ensures longer { Lengthens out.old.items out.new.items }
     {
         let mut rest = Vec::new(*out.allocator());
-        rest.push(Piece::Whole(t, levels))?;
+        self.append_first(t, levels, &mut rest, out)?;
         while let Some(piece) = rest.pop() {
             self.append_piece(piece, &mut rest, out)?;
         }
         Ok(())
+    }
+
+    // Appends the text of a type up to the end of the first part in it that has none. What is left stands at the end of `rest`, the next
+    // piece last.
+    fn append_first(
+        &self,
+        t: TypeId,
+        levels: u32,
+        rest: &mut Vec<Piece>,
+        out: &mut Vec<u8>,
+    ) -> Result<(), NoMemory>
+        requires { IsTypeOf self.now t }
+        ensures written { OnOk result (Writes self.now (type_text levels (type_at self.now t)) (type_cost (type_at self.now t)) rest.old.items out.old.items rest.new.items out.new.items) }
+        ensures longer { Lengthens out.old.items out.new.items }
+    {
+        let mut id = t;
+        let mut depth = levels;
+        loop {
+            match self.form(id, depth) {
+                Form::Fixed(text) => return Ok(out.extend_from_slice(text)?),
+                Form::Parts(former, first, second, below) => {
+                    out.push(b'(')?;
+                    rest.push(Piece::Second(former, second, below))?;
+                    id = first;
+                    depth = below;
+                }
+            }
+        }
     }
 
     // Appends what a piece begins with. What is left of it stands at the end of `rest`, the next piece last.
@@ -76,57 +104,48 @@ impl TypeTable {
         out: &mut Vec<u8>,
     ) -> Result<(), NoMemory>
         requires { IsPieceOf self.now piece }
-        ensures written { OnOk result (Writes self.now piece rest.old.items out.old.items rest.new.items out.new.items) }
+        ensures written { OnOk result (Writes self.now (piece_text self.now piece) (piece_cost self.now piece) rest.old.items out.old.items rest.new.items out.new.items) }
         ensures longer { Lengthens out.old.items out.new.items }
     {
-        match self.form(piece) {
-            Form::Fixed(text) => out.extend_from_slice(text)?,
-            Form::Parts(former, first, second, levels) => {
-                out.push(b'(')?;
-                push_parts(rest, former, first, second, levels)?;
+        match piece {
+            Piece::Close => out.push(b')')?,
+            Piece::Second(former, second, levels) => {
+                append_sign(former, out)?;
+                rest.push(Piece::Close)?;
+                self.append_first(second, levels, rest, out)?;
             }
         }
         Ok(())
     }
 
-    fn form(&self, piece: Piece) -> Form
-        requires { IsPieceOf self.now piece }
-        ensures { FormOf self.now piece result }
+    fn form(&self, id: TypeId, levels: u32) -> Form
+        requires { IsTypeOf self.now id }
+        ensures { FormOf self.now id levels result }
     {
-        match piece {
-            Piece::Sign(Former::Arrow) => Form::Fixed(b"->"),
-            Piece::Sign(Former::Product) => Form::Fixed(b"*"),
-            Piece::Sign(Former::Sum) => Form::Fixed(b"+"),
-            Piece::Close => Form::Fixed(b")"),
-            Piece::Whole(id, levels) => match self.node(id) {
-                Node::Unknown => Form::Fixed(b"?"),
-                Node::Num => Form::Fixed(b"num"),
-                Node::Boolean => Form::Fixed(b"bool"),
-                Node::Pair(former, first, second) => {
-                    if levels == 0 {
-                        Form::Fixed(b"..")
-                    } else {
-                        Form::Parts(former, first, second, levels - 1)
-                    }
+        match self.node(id) {
+            Node::Unknown => Form::Fixed(b"?"),
+            Node::Num => Form::Fixed(b"num"),
+            Node::Boolean => Form::Fixed(b"bool"),
+            Node::Pair(former, first, second) => {
+                if levels == 0 {
+                    Form::Fixed(b"..")
+                } else {
+                    Form::Parts(former, first, second, levels - 1)
                 }
-            },
+            }
         }
     }
 }
 
-// Puts what follows the opening bracket of a type at the end, the next piece last.
-fn push_parts(
-    rest: &mut Vec<Piece>,
-    former: Former,
-    first: TypeId,
-    second: TypeId,
-    levels: u32,
-) -> Result<(), NoMemory>
-    ensures { OnOk result (rest.new.items ≡ rest.old.items ++ Piece.Close ∷ Piece.Whole second levels ∷ Piece.Sign former ∷ Piece.Whole first levels ∷ []) }
+// Appends the sign between the parts.
+fn append_sign(former: Former, out: &mut Vec<u8>) -> Result<(), NoMemory>
+    ensures written { OnOk result (out.new.items ≡ out.old.items ++ typ.sign former) }
+    ensures unchanged { OnErr result (out.new.items ≡ out.old.items) }
 {
-    rest.push(Piece::Close)?;
-    rest.push(Piece::Whole(second, levels))?;
-    rest.push(Piece::Sign(former))?;
-    rest.push(Piece::Whole(first, levels))?;
+    match former {
+        Former::Arrow => out.extend_from_slice(b"->")?,
+        Former::Product => out.push(b'*')?,
+        Former::Sum => out.push(b'+')?,
+    }
     Ok(())
 }
