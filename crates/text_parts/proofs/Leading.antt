@@ -5,12 +5,13 @@ use Rattle.std.specs.Char.{digit_value}
 use Rattle.std.specs.Str.Parse.{AllDigits, digits_value, digits_value_after}
 use Rattle.std.proofs.lemmas.Bool.{false≢true}
 use Rattle.std.proofs.lemmas.Bool.Decides.{nat_tests}
+use Rattle.std.proofs.lemmas.Int.Digits.{digits_value_more}
 use Rattle.std.proofs.lemmas.List.{take-append-drop, take_rest, get_or-take}
 use Rattle.std.proofs.lemmas.Str.{digit_value_digit}
-use Rattle.std.proofs.lemmas.Str.Parse.{digit_from_value}
+use Rattle.std.proofs.lemmas.Str.Parse.{digit_from_value, digits_value_short}
 use Rattle.std.proofs.lemmas.Fmt.{decimal_is_IsNumeral, decimal_nonempty}
 use Rattle.text_parts.specs.Number.{begins_with_digit}
-use Rattle.text_parts.proofs.Numbers.{digits_value_after-ge, decimal-zero_first, decimal_from_digits}
+use Rattle.text_parts.proofs.Numbers.{numerals, length-decimal, digits_value_after-ge, decimal-zero_first, decimal_from_digits}
 
 -- a digit begins a text with a digit
 begins_if_digit : (d : ℕ) (ds : List ℕ) → digit_value d < 10 → begins_with_digit (d ∷ ds) ≡ true
@@ -29,6 +30,13 @@ pub AllDigits-more : (bytes : List ℕ) (i : ℕ) → i < length bytes → AllDi
 AllDigits-more bytes i within digits digit =
     let next : suc i ≡ i + 1 = omega arith in
     subst (λ k. AllDigits 10 (take k bytes)) next (AllDigits-next bytes i within digits digit)
+
+length-front : (bytes : List ℕ) (i : ℕ) → i ≤ length bytes → length (take i bytes) ≡ i
+length-front bytes i within = omega (arith, length-take i bytes)
+
+-- few digits write a number below a power of ten
+pub digits_value-below : (bytes : List ℕ) (i k : ℕ) → i ≤ k → AllDigits 10 (take i bytes) → digits_value 10 (take i bytes) < 10 ^ k
+digits_value-below bytes i k few digits = digits_value_short numerals (take i bytes) k digits (omega (arith, length-take i bytes))
 
 -- where no digit follows them, the digits that two parts of one text begin with are the same
 pub same_digits : (a b x y : List ℕ) → AllDigits 10 a → AllDigits 10 b → begins_with_digit x ≡ false → begins_with_digit y ≡ false → a ++ x ≡ b ++ y → (a ≡ b) × (x ≡ y)
@@ -50,12 +58,40 @@ digits_value_after-front n (c ∷ a) (d ∷ ds) x rest digits also ended same =
     subst (λ e. digits_value_after 10 (n * 10 + digit_value c) a ≤ digits_value_after 10 (n * 10 + digit_value e) ds) first
     (digits_value_after-front (n * 10 + digit_value c) a ds x rest digits.1 also.1 ended cc)
 
+-- nor more digits
+length-digits : (a ds x rest : List ℕ) → AllDigits 10 a → begins_with_digit rest ≡ false → a ++ x ≡ ds ++ rest → length a ≤ length ds
+length-digits [] ds x rest digits ended same = omega arith
+length-digits (c ∷ a) [] x rest digits ended same = absurd (not_both c (a ++ x) rest digits.0 ended (sym same))
+length-digits (c ∷ a) (d ∷ ds) x rest digits ended same = omega (arith, length-digits a ds x rest digits.1 ended cc)
+
+pub no_number_so_long : (bytes : List ℕ) (i n : ℕ) (rest : List ℕ) → i ≤ length bytes → 20 < i → AllDigits 10 (take i bytes) → n < 2 ^ 64 → begins_with_digit rest ≡ false → bytes ≡ decimal n ++ rest → ⊥
+no_number_so_long bytes i n rest within long digits small ended same =
+    omega (
+      arith,
+      length-front bytes i within,
+      length-decimal n small,
+      length-digits (take i bytes) (decimal n) (drop i bytes) rest digits ended (take-append-drop i bytes ∙ same),
+    )
+
 -- so the value of the digits so far is not above the number that they begin
 pub leading_digits-le : (bytes : List ℕ) (i n : ℕ) (rest : List ℕ) → AllDigits 10 (take i bytes) → n < 2 ^ 64 → begins_with_digit rest ≡ false → bytes ≡ decimal n ++ rest → digits_value 10 (take i bytes) ≤ n
 leading_digits-le bytes i n rest digits small ended same =
     let numeral = decimal_is_IsNumeral n small in
     let below = digits_value_after-front 0 (take i bytes) (decimal n) (drop i bytes) rest digits numeral.0.1 ended (take-append-drop i bytes ∙ same) in
     omega (arith, below, numeral.1)
+
+-- one digit more gives the next value
+pub digits_value-next : (bytes : List ℕ) (i : ℕ) → i < length bytes → IsInRange 48 57 (get_or bytes i 0) → digits_value 10 (take (i + 1) bytes) ≡ digits_value 10 (take i bytes) * 10 + (get_or bytes i 0 - 48)
+digits_value-next bytes i within digit = omega (arith, digits_value_more 10 bytes i within, digit_value_digit (get_or bytes i 0) digit)
+
+-- where the next value is too great, no number stands in front
+pub no_number_so_great : (bytes : List ℕ) (i n : ℕ) (rest : List ℕ) → i < length bytes → AllDigits 10 (take i bytes) → IsInRange 48 57 (get_or bytes i 0) → 2 ^ 64 ≤ digits_value 10 (take i bytes) * 10 + (get_or bytes i 0 - 48) → n < 2 ^ 64 → begins_with_digit rest ≡ false → bytes ≡ decimal n ++ rest → ⊥
+no_number_so_great bytes i n rest within digits digit great small ended same =
+    omega (
+      arith,
+      digits_value-next bytes i within digit,
+      leading_digits-le bytes (i + 1) n rest (AllDigits-more bytes i within digits digit) small ended same,
+    )
 
 -- all of the digits that a text begins with are those of the number
 pub leading_digits : (bytes : List ℕ) (i n : ℕ) (rest : List ℕ) → AllDigits 10 (take i bytes) → begins_with_digit (drop i bytes) ≡ false → n < 2 ^ 64 → begins_with_digit rest ≡ false → bytes ≡ decimal n ++ rest → (take i bytes ≡ decimal n) × (drop i bytes ≡ rest)
@@ -72,13 +108,11 @@ no_digit_at (b ∷ bytes) zero other = by_test (begins_with_digit (b ∷ bytes))
   by_test false is = is
 no_digit_at (b ∷ bytes) (suc i) other = no_digit_at bytes i other
 
-length-front : (bytes : List ℕ) (i : ℕ) → i ≤ length bytes → length (take i bytes) ≡ i
-length-front bytes i within = omega (arith, length-take i bytes)
-
--- where no digits stand in front, no number does
-pub no_number_in_front : (bytes : List ℕ) (i n : ℕ) → i ≤ length bytes → i ≡ 0 → take i bytes ≡ decimal n → n < 2 ^ 64 → ⊥
-no_number_in_front bytes i n within none same small =
-    omega (arith, length-front bytes i within, ap length same, decimal_nonempty n small)
+-- where no digit stands in front, no number does
+pub no_number_in_front : (bytes : List ℕ) (n : ℕ) (rest : List ℕ) → (IsInRange 48 57 (get_or bytes 0 0) → ⊥) → n < 2 ^ 64 → begins_with_digit rest ≡ false → bytes ≡ decimal n ++ rest → ⊥
+no_number_in_front bytes n rest other small ended same =
+    let parts = leading_digits bytes 0 n rest tt (no_digit_at bytes 0 other) small ended same in
+    omega (arith, ap length parts.0, decimal_nonempty n small)
 
 -- nor does one behind a spare zero
 pub no_number_behind_zero : (bytes : List ℕ) (i n : ℕ) → i ≤ length bytes → 1 < i → get_or bytes 0 0 ≡ 48 → take i bytes ≡ decimal n → n < 2 ^ 64 → ⊥

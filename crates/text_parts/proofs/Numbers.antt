@@ -12,7 +12,7 @@ use Rattle.text_parts.specs.Number.{IsNumberText}
 use Rattle.text_parts.specs.Separated.{Lacks}
 
 -- std's words for digits and their value
-numerals : IsNumeralModel (AllDigits 10) (digits_value 10)
+pub numerals : IsNumeralModel (AllDigits 10) (digits_value 10)
 numerals = numerals_by_value (AllDigits 10) tells_digits
 
 -- digits lack what is no digit

@@ -1,9 +1,13 @@
-ghost use Rattle.std.specs.Prelude.{◌≡◌, ◌≢◌, ℕ, ◌<◌, ◌≤◌, ◌^◌, ◌++◌, List, false, length, take, drop, decimal, IfSome, OnSome, IfNone, IsSomeAnd, OnOk, OnErr};
+ghost use Rattle.std.specs.Prelude.{◌≡◌, ◌≢◌, ℕ, ◌<◌, ◌≤◌, ◌^◌, ◌-◌, ◌++◌, List, false, length, take, drop, decimal, IfSome, OnSome, IfNone, IsSomeAnd, OnOk, OnErr};
+ghost use Rattle.std.specs.Int.{IsInRange};
 ghost use Rattle.std.specs.Str.Parse.{AllDigits, digits_value};
 ghost use Rattle.text_parts.specs.Number.{IsNumberText, begins_with_digit};
 
 use crate::no_memory::NoMemory;
 use itoa::Buffer;
+
+// A number of so many digits is below 2^64, whatever they are.
+const FITTING_DIGITS: usize = 19;
 
 /// Reads a number: `0`, or a digit from 1 to 9 followed by digits, below 2^64 and with nothing around it.
 pub fn read_number(bytes: &[u8]) -> Option<u64>
@@ -27,9 +31,6 @@ pub fn take_number(bytes: &[u8]) -> Option<(u64, &[u8])>
         → IsSomeAnd result (λ read. (read.0 ≡ number) × (read.1.now ≡ rest)) }
 {
     let (number, len) = leading_number(bytes)?;
-    if len == 0 {
-        return None;
-    }
     if bytes[0] == b'0' && len > 1 {
         return None;
     }
@@ -75,23 +76,63 @@ fn value_of(bytes: &[u8]) -> Option<u64>
     Some(value)
 }
 
-// The value of the digits that the bytes begin with, and how many they are.
+// The value of the digits that the bytes begin with, and how many they are: at least one.
 #[inline(always)]
 fn leading_number(bytes: &[u8]) -> Option<(u64, usize)>
+    ensures some { IfSome result (λ read. 0 < read.1) }
     ensures within { IfSome result (λ read. read.1 ≤ length bytes.now) }
     ensures digits { IfSome result (λ read. AllDigits 10 (take read.1 bytes.now)) }
     ensures all { IfSome result (λ read. begins_with_digit (drop read.1 bytes.now) ≡ false) }
     ensures value { IfSome result (λ read. read.0 ≡ digits_value 10 (take read.1 bytes.now)) }
     ensures none { IfNone result ((number : ℕ) (rest : List ℕ) → number < 2 ^ 64 → begins_with_digit rest ≡ false → bytes.now ≢ decimal number ++ rest) }
 {
-    let mut value: u64 = 0;
-    for i in 0..bytes.len() {
-        if !bytes[i].is_ascii_digit() {
-            return Some((value, i));
-        }
-        value = value
-            .checked_mul(10)?
-            .checked_add(u64::from(bytes[i] - b'0'))?;
+    if bytes.is_empty() {
+        return None;
     }
-    Some((value, bytes.len()))
+    let mut value = digit_of(bytes[0])?;
+    let short = bytes.len().min(FITTING_DIGITS);
+    for i in 1..short {
+        let Some(digit) = digit_of(bytes[i]) else {
+            return Some((value, i));
+        };
+        value = value * 10 + digit;
+    }
+    if short == bytes.len() {
+        return Some((value, short));
+    }
+    with_last_digit(bytes, value)
+}
+
+// Reads on where more bytes follow as many digits as always fit. One digit more may fit, and no number below 2^64 has two more.
+#[inline(always)]
+fn with_last_digit(bytes: &[u8], value: u64) -> Option<(u64, usize)>
+    requires more { FITTING_DIGITS < length bytes.now }
+    requires read_digits { AllDigits 10 (take FITTING_DIGITS bytes.now) }
+    requires read_value { value ≡ digits_value 10 (take FITTING_DIGITS bytes.now) }
+    ensures some { IfSome result (λ read. 0 < read.1) }
+    ensures within { IfSome result (λ read. read.1 ≤ length bytes.now) }
+    ensures digits { IfSome result (λ read. AllDigits 10 (take read.1 bytes.now)) }
+    ensures all { IfSome result (λ read. begins_with_digit (drop read.1 bytes.now) ≡ false) }
+    ensures value { IfSome result (λ read. read.0 ≡ digits_value 10 (take read.1 bytes.now)) }
+    ensures none { IfNone result ((number : ℕ) (rest : List ℕ) → number < 2 ^ 64 → begins_with_digit rest ≡ false → bytes.now ≢ decimal number ++ rest) }
+{
+    let Some(digit) = digit_of(bytes[FITTING_DIGITS]) else {
+        return Some((value, FITTING_DIGITS));
+    };
+    let number = value.checked_mul(10)?.checked_add(digit)?;
+    let len = FITTING_DIGITS + 1;
+    if len < bytes.len() && bytes[len].is_ascii_digit() {
+        return None;
+    }
+    Some((number, len))
+}
+
+// The value of a digit. It is wide from the start, so that adding it needs no further step.
+#[inline(always)]
+fn digit_of(byte: u8) -> Option<u64>
+    ensures digit { IfSome result (λ digit. IsInRange 48 57 byte × (digit ≡ byte - 48)) }
+    ensures none { IfNone result (IsInRange 48 57 byte → ⊥) }
+{
+    let digit = u64::from(byte).wrapping_sub(u64::from(b'0'));
+    if digit < 10 { Some(digit) } else { None }
 }
