@@ -1,5 +1,5 @@
 -- Sorted lines, taken by groups that share a name: the canonical lists of the groups, one after the other, are that of all.
-use Rattle.std.proofs.Common.{◌≡◌, ℕ, zero, suc, ◌+◌, ◌<◌, ◌≤◌, Bool, true, false, cond, List, [], ◌∷◌, ◌++◌, length, drop, take, get_or, append_assoc, append-nil, refl, sym, ap, subst, ◌∙◌, arith}
+use Rattle.std.proofs.Common.{◌≡◌, ℕ, zero, suc, ◌+◌, ◌≤◌, Bool, true, false, cond, List, [], ◌∷◌, ◌++◌, length, drop, take, get_or, append_assoc, append-nil, refl, sym, ap, subst, ◌∙◌, arith}
 use Rattle.std.specs.List.{AllByRecursion}
 use Rattle.std.specs.List.Sorted.{IsSorted}
 use Rattle.std.specs.declared.cmp.Ordering.{Ordering}
@@ -20,8 +20,8 @@ use Rattle.grove_edits.specs.Edit.{edit_edge}
 use Rattle.edit_text.specs.Text.{line_of, text_of}
 use Rattle.edit_merge.specs.declared.named_line.NamedLine.{NamedLine}
 use Rattle.edit_merge.specs.contracts.named_line.NamedLineOrd.TheImpl as line_impl
-use Rattle.edit_merge.specs.Named.{Stands, StandAll, DoStand, IsWritten, has_name, group_length}
-use Rattle.edit_merge.proofs.Canonical.{All-append, All-weaker, ComesBefore, all_of_canonical, IsCanonical-append, one_is_canonical}
+use Rattle.edit_merge.specs.Named.{Stands, StandAll, DoStand, StandsForAll, IsWritten, has_name, group_length}
+use Rattle.edit_merge.proofs.Canonical.{All-append, All-weaker, ComesBefore, all_of_canonical, IsCanonical-append}
 use Rattle.edit_merge.proofs.Standing.{StandAll-append, DoStand-drop}
 
 -- ---- sorted lines
@@ -162,19 +162,15 @@ module _ (version : Version) (text : List ℕ) where
   stand_named name (line ∷ lines) [] stand named = absurd stand
   stand_named name (line ∷ lines) (edit ∷ edits) stand named = (sym stand.0.named ∙ named.0, stand_named name lines edits stand.1 named.1)
 
-  -- a group of one line is written by it
-  pub one_written : (group : List NamedLine) (default : NamedLine) (old new : List ℕ) → 1 ≤ length group → length group < 2 → DoStand version text group
-      → ((edit : Edit) → Stands version text (get_or group 0 default) edit → new ≡ old ++ line_of edit) → IsWritten version text group old new
-  one_written [] default old new some few stand appended = absurd (omega arith)
-  one_written (line ∷ next ∷ lines) default old new some few stand appended = absurd (omega arith)
-  one_written (line ∷ []) default old new some few ([], stand) appended = absurd stand
-  one_written (line ∷ []) default old new some few (edit ∷ other ∷ edits, stand) appended = absurd stand.1
-  one_written (line ∷ []) default old new some few (edit ∷ [], stand) appended = record {
-    edits = edit ∷ [];
-    stand = stand;
-    canonical = edit ∷ [];
-    is_canonical = one_is_canonical edit;
-    appended = appended edit stand.0 ∙ ap (λ (t : List ℕ). old ++ t) (sym (append-nil (line_of edit)));
+  -- a group is written by the line that stands for all its edits
+  pub written_by_one : (group : List NamedLine) (line : NamedLine) (old new : List ℕ) → StandsForAll version text group line
+      → ((edit : Edit) → Stands version text line edit → new ≡ old ++ line_of edit) → IsWritten version text group old new
+  written_by_one group line old new all appended = record {
+    edits = all.edits;
+    stand = all.stand;
+    canonical = all.edit ∷ [];
+    is_canonical = all.is_canonical;
+    appended = appended all.edit all.stands ∙ ap (λ (t : List ℕ). old ++ t) (sym (append-nil (line_of all.edit)));
   }
 
   -- ---- the loop

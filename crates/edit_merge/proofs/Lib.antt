@@ -2,4 +2,5 @@ pub mod Canonical
 pub mod Groups
 pub mod Moved
 pub mod NamedLines
+pub mod OneEdge
 pub mod Standing

@@ -50,6 +50,14 @@ abbrev pub group_length : Name → List NamedLine → ℕ
 group_length name [] = 0
 group_length name (line ∷ lines) = if has_name name line then suc (group_length name lines) else 0
 
+-- the line stands for an edit that alone is the canonical list of those for which the lines stand
+pub record StandsForAll (version : Version) (text : List ℕ) (lines : List NamedLine) (line : NamedLine) : Type 0 where
+  pub edits : List Edit
+  pub stand : StandAll version text lines edits
+  pub edit : Edit
+  pub stands : Stands version text line edit
+  pub is_canonical : IsCanonical (graph edits) (edit ∷ [])
+
 -- the canonical text of the edits for which the lines stand was appended
 pub record IsWritten (version : Version) (text : List ℕ) (lines : List NamedLine) (before after : List ℕ) : Type 0 where
   pub edits : List Edit

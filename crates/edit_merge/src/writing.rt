@@ -1,11 +1,12 @@
-ghost use Rattle.std.specs.Prelude.{◌≡◌, ◌∷◌, [], ◌++◌, length, OnOk, IfOk};
+ghost use Rattle.std.specs.Prelude.{◌≡◌, ◌↔◌, ◌∷◌, [], ◌++◌, length, OnOk, IfOk, IfSome, IsTrue};
 ghost use Rattle.std.specs.List.Sorted.{IsSorted};
 ghost use Rattle.grove_sorts.specs.declared.version.Version.{Version};
 ghost use Rattle.grove_edits.specs.declared.edit.Edit.{Edit};
 ghost use Rattle.grove_edits.specs.Edit.{edit_edge, edit_kind};
-ghost use Rattle.edit_text.specs.Line.{form};
+ghost use Rattle.grove_edits.specs.declared.edit.EditKind.TheVariants.{Delete};
+ghost use Rattle.edit_text.specs.Line.{form, spaced, edge_parts};
 ghost use Rattle.edit_text.specs.Text.{line_of};
-ghost use Rattle.edit_merge.specs.Named.{Stands, StandAll, DoesStand, DoStand, IsWritten, group_length};
+ghost use Rattle.edit_merge.specs.Named.{Stands, StandAll, DoesStand, DoStand, StandsForAll, IsWritten, group_length};
 
 use crate::named_line::NamedLine;
 use crate::no_memory::NoMemory;
@@ -59,13 +60,57 @@ fn write_group(
     requires { DoStand version text.now group.now }
     ensures { OnOk result (IsWritten version text.now group.now out.old.items out.new.items) }
 {
-    match group {
-        [line] => copy_line(text, *line, out),
-        _ => {
+    match line_to_copy(text, group) {
+        Some(line) => copy_line(text, line, out),
+        None => {
             let edits = read_group(alloc, version, text, group)?.into_canonical();
             Ok(write_edits(edits.as_slice(), out)?)
         }
     }
+}
+
+// The line of the edit that is left of a group whose lines are all of one edge: a deletion's if there is one. No edit is read.
+fn line_to_copy(text: &[u8], group: &[NamedLine]) -> Option<NamedLine>
+    requires { (version : Version) × DoStand version text.now group.now }
+    ensures { IfSome result (λ line. (version : Version) → DoStand version text.now group.now → StandsForAll version text.now group.now line) }
+{
+    let [first, others @ ..] = group else {
+        return None;
+    };
+    let mut chosen = *first;
+    for line in others {
+        if !are_of_one_edge(text, *first, *line) {
+            return None;
+        }
+        if deletes(text, *line) {
+            chosen = *line;
+        }
+    }
+    Some(chosen)
+}
+
+// An edge has one spelling, so the bytes tell.
+fn are_of_one_edge(text: &[u8], line: NamedLine, other: NamedLine) -> bool
+    requires line { (version : Version) × DoesStand version text.now line }
+    requires other { (version : Version) × DoesStand version text.now other }
+    ensures { (version : Version) (a b : Edit) → Stands version text.now line a → Stands version text.now other b → IsTrue result ↔ (edit_edge a ≡ edit_edge b) }
+{
+    edge_at(text, line) == edge_at(text, other)
+}
+
+// The bytes of a line's edge, which stand behind its sign.
+fn edge_at(text: &[u8], line: NamedLine) -> &[u8]
+    requires { (version : Version) × DoesStand version text.now line }
+    ensures { (version : Version) (edit : Edit) → Stands version text.now line edit → result.now ≡ spaced (edge_parts (edit_edge edit)) }
+{
+    &line_at(text, line)[1..]
+}
+
+fn deletes(text: &[u8], line: NamedLine) -> bool
+    requires { (version : Version) × DoesStand version text.now line }
+    ensures { (version : Version) (edit : Edit) → Stands version text.now line edit → IsTrue result ↔ (edit_kind edit ≡ Delete) }
+{
+    line_at(text, line)[0] == b'-'
 }
 
 // Appends a line with its LF.
