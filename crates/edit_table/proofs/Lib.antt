@@ -10,3 +10,4 @@ pub mod Reading
 pub mod KeptRecords
 pub mod Canonical
 pub mod Renumbered
+pub mod Ranks

@@ -6,6 +6,7 @@ ghost use Rattle.grove_edits.specs.Vertex.{root};
 use crate::edit_table::EditTable;
 use crate::no_memory::NoMemory;
 use crate::numbering::{branch_ctors, push_record};
+use crate::ranking::rank_ctors;
 use crate::record::Record;
 use crate::renumbering::renumber;
 use crate::sorting::make_canonical;
@@ -113,7 +114,8 @@ impl EditTableBuilder {
             keys,
             mut records,
         } = self;
-        make_canonical(ctors.as_slice(), keys.as_slice(), &mut records);
+        let ranks = rank_ctors(alloc, ctors.as_slice())?;
+        make_canonical(ctors.as_slice(), &ranks, keys.as_slice(), &mut records);
         let keys = renumber(alloc, keys.as_slice(), &mut records)?;
         Ok(EditTable {
             ctors,

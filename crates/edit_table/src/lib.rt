@@ -12,6 +12,8 @@ mod lent_ctor;
 mod lent_vertex;
 mod no_memory;
 mod numbering;
+mod ranked_ctors;
+mod ranking;
 mod record;
 mod renumbering;
 mod sorting;

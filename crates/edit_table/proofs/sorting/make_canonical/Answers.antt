@@ -19,9 +19,9 @@ ascends c =
 pub returns-clause-records : goal.returns-clause-records
 returns-clause-records c =
     canonical_records c.args.ctors.now c.args.keys.now c.args.records.now.items c.sort_unstable_by.new.self.items c.keep_last_of_each_edge.new.records.items
-    c.requires c.sort_unstable_by.ensures.permutation (ascends c) c.keep_last_of_each_edge.ensures.canonical c.keep_last_of_each_edge.ensures.records c.keep_last_of_each_edge.ensures.fewer
+    c.requires.records c.sort_unstable_by.ensures.permutation (ascends c) c.keep_last_of_each_edge.ensures.canonical c.keep_last_of_each_edge.ensures.records c.keep_last_of_each_edge.ensures.fewer
 
 pub returns-clause-canonical : goal.returns-clause-canonical
 returns-clause-canonical c =
     is_canonical c.args.ctors.now c.args.keys.now c.args.records.now.items c.sort_unstable_by.new.self.items c.keep_last_of_each_edge.new.records.items
-    c.requires c.sort_unstable_by.ensures.permutation (ascends c) c.keep_last_of_each_edge.ensures.canonical c.keep_last_of_each_edge.ensures.records c.keep_last_of_each_edge.ensures.fewer
+    c.requires.records c.sort_unstable_by.ensures.permutation (ascends c) c.keep_last_of_each_edge.ensures.canonical c.keep_last_of_each_edge.ensures.records c.keep_last_of_each_edge.ensures.fewer
