@@ -2,7 +2,7 @@ ghost use Rattle.std.specs.Prelude.{◌≡◌};
 
 use crate::live_graph::LiveGraph;
 use crate::no_memory::NoMemory;
-use crate::seen::Seen;
+use crate::noted_numbers::NotedNumbers;
 use graph_table::{GraphTable, Parents};
 use grove_sorts::Position;
 use grove_terms::LentEdge;
@@ -25,7 +25,7 @@ impl<'g> LiveGraph<'g> for LiveTable<'g> {
 
     type Link = usize;
 
-    type Notes = Seen;
+    type Notes = NotedNumbers;
 
     type Counter = NoCounter;
 
@@ -39,7 +39,7 @@ impl<'g> LiveGraph<'g> for LiveTable<'g> {
 
     ghost IsLink = { λ it index. IsIndex it.table.now index };
 
-    ghost AreInner = { λ it seen. OnlyInner it.table.now seen };
+    ghost AreInner = { λ it noted. OnlyInner it.table.now noted };
 
     fn edge(&self, link: &usize) -> LentEdge<'g> {
         LentEdge::OfTable(self.table.edge(*link))
@@ -64,7 +64,7 @@ impl<'g> LiveGraph<'g> for LiveTable<'g> {
         Ok(())
     }
 
-    fn note(&self, spot: &usize, notes: &mut Seen) {
+    fn note(&self, spot: &usize, notes: &mut NotedNumbers) {
         notes.note(self.table, *spot)
     }
 }

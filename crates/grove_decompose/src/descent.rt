@@ -16,11 +16,12 @@ use crate::live_graph::LiveGraph;
 use crate::live_indexes::{LiveIndexes, NoNotes};
 use crate::no_memory::NoMemory;
 use crate::place::{list_place, push_lent_places};
+use crate::room::Room;
 use crate::task::Task;
 use child_index::ChildIndex;
 use edit_table::LentVertex;
 use graph_store::GraphStore;
-use grove_edits::Vertex;
+use grove_edits::{Edge, Vertex};
 use grove_terms::{LentNode, Tree, TreeList};
 use parent_index::ParentIndex;
 use std::alloc::Global;
@@ -72,6 +73,7 @@ pub(crate) fn tree_of<'g, G: LiveGraph<'g>>(
     head: LentNode<'g>,
     graph: &G,
     notes: &mut G::Notes,
+    room: &mut Room<G::Spot, G::Link>,
     counter: &mut G::Counter,
 ) -> Result<Tree<'g>, NoMemory>
     requires spot { G.IsSpot graph.now spot.now }
@@ -84,12 +86,18 @@ pub(crate) fn tree_of<'g, G: LiveGraph<'g>>(
 {
     let mut tree: Tree<'g> = Tree::new(alloc);
     tree.push(head)?;
-    let mut links = Vec::new(alloc);
-    let mut tasks = Vec::new(alloc);
-    push_lent_places(spot, root.ctor, 1, &mut tasks)?;
-    while let Some(task) = tasks.pop() {
+    // Where memory ran out in an earlier tree, some of its tasks are left.
+    room.tasks.clear();
+    push_lent_places(spot, root.ctor, 1, &mut room.tasks)?;
+    while let Some(task) = room.tasks.pop() {
         let met = take(
-            &task, &root, graph, &mut links, &mut tree, &mut tasks, counter,
+            &task,
+            &root,
+            graph,
+            &mut room.links,
+            &mut tree,
+            &mut room.tasks,
+            counter,
         )?;
         if let Some(inner) = met {
             graph.note(&inner, notes);
@@ -103,6 +111,7 @@ fn tree_at<'g, L: Ledger>(
     root: &'g Vertex,
     children: &'g ChildIndex,
     parents: &ParentIndex,
+    room: &mut Room<Vertex, &'g Edge>,
     steps: &mut Steps<L>,
 ) -> Result<Tree<'g>, NoMemory>
     requires same { live children.now ≡ live parents.now }
@@ -121,6 +130,7 @@ fn tree_at<'g, L: Ledger>(
         LentNode::head(root),
         &indexes,
         &mut NoNotes,
+        room,
         steps,
     )
 }
@@ -140,10 +150,11 @@ pub(crate) fn trees_of<'g, L: Ledger>(
     ensures trees { IfOk result (λ trees. AreTreesOf (live parents.now) roots.now trees) }
 {
     let mut trees = TreeList::new(alloc);
+    let mut room = Room::new(alloc);
     for root in roots {
         // Each of them is a vertex of the graph.
         if let Some(kept) = store.vertex(root) {
-            trees.push(tree_at(alloc, kept, children, parents, steps)?)?;
+            trees.push(tree_at(alloc, kept, children, parents, &mut room, steps)?)?;
         }
     }
     Ok(trees)

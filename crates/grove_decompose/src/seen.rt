@@ -1,18 +1,20 @@
 ghost use Rattle.std.specs.Prelude.{◌≡◌, Some, true, slice_get, IfOk};
-ghost use Rattle.walks.specs.declared.class.Class.TheVariants.{Inner};
-ghost use Rattle.walks.specs.Class.{class};
-ghost use Rattle.graph_table.specs.Table.{Table, live, vertex_at};
+ghost use Rattle.graph_table.specs.Table.{Table};
 ghost use Rattle.grove_decompose.specs.Trees.{OnlyInner};
 
 use crate::no_memory::NoMemory;
+use crate::noted_numbers::NotedNumbers;
+use crate::room::Room;
 use graph_table::GraphTable;
 use std::alloc::Global;
 use std::marker::Model;
 
-/// Which vertices of a graph were listed in the tree of another one, by their numbers.
+/// Which vertices of a graph were listed in the tree of another one, by their numbers. It also keeps the lists by which its trees are
+/// listed, from one tree to the next.
 #[derive(Drop)]
 pub struct Seen {
-    seen: Vec<bool>,
+    pub(crate) noted: NotedNumbers,
+    pub(crate) room: Room<usize, usize>,
 }
 
 impl Model for Seen {
@@ -20,7 +22,7 @@ impl Model for Seen {
 
     ghost Value = { List Bool };
 
-    ghost view = { λ seen. seen.seen.items };
+    ghost view = { λ seen. seen.noted };
 }
 
 impl Seen {
@@ -29,25 +31,15 @@ impl Seen {
         ensures { IfOk result (OnlyInner table.now) }
     {
         Ok(Seen {
-            seen: vec![in alloc; false; table.number_count()]?,
+            noted: NotedNumbers::none_of(alloc, table)?,
+            room: Room::new(alloc),
         })
-    }
-
-    /// Notes a vertex that stands in the tree of another one.
-    pub(crate) fn note(&mut self, table: &GraphTable, number: usize)
-        requires inner { class (live table.now) (vertex_at table.now number) ≡ Inner }
-        requires seen { OnlyInner table.now self.old }
-        ensures { OnlyInner table.now self.new }
-    {
-        if number < self.seen.len() {
-            self.seen[number] = true;
-        }
     }
 
     /// Whether a vertex was noted.
     pub(crate) fn is_noted(&self, number: usize) -> bool
         ensures { result ≡ true → slice_get self.now number ≡ Some true }
     {
-        self.seen.get(number).copied() == Some(true)
+        self.noted.is_noted(number)
     }
 }

@@ -88,7 +88,8 @@ pub fn tree_by_number<'g>(
         vertex.lent(),
         LentNode::head_at(vertex),
         &LiveTable { table },
-        seen,
+        &mut seen.noted,
+        &mut seen.room,
         &mut NoCounter,
     )
 }

@@ -13,18 +13,18 @@ loop-task-init g c = record {
 pub take-requires : goal.take-requires
 take-requires g c =
     let taken = last_taken (g.G.LiveGraph.vertex_at c.args.graph.now) (g.G.LiveGraph.edge_at c.args.graph.now) (g.G.LiveGraph.IsSpot c.args.graph.now) (g.G.LiveGraph.IsLink c.args.graph.now)
-    (g.G.LiveGraph.live c.args.graph.now) (lent_vertex c.args.root) c.loop-task.tree c.loop-task.tasks.items c.pop.new.self.items c.in-Some.task c.loop-task.invariant.listing c.in-Some.ensures.items in
+    (g.G.LiveGraph.live c.args.graph.now) (lent_vertex c.args.root) c.loop-task.tree c.loop-task.room.tasks.items c.pop.new.self.items c.in-Some.task c.loop-task.invariant.listing c.in-Some.ensures.items in
     λ k. ((refl, tt), (c.requires.outer, (taken.sound, (taken.found, taken.rest_found))))
 
 pub loop-task-smaller : goal.loop-task-smaller
 loop-task-smaller g c =
     less_to_list (g.G.LiveGraph.vertex_at c.args.graph.now) (g.G.LiveGraph.edge_at c.args.graph.now) (g.G.LiveGraph.IsSpot c.args.graph.now) (g.G.LiveGraph.IsLink c.args.graph.now)
-    (g.G.LiveGraph.live c.args.graph.now) (lent_vertex c.args.root) c.loop-task.tree c.loop-task.tasks.items c.pop.new.self.items c.take.new.tasks.items c.in-Some.task c.loop-task.invariant.listing c.in-Some.ensures.items c.in_ok-met.ensures.tasks
+    (g.G.LiveGraph.live c.args.graph.now) (lent_vertex c.args.root) c.loop-task.tree c.loop-task.room.tasks.items c.pop.new.self.items c.take.new.tasks.items c.in-Some.task c.loop-task.invariant.listing c.in-Some.ensures.items c.in_ok-met.ensures.tasks
 
 pub loop-task-preserved : goal.loop-task-preserved
 loop-task-preserved g c = record {
   listing = went_on (g.G.LiveGraph.vertex_at c.args.graph.now) (g.G.LiveGraph.edge_at c.args.graph.now) (g.G.LiveGraph.IsSpot c.args.graph.now) (g.G.LiveGraph.IsLink c.args.graph.now)
-      (g.G.LiveGraph.live c.args.graph.now) (lent_vertex c.args.root) c.loop-task.tree c.take.new.tree c.loop-task.tasks.items c.pop.new.self.items c.take.new.tasks.items c.in-Some.task c.loop-task.invariant.listing c.in-Some.ensures.items
+      (g.G.LiveGraph.live c.args.graph.now) (lent_vertex c.args.root) c.loop-task.tree c.take.new.tree c.loop-task.room.tasks.items c.pop.new.self.items c.take.new.tasks.items c.in-Some.task c.loop-task.invariant.listing c.in-Some.ensures.items
       c.in_ok-met.ensures.nodes c.in_ok-met.ensures.tasks c.in_ok-met.ensures.found;
   noted = c.loop-task.invariant.noted;
 }
@@ -32,12 +32,12 @@ loop-task-preserved g c = record {
 pub loop-task-smaller-in-Some-met : goal.loop-task-smaller-in-Some-met
 loop-task-smaller-in-Some-met g c =
     less_to_list (g.G.LiveGraph.vertex_at c.args.graph.now) (g.G.LiveGraph.edge_at c.args.graph.now) (g.G.LiveGraph.IsSpot c.args.graph.now) (g.G.LiveGraph.IsLink c.args.graph.now)
-    (g.G.LiveGraph.live c.args.graph.now) (lent_vertex c.args.root) c.loop-task.tree c.loop-task.tasks.items c.pop.new.self.items c.take.new.tasks.items c.in-Some.task c.loop-task.invariant.listing c.in-Some.ensures.items c.in_ok-met.ensures.tasks
+    (g.G.LiveGraph.live c.args.graph.now) (lent_vertex c.args.root) c.loop-task.tree c.loop-task.room.tasks.items c.pop.new.self.items c.take.new.tasks.items c.in-Some.task c.loop-task.invariant.listing c.in-Some.ensures.items c.in_ok-met.ensures.tasks
 
 pub loop-task-preserved-in-Some-met : goal.loop-task-preserved-in-Some-met
 loop-task-preserved-in-Some-met g c = record {
   listing = went_on (g.G.LiveGraph.vertex_at c.args.graph.now) (g.G.LiveGraph.edge_at c.args.graph.now) (g.G.LiveGraph.IsSpot c.args.graph.now) (g.G.LiveGraph.IsLink c.args.graph.now)
-      (g.G.LiveGraph.live c.args.graph.now) (lent_vertex c.args.root) c.loop-task.tree c.take.new.tree c.loop-task.tasks.items c.pop.new.self.items c.take.new.tasks.items c.in-Some.task c.loop-task.invariant.listing c.in-Some.ensures.items
+      (g.G.LiveGraph.live c.args.graph.now) (lent_vertex c.args.root) c.loop-task.tree c.take.new.tree c.loop-task.room.tasks.items c.pop.new.self.items c.take.new.tasks.items c.in-Some.task c.loop-task.invariant.listing c.in-Some.ensures.items
       c.in_ok-met.ensures.nodes c.in_ok-met.ensures.tasks c.in_ok-met.ensures.found;
   noted = c.note.ensures;
 }
@@ -45,6 +45,6 @@ loop-task-preserved-in-Some-met g c = record {
 pub returns : goal.returns
 returns g c = record {
   tree = none_left (g.G.LiveGraph.vertex_at c.args.graph.now) (g.G.LiveGraph.edge_at c.args.graph.now) (g.G.LiveGraph.IsSpot c.args.graph.now) (g.G.LiveGraph.IsLink c.args.graph.now)
-      (g.G.LiveGraph.live c.args.graph.now) (lent_vertex c.args.root) c.loop-task.tree c.loop-task.tasks.items c.requires.outer c.loop-task.invariant.listing (search rules);
+      (g.G.LiveGraph.live c.args.graph.now) (lent_vertex c.args.root) c.loop-task.tree c.loop-task.room.tasks.items c.requires.outer c.loop-task.invariant.listing (search rules);
   noted = c.loop-task.invariant.noted;
 }
