@@ -42,11 +42,7 @@ pub fn settle(
 
 /// The type and the mark of a literal, as `settle` has them. It has no children and binds nothing, so no node is asked for: only what is
 /// wanted of it matters.
-pub fn settle_literal(
-    alloc: Global,
-    types: &mut TypeTable,
-    mode: Mode,
-) -> Result<Settled, NoMemory>
+pub fn settle_literal(alloc: Global, types: &mut TypeTable, mode: Mode) -> Result<Settled, NoMemory>
     requires { IsModeOf types.old mode }
     ensures settled { (number : ℕ) (scope : Scope) (bound : Bound) → IfOk result (λ s. marked_at types.new s
         ≡ settled (record { ctor = Num number; scope = scope; wanted = wanted_at types.old mode; bound = bound }) []) }
