@@ -1,4 +1,4 @@
-ghost use Rattle.std.specs.Prelude.{◌≡◌, map, length, None, IfOk};
+ghost use Rattle.std.specs.Prelude.{◌≡◌, map, length, Some, None, IfOk};
 ghost use Rattle.std.specs.Option.{option_map};
 ghost use Rattle.grove_sorts.specs.declared.ctor.Ctor.TheVariants.{Num};
 ghost use Rattle.grove_sorts.specs.declared.sort.Sort.{Sort};
@@ -13,11 +13,11 @@ ghost use Rattle.judging.specs.Frames.{given_at, given_before, opened_at, added_
 
 use crate::frame::{Closed, Given, OpenVertex};
 use crate::no_memory::NoMemory;
-use crate::opening::{fresh, nothing};
+use crate::opening::nothing;
 use crate::view::view;
 use ctx_table::CtxTable;
 use grove_sorts::{Ctor, Ident, Sort, sort_of};
-use mark_step::{Demand, Mark, settle};
+use mark_step::{Demand, Mark, Mode, Settled, settle, settle_literal};
 use std::alloc::Global;
 use type_core::{TypeId, TypeTable};
 
@@ -68,6 +68,24 @@ fn untyped<'t>(given: Given<'t>) -> Closed<'t>
     }
 }
 
+// An expression of which this is wanted, with its type and its mark. It gives its type.
+fn expression<'t>(mode: Mode, settled: Settled) -> Closed<'t>
+    ensures mode { result.mode ≡ Some mode }
+    ensures typ { result.typ ≡ Some settled.typ }
+    ensures mark { result.mark ≡ settled.mark }
+    ensures given { result.given ≡ record { typ = settled.typ; name = None } }
+{
+    Closed {
+        mode: Some(mode),
+        typ: Some(settled.typ),
+        mark: settled.mark,
+        given: Given {
+            typ: settled.typ,
+            name: None,
+        },
+    }
+}
+
 fn close_expression<'t>(
     alloc: Global,
     types: &mut TypeTable,
@@ -84,15 +102,7 @@ fn close_expression<'t>(
 {
     let view = view(types, vertex);
     let settled = settle(alloc, types, ctxs, &view)?;
-    Ok(Closed {
-        mode: Some(vertex.demand.mode),
-        typ: Some(settled.typ),
-        mark: settled.mark,
-        given: Given {
-            typ: settled.typ,
-            name: None,
-        },
-    })
+    Ok(expression(vertex.demand.mode, settled))
 }
 
 fn close_type<'t>(types: &mut TypeTable, vertex: &OpenVertex<'t>) -> Result<Closed<'t>, NoMemory>
@@ -155,15 +165,6 @@ pub fn close_literal<'t>(
     ensures numbers { IfOk result (IsClosedOf types.new) }
     ensures kept { KeepsTypes types.old types.new }
 {
-    let literal = Ctor::Num(number);
-    let closed = close(alloc, types, ctxs, &fresh(types, &literal, demand))?;
-    Ok(Closed {
-        mode: closed.mode,
-        typ: closed.typ,
-        mark: closed.mark,
-        given: Given {
-            typ: closed.given.typ,
-            name: None,
-        },
-    })
+    let settled = settle_literal(alloc, types, demand.mode)?;
+    Ok(expression(demand.mode, settled))
 }

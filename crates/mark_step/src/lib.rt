@@ -16,4 +16,4 @@ pub use laws::{
 };
 pub use no_memory::NoMemory;
 pub use node::{Binder, Demand, Mark, Mode, NodeView, Settled};
-pub use settling::settle;
+pub use settling::{settle, settle_literal};

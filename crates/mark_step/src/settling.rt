@@ -1,13 +1,15 @@
-ghost use Rattle.std.specs.Prelude.{◌≡◌, IfOk, IfSome};
+ghost use Rattle.std.specs.Prelude.{◌≡◌, ℕ, [], IfOk, IfSome};
 ghost use Rattle.std.specs.Option.{option_map};
+ghost use Rattle.grove_sorts.specs.declared.ctor.Ctor.TheVariants.{Num};
 ghost use Rattle.grove_sorts.specs.declared.sort.Sort.TheVariants.{Exp};
 ghost use Rattle.grove_sorts.specs.Ctor.{sort_of_ctor};
 ghost use Rattle.type_core.specs.declared.former.Former.TheVariants.{Arrow, Product, Sum};
 ghost use Rattle.type_core.specs.Typ.{matched_parts, is_consistent, meet};
 ghost use Rattle.type_core.specs.TypeTable.{IsTypeOf, type_at, KeepsTypes};
-ghost use Rattle.mark_step.specs.Scope.{scope_at, type_of_name};
+ghost use Rattle.mark_step.specs.Scope.{Scope, scope_at, type_of_name};
+ghost use Rattle.mark_step.specs.Expression.{Bound};
 ghost use Rattle.mark_step.specs.Step.{settled, analysed, synthesised, or_mark, function_mark, unless_matched, case_result, mark_against};
-ghost use Rattle.mark_step.specs.Node.{bound_at, expression_at, marked_at, IsScopeOf, IsNodeOf, AreDone, types_done};
+ghost use Rattle.mark_step.specs.Node.{wanted_at, bound_at, expression_at, marked_at, IsModeOf, IsScopeOf, IsNodeOf, AreDone, types_done};
 
 use crate::no_memory::NoMemory;
 use crate::node::{Mark, Mode, NodeView, Settled};
@@ -35,6 +37,22 @@ pub fn settle(
     match node.mode {
         Mode::Syn => synthesise(alloc, types, ctxs, node),
         Mode::Ana(typ) => analyse(alloc, types, ctxs, node, typ),
+    }
+}
+
+/// The type and the mark of a literal, as `settle` has them. It has no children and binds nothing, so no node is asked for: only what is
+/// wanted of it matters.
+pub fn settle_literal(alloc: Global, types: &mut TypeTable, mode: Mode) -> Result<Settled, NoMemory>
+    requires { IsModeOf types.old mode }
+    ensures settled { (number : ℕ) (scope : Scope) (bound : Bound) → IfOk result (λ s. marked_at types.new s
+        ≡ settled (record { ctor = Num number; scope = scope; wanted = wanted_at types.old mode; bound = bound }) []) }
+    ensures number { IfOk result (λ s. IsTypeOf types.new s.typ) }
+    ensures unchanged { types.new ≡ types.old }
+{
+    let found = unmarked(types.num());
+    match mode {
+        Mode::Syn => Ok(found),
+        Mode::Ana(typ) => against(alloc, types, found, typ),
     }
 }
 

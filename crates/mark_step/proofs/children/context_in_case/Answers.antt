@@ -1,4 +1,4 @@
-use Rattle.std.proofs.Common.{◌≡◌, ap, ◌∙◌, arith}
+use Rattle.std.proofs.Common.{ap, ◌∙◌, arith}
 use Rattle.std.specs.Option.{option_map}
 use Rattle.mark_step.specs.Scope.{bind, scope_at}
 use Rattle.mark_step.proofs.Positions.{if_ok_then, left_scope, right_scope}
