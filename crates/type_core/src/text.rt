@@ -1,4 +1,4 @@
-ghost use Rattle.std.specs.Prelude.{◌≡◌, ◌++◌, [], IfOk, OnOk, OnErr};
+ghost use Rattle.std.specs.Prelude.{◌≡◌, ◌++◌, [], codes, IfOk, IfSome, OnOk, OnErr};
 ghost use Rattle.type_core.specs.Typ as typ;
 ghost use Rattle.type_core.specs.Typ.{type_text};
 ghost use Rattle.type_core.specs.TypeTable.{IsTypeOf, type_at};
@@ -85,8 +85,11 @@ impl TypeTable {
         let mut depth = levels;
         loop {
             match self.form(id, depth) {
-                Form::Fixed(text) => return Ok(out.extend_from_slice(text)?),
+                Form::Fixed(text) => return append_fixed(text, out),
                 Form::Parts(former, first, second, below) => {
+                    if let Some(texts) = self.fixed_parts(first, second, below) {
+                        return append_pair(former, texts.0, texts.1, out);
+                    }
                     out.push(b'(')?;
                     rest.push(Piece::Second(former, second, below))?;
                     id = first;
@@ -118,6 +121,27 @@ impl TypeTable {
         Ok(())
     }
 
+    // The texts of two parts, where both are fixed.
+    fn fixed_parts(
+        &self,
+        first: TypeId,
+        second: TypeId,
+        levels: u32,
+    ) -> Option<(&'static [u8], &'static [u8])>
+        requires first { IsTypeOf self.now first }
+        requires second { IsTypeOf self.now second }
+        ensures first { IfSome result (λ texts. type_text levels (type_at self.now first) ≡ texts.0.now) }
+        ensures second { IfSome result (λ texts. type_text levels (type_at self.now second) ≡ texts.1.now) }
+    {
+        let Form::Fixed(before) = self.form(first, levels) else {
+            return None;
+        };
+        let Form::Fixed(after) = self.form(second, levels) else {
+            return None;
+        };
+        Some((before, after))
+    }
+
     fn form(&self, id: TypeId, levels: u32) -> Form
         requires { IsTypeOf self.now id }
         ensures { FormOf self.now id levels result }
@@ -137,15 +161,44 @@ impl TypeTable {
     }
 }
 
+// Appends a pair of parts whose texts are fixed.
+fn append_pair(
+    former: Former,
+    first: &[u8],
+    second: &[u8],
+    out: &mut Vec<u8>,
+) -> Result<(), NoMemory>
+    ensures written { OnOk result (out.new.items ≡ out.old.items ++ (codes "(" ++ first.now ++ typ.sign former ++ second.now ++ codes ")")) }
+    ensures longer { Lengthens out.old.items out.new.items }
+{
+    out.push(b'(')?;
+    append_fixed(first, out)?;
+    append_sign(former, out)?;
+    append_fixed(second, out)?;
+    out.push(b')')?;
+    Ok(())
+}
+
 // Appends the sign between the parts.
 fn append_sign(former: Former, out: &mut Vec<u8>) -> Result<(), NoMemory>
     ensures written { OnOk result (out.new.items ≡ out.old.items ++ typ.sign former) }
-    ensures unchanged { OnErr result (out.new.items ≡ out.old.items) }
+    ensures longer { Lengthens out.old.items out.new.items }
 {
     match former {
-        Former::Arrow => out.extend_from_slice(b"->")?,
+        Former::Arrow => append_fixed(b"->", out)?,
         Former::Product => out.push(b'*')?,
         Former::Sum => out.push(b'+')?,
+    }
+    Ok(())
+}
+
+// Appends a short text byte by byte, which takes less than a copy of so few bytes.
+fn append_fixed(text: &[u8], out: &mut Vec<u8>) -> Result<(), NoMemory>
+    ensures written { OnOk result (out.new.items ≡ out.old.items ++ text.now) }
+    ensures longer { Lengthens out.old.items out.new.items }
+{
+    for byte in text {
+        out.push(*byte)?;
     }
     Ok(())
 }
