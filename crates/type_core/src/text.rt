@@ -185,20 +185,28 @@ fn append_sign(former: Former, out: &mut Vec<u8>) -> Result<(), NoMemory>
     ensures longer { Lengthens out.old.items out.new.items }
 {
     match former {
-        Former::Arrow => append_fixed(b"->", out)?,
+        Former::Arrow => {
+            out.push(b'-')?;
+            out.push(b'>')?;
+        }
         Former::Product => out.push(b'*')?,
         Former::Sum => out.push(b'+')?,
     }
     Ok(())
 }
 
-// Appends a short text byte by byte, which takes less than a copy of so few bytes.
+// Appends a fixed text. One byte or two are pushed, which takes less than a copy of them.
 fn append_fixed(text: &[u8], out: &mut Vec<u8>) -> Result<(), NoMemory>
     ensures written { OnOk result (out.new.items ≡ out.old.items ++ text.now) }
     ensures longer { Lengthens out.old.items out.new.items }
 {
-    for byte in text {
-        out.push(*byte)?;
+    match text {
+        [only] => out.push(*only)?,
+        [first, second] => {
+            out.push(*first)?;
+            out.push(*second)?;
+        }
+        _ => out.extend_from_slice(text)?,
     }
     Ok(())
 }
