@@ -1,5 +1,5 @@
 -- The text of a type, piece by piece.
-use Rattle.std.proofs.Common.{◌≡◌, ℕ, ◌+◌, ◌<◌, ◌≤◌, List, [], ◌∷◌, ◌++◌, All, Some, codes, sym, ap, subst, ◌∙◌, arith, append_assoc}
+use Rattle.std.proofs.Common.{◌≡◌, ℕ, ◌+◌, ◌<◌, ◌≤◌, List, [], ◌∷◌, ◌++◌, All, Some, Result, Ok, Err, OnOk, OnErr, codes, sym, ap, subst, ◌∙◌, arith, append_assoc}
 use Rattle.std.proofs.lemmas.List.{append-nil}
 use Rattle.std.proofs.lemmas.List.Elements.{All-nil, All-push, All-pop}
 use Rattle.std.proofs.lemmas.List.Sums.{sum_by-append}
@@ -31,6 +31,10 @@ Lengthens-trans xs ys zs a b = record {
   more = a.more ++ b.more;
   longer = b.longer ∙ ap (λ l. l ++ b.more) a.longer ∙ append_assoc xs a.more b.more;
 }
+
+pub Lengthens-appended : {T E : Type 0} (r : Result T E) (old new more : List ℕ) → OnOk r (new ≡ old ++ more) → OnErr r (new ≡ old) → Lengthens old new
+Lengthens-appended (Ok x) old new more wrote kept = record { more = more; longer = wrote }
+Lengthens-appended (Err e) old new more wrote kept = record { more = []; longer = kept ∙ sym (append-nil old) }
 
 -- the text of a type is written up to that of the part t
 pub record IsDescending (table : List Typ) (whole : List ℕ) (cost : ℕ) (rest : List Piece) (out : List ℕ) (t : TypeId) (levels : ℕ) (rest_new : List Piece) (out_new : List ℕ) : Type 0 where
