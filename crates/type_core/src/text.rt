@@ -68,8 +68,8 @@ impl TypeTable {
         Ok(())
     }
 
-    // Appends the text of a type up to the end of the first part in it that has none. What is left stands at the end of `rest`, the next
-    // piece last.
+    // Appends the text of a type up to the end of the first part in it that is written at once: one with a fixed text, or whose own
+    // parts both have one. What is left stands at the end of `rest`, the next piece last.
     fn append_first(
         &self,
         t: TypeId,
@@ -162,7 +162,7 @@ impl TypeTable {
     }
 }
 
-// Appends a pair of parts whose texts are fixed. Room for all of it is made first, so that no byte asks for its own.
+// Appends a pair of parts whose texts are fixed. Room for the longest, `(bool->bool)`, is made first, so that no byte asks for its own.
 fn append_pair(
     former: Former,
     first: &[u8],
@@ -183,16 +183,7 @@ fn append_pair(
     Ok(())
 }
 
-// Appends the sign between the parts.
-fn append_sign(former: Former, out: &mut Vec<u8>) -> Result<(), NoMemory>
-    ensures written { OnOk result (out.new.items ≡ out.old.items ++ typ.sign former) }
-    ensures unchanged { OnErr result (out.new.items ≡ out.old.items) }
-{
-    out.reserve(2)?;
-    put_sign(former, out);
-    Ok(())
-}
-
+// Appends a fixed text.
 fn append_fixed(text: &[u8], out: &mut Vec<u8>) -> Result<(), NoMemory>
     ensures written { OnOk result (out.new.items ≡ out.old.items ++ text.now) }
     ensures unchanged { OnErr result (out.new.items ≡ out.old.items) }
@@ -202,24 +193,7 @@ fn append_fixed(text: &[u8], out: &mut Vec<u8>) -> Result<(), NoMemory>
     Ok(())
 }
 
-// The same where there is room for it.
-fn put_sign(former: Former, out: &mut Vec<u8>)
-    requires room { vec_len out.old + 2 ≤ vec_capacity out.old }
-    ensures written { out.new.items ≡ out.old.items ++ typ.sign former }
-    ensures len { vec_len out.new ≤ vec_len out.old + 2 }
-    ensures capacity { vec_capacity out.new ≡ vec_capacity out.old }
-{
-    match former {
-        Former::Arrow => {
-            out.push_reserved(b'-');
-            out.push_reserved(b'>');
-        }
-        Former::Product => out.push_reserved(b'*'),
-        Former::Sum => out.push_reserved(b'+'),
-    }
-}
-
-// The same where there is room for it. Almost every fixed text has one byte or two, for which a copy takes more than they do.
+// The same where there is room for it. Almost every fixed text has one byte or two, which take less than a copy of them.
 fn put_fixed(text: &[u8], out: &mut Vec<u8>)
     requires room { vec_len out.old + length text.now ≤ vec_capacity out.old }
     ensures written { out.new.items ≡ out.old.items ++ text.now }
@@ -237,5 +211,32 @@ fn put_fixed(text: &[u8], out: &mut Vec<u8>)
                 out.push_reserved(*byte);
             }
         }
+    }
+}
+
+// Appends the sign between the parts.
+fn append_sign(former: Former, out: &mut Vec<u8>) -> Result<(), NoMemory>
+    ensures written { OnOk result (out.new.items ≡ out.old.items ++ typ.sign former) }
+    ensures unchanged { OnErr result (out.new.items ≡ out.old.items) }
+{
+    out.reserve(2)?;
+    put_sign(former, out);
+    Ok(())
+}
+
+// The same where there is room for it.
+fn put_sign(former: Former, out: &mut Vec<u8>)
+    requires room { vec_len out.old + 2 ≤ vec_capacity out.old }
+    ensures written { out.new.items ≡ out.old.items ++ typ.sign former }
+    ensures len { vec_len out.new ≤ vec_len out.old + 2 }
+    ensures capacity { vec_capacity out.new ≡ vec_capacity out.old }
+{
+    match former {
+        Former::Arrow => {
+            out.push_reserved(b'-');
+            out.push_reserved(b'>');
+        }
+        Former::Product => out.push_reserved(b'*'),
+        Former::Sum => out.push_reserved(b'+'),
     }
 }
