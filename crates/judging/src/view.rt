@@ -81,11 +81,20 @@ fn types_so_far(vertex: &OpenVertex) -> [Option<TypeId>; WIDEST]
     requires { vertex.now.next ≤ length (positions vertex.now.ctor.now) }
     ensures { (i : ℕ) → slice_index_or result i None ≡ option_map (λ g. g.typ) (slice_get (given_before vertex.now) i) }
 {
-    let mut types = [None; WIDEST];
-    for index in 0..vertex.next {
-        types[index] = Some(given_at_index(&vertex.given, index).typ);
-    }
-    types
+    let given = &vertex.given;
+    let next = vertex.next;
+    [
+        type_if(next > 0, given.first.typ),
+        type_if(next > 1, given.second.typ),
+        type_if(next > 2, given.third.typ),
+        type_if(next > 3, given.fourth.typ),
+        type_if(next > 4, given.fifth.typ),
+    ]
+}
+
+#[inline(always)]
+fn type_if(is_given: bool, typ: TypeId) -> Option<TypeId> {
+    if is_given { Some(typ) } else { None }
 }
 
 // The vertex as its rule sees it.

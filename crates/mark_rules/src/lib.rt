@@ -9,5 +9,5 @@ mod taking;
 
 pub use erasing::erase;
 pub use marking::{MarkedGrove, MarkedNode, MarkedTree, MarkedTreeList};
-pub use marking_trees::{mark_grove, mark_tree};
+pub use marking_trees::{OpenFrames, mark_grove, mark_tree};
 pub use no_memory::NoMemory;

@@ -21,6 +21,7 @@ pub fn mark_tree<'n, 't>(
     tree: &'n Tree<'t>,
     types: &mut TypeTable,
     ctxs: &mut CtxTable,
+    room: &mut OpenFrames<'t>,
 ) -> Result<MarkedTree<'n, 't>, NoMemory>
     requires sorted { IsSortedTree tree.now }
     ensures marked { IfOk result (λ marked. IsMarkedTree tree.now (meant_nodes types.new marked)) }
@@ -29,15 +30,22 @@ pub fn mark_tree<'n, 't>(
     ensures contexts { KeepsContexts ctxs.old ctxs.new }
 {
     let nodes = tree.as_slice();
+    let mut frames = std::mem::replace(&mut room.frames, Vec::new(alloc));
+    frames.clear();
     let mut walk = Walk {
-        frames: Vec::new(alloc),
+        frames,
         added: Vec::with_capacity(alloc, nodes.len())?,
     };
     for node in nodes {
         take(alloc, types, ctxs, &mut walk, node)?;
     }
-    Ok(MarkedTree::new(nodes, walk.added))
+    let Walk { frames, added } = walk;
+    room.frames = frames;
+    Ok(MarkedTree::new(nodes, added))
 }
+
+#[derive(Drop)]
+pub struct OpenFrames<'t> { pub frames: Vec<(usize, judging::Frame<'t>)> }
 
 fn mark_trees<'n, 't>(
     alloc: Global,
@@ -52,8 +60,9 @@ fn mark_trees<'n, 't>(
     ensures contexts { KeepsContexts ctxs.old ctxs.new }
 {
     let mut marked = MarkedTreeList::new(alloc);
+    let mut room = OpenFrames { frames: Vec::new(alloc) };
     for tree in trees.as_slice() {
-        marked.push(mark_tree(alloc, tree, types, ctxs)?)?;
+        marked.push(mark_tree(alloc, tree, types, ctxs, &mut room)?)?;
     }
     Ok(marked)
 }
