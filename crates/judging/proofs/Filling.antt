@@ -1,10 +1,9 @@
 -- A position is filled.
-use Rattle.std.proofs.Common.{◌≡◌, ℕ, zero, suc, ◌+◌, ◌<◌, ◌≤◌, ◌⊎◌, inl, inr, List, [], ◌∷◌, ◌++◌, length, set, take, map, Option, Some, None, IfSome, refl, sym, ap, subst, ◌∙◌, arith}
+use Rattle.std.proofs.Common.{◌≡◌, ℕ, zero, suc, ◌+◌, ◌<◌, ◌≤◌, List, [], ◌∷◌, ◌++◌, length, set, take, map, Option, Some, None, IfSome, refl, sym, ap, subst, ◌∙◌, arith}
 use Rattle.std.specs.Prelude.{slice_get}
 use Rattle.std.specs.Option.{option_map}
 use Rattle.std.specs.List.{slice_index_or}
-use Rattle.std.proofs.lemmas.Bool.{cases_eq}
-use Rattle.std.proofs.lemmas.List.{map-append, get_or-set_same, get_or-set_other}
+use Rattle.std.proofs.lemmas.List.{map-append}
 use Rattle.std.proofs.lemmas.Option.{slice_get-get_or}
 use Rattle.grove_sorts.specs.Ctor.{positions}
 use Rattle.grove_sorts.proofs.Rows.{row_short}
@@ -60,15 +59,6 @@ each_given P r a b c d e (suc (suc zero)) = c
 each_given P r a b c d e (suc (suc (suc zero))) = d
 each_given P r a b c d e (suc (suc (suc (suc zero)))) = e
 each_given P r a b c d e (suc (suc (suc (suc (suc n))))) = tt
-
--- the last part is at the last index
-pub last_given : (r : GivenRow) (i : ℕ) → i < 5 → (i ≡ 0 → ⊥) → (i ≡ 1 → ⊥) → (i ≡ 2 → ⊥) → (i ≡ 3 → ⊥) → slice_get (givens r) i ≡ Some r.fifth
-last_given r zero lt a b c d = absurd (a refl)
-last_given r (suc zero) lt a b c d = absurd (b refl)
-last_given r (suc (suc zero)) lt a b c d = absurd (c refl)
-last_given r (suc (suc (suc zero))) lt a b c d = absurd (d refl)
-last_given r (suc (suc (suc (suc zero)))) lt a b c d = refl
-last_given r (suc (suc (suc (suc (suc n))))) lt a b c d = absurd (omega (arith, lt))
 
 -- past the last index the row stays
 pub none_given : (r : GivenRow) (n : ℕ) (g : Given) → (n ≡ 0 → ⊥) → (n ≡ 1 → ⊥) → (n ≡ 2 → ⊥) → (n ≡ 3 → ⊥) → (n ≡ 4 → ⊥) → r ≡ with_given r n g
@@ -129,31 +119,37 @@ made_is types o is =
 
 -- ---- the types so far, by index
 
-take_here : (gs : List Given) (n : ℕ) → slice_get (take (suc n) gs) n ≡ slice_get gs n
-take_here [] zero = refl
-take_here [] (suc n) = refl
-take_here (x ∷ gs) zero = refl
-take_here (x ∷ gs) (suc n) = take_here gs n
-
-take_other : (gs : List Given) (n i : ℕ) → (i ≡ n → ⊥) → slice_get (take (suc n) gs) i ≡ slice_get (take n gs) i
-take_other [] zero i other = refl
-take_other [] (suc n) i other = refl
-take_other (x ∷ gs) zero zero other = absurd (other refl)
-take_other (x ∷ gs) zero (suc i) other = none i where
-  none : (i : ℕ) → slice_get (take 0 gs) i ≡ None
-  none zero = refl
-  none (suc i) = refl
-take_other (x ∷ gs) (suc n) zero other = refl
-take_other (x ∷ gs) (suc n) (suc i) other = take_other gs n i (λ e. other (ap suc e))
+none_before : (gs : List Given) (i : ℕ) → slice_get (take 0 gs) i ≡ None
+none_before gs zero = refl
+none_before gs (suc i) = refl
 
 -- a list has the types of the first of these
 abbrev pub HasTypesOf : List Given → List (Option TypeId) → Type 0
 HasTypesOf gs types = (i : ℕ) → slice_index_or types i None ≡ option_map (λ g. g.typ) (slice_get gs i)
 
-pub one_more_type : (types : List (Option TypeId)) (gs : List Given) (n : ℕ) (g : Given) → n < length types → slice_get gs n ≡ Some g → HasTypesOf (take n gs) types → HasTypesOf (take (suc n) gs) (set types n (Some g.typ))
-one_more_type types gs n g short here so_far i = by (cases_eq i n) where
-  by : (i ≡ n) ⊎ (i ≡ n → ⊥) → slice_index_or (set types n (Some g.typ)) i None ≡ option_map (λ x. x.typ) (slice_get (take (suc n) gs) i)
-  by (inl same) =
-      ap (λ k. slice_index_or (set types n (Some g.typ)) k None) same ∙ get_or-set_same types n (Some g.typ) None short
-      ∙ ap (option_map (λ (x : Given). x.typ)) (sym (take_here gs n ∙ here)) ∙ ap (λ k. option_map (λ (x : Given). x.typ) (slice_get (take (suc n) gs) k)) (sym same)
-  by (inr other) = get_or-set_other types n i (Some g.typ) None other ∙ so_far i ∙ ap (option_map (λ (x : Given). x.typ)) (sym (take_other gs n i other))
+-- the type of what the position with an index gave, where it comes before the next one
+abbrev pub IsTypeBefore : ℕ → ℕ → Given → Option TypeId → Type 0
+IsTypeBefore next i g o = (i < next → o ≡ Some g.typ) × (next ≤ i → o ≡ None)
+
+type_before : (gs : List Given) (next i : ℕ) (g : Given) (o : Option TypeId) → slice_get gs i ≡ Some g → IsTypeBefore next i g o → o ≡ option_map (λ x. x.typ) (slice_get (take next gs) i)
+type_before gs zero i g o here is = is.1 (omega arith) ∙ ap (option_map (λ (x : Given). x.typ)) (sym (none_before gs i))
+type_before [] (suc next) i g o here is = absurd cc
+type_before (x ∷ gs) (suc next) zero g o here is = is.0 (omega arith) ∙ ap (option_map (λ (y : Given). y.typ)) (sym here)
+type_before (x ∷ gs) (suc next) (suc i) g o here is =
+    type_before gs next i g o here ((λ lt. is.0 (omega (arith, lt))), (λ le. is.1 (omega (arith, le))))
+
+past_all : (gs : List Given) (next i : ℕ) → length gs ≤ i → slice_get (take next gs) i ≡ None
+past_all gs zero i le = none_before gs i
+past_all [] (suc next) i le = none_before [] i
+past_all (x ∷ gs) (suc next) zero le = absurd (omega (arith, le))
+past_all (x ∷ gs) (suc next) (suc i) le = past_all gs next i (omega (arith, le))
+
+pub types_of_row : (r : GivenRow) (next : ℕ) (a b c d e : Option TypeId) → IsTypeBefore next 0 r.first a → IsTypeBefore next 1 r.second b → IsTypeBefore next 2 r.third c → IsTypeBefore next 3 r.fourth d
+    → IsTypeBefore next 4 r.fifth e → HasTypesOf (take next (givens r)) (a ∷ b ∷ c ∷ d ∷ e ∷ [])
+types_of_row r next a b c d e first second third fourth fifth zero = type_before (givens r) next 0 r.first a refl first
+types_of_row r next a b c d e first second third fourth fifth (suc zero) = type_before (givens r) next 1 r.second b refl second
+types_of_row r next a b c d e first second third fourth fifth (suc (suc zero)) = type_before (givens r) next 2 r.third c refl third
+types_of_row r next a b c d e first second third fourth fifth (suc (suc (suc zero))) = type_before (givens r) next 3 r.fourth d refl fourth
+types_of_row r next a b c d e first second third fourth fifth (suc (suc (suc (suc zero)))) = type_before (givens r) next 4 r.fifth e refl fifth
+types_of_row r next a b c d e first second third fourth fifth (suc (suc (suc (suc (suc i))))) =
+    ap (option_map (λ (g : Given). g.typ)) (sym (past_all (givens r) next (suc (suc (suc (suc (suc i))))) (omega (arith, five r))))

@@ -6,9 +6,9 @@ ghost use Rattle.type_core.specs.Typ.{Unknown};
 ghost use Rattle.type_core.specs.TypeTable.{IsTypeOf, type_at};
 ghost use Rattle.mark_step.specs.Node.{bound_at, sort_at_index};
 ghost use Rattle.judging.specs.Machine.{bound_by};
-ghost use Rattle.judging.specs.Frames.{given_at, givens, given_before, IsFilledOf, IsViewOf};
+ghost use Rattle.judging.specs.Frames.{given_at, given_before, IsFilledOf, IsViewOf};
 
-use crate::frame::{Given, GivenRow, OpenVertex};
+use crate::frame::OpenVertex;
 use grove_sorts::{Ctor, Ident, Sort, WIDEST, place_at};
 use mark_step::{Binder, NodeView};
 use type_core::{TypeId, TypeTable};
@@ -62,18 +62,13 @@ fn named<'t>(types: &TypeTable, name: Option<&'t Ident>) -> Binder<'t>
     }
 }
 
-// What the position with an index gave.
-fn given_at_index<'t>(row: &GivenRow<'t>, index: usize) -> Given<'t>
-    requires { index < 5 }
-    ensures { slice_get (givens row.now) index ≡ Some result }
+// The type that the position with an index gave, where it is one of those before the next one.
+#[inline(always)]
+fn type_before(next: usize, index: usize, typ: TypeId) -> Option<TypeId>
+    ensures given { index < next → result ≡ Some typ }
+    ensures none { next ≤ index → result ≡ None }
 {
-    match index {
-        0 => row.first,
-        1 => row.second,
-        2 => row.third,
-        3 => row.fourth,
-        _ => row.fifth,
-    }
+    if index < next { Some(typ) } else { None }
 }
 
 // The types that the positions so far gave, by their index.
@@ -81,11 +76,15 @@ fn types_so_far(vertex: &OpenVertex) -> [Option<TypeId>; WIDEST]
     requires { vertex.now.next ≤ length (positions vertex.now.ctor.now) }
     ensures { (i : ℕ) → slice_index_or result i None ≡ option_map (λ g. g.typ) (slice_get (given_before vertex.now) i) }
 {
-    let mut types = [None; WIDEST];
-    for index in 0..vertex.next {
-        types[index] = Some(given_at_index(&vertex.given, index).typ);
-    }
-    types
+    let given = &vertex.given;
+    let next = vertex.next;
+    [
+        type_before(next, 0, given.first.typ),
+        type_before(next, 1, given.second.typ),
+        type_before(next, 2, given.third.typ),
+        type_before(next, 3, given.fourth.typ),
+        type_before(next, 4, given.fifth.typ),
+    ]
 }
 
 // The vertex as its rule sees it.
