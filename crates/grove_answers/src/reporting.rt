@@ -49,12 +49,12 @@ pub(crate) fn report_program<R: Report>(
 }
 
 // Reports the trees of some vertices that head one each, under a heading.
-fn report_section<R: Report>(
+fn report_section<'g, R: Report>(
     alloc: Global,
     section: Section,
-    table: &GraphTable,
+    table: &'g GraphTable,
     heads: &[u32],
-    walk: &mut Walk,
+    walk: &mut Walk<'g>,
     report: &mut R,
 ) -> Result<(), NoMemory>
     requires whole { AreLive (graph table.now.edits) (live table.now) }
@@ -67,11 +67,11 @@ fn report_section<R: Report>(
     report_trees(alloc, table, heads, walk, report)
 }
 
-fn report_trees<R: Report>(
+fn report_trees<'g, R: Report>(
     alloc: Global,
-    table: &GraphTable,
+    table: &'g GraphTable,
     heads: &[u32],
-    walk: &mut Walk,
+    walk: &mut Walk<'g>,
     report: &mut R,
 ) -> Result<(), NoMemory>
     requires whole { AreLive (graph table.now.edits) (live table.now) }

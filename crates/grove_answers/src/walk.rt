@@ -13,7 +13,7 @@ use ctx_table::CtxTable;
 use graph_table::GraphTable;
 use grove_decompose::{Seen, tree_by_number};
 use grove_terms::Tree;
-use mark_rules::mark_tree;
+use mark_rules::{OpenFrames, mark_tree};
 use marking::MarkedTree;
 use seeded_hash::HashSeed;
 use std::alloc::Global;
@@ -21,26 +21,32 @@ use type_core::TypeTable;
 
 /// What is kept from one tree of a program to the next.
 #[derive(Drop)]
-pub(crate) struct Walk {
+pub(crate) struct Walk<'g> {
     pub(crate) seen: Seen,
     pub(crate) types: TypeTable,
     pub(crate) contexts: CtxTable,
+    pub(crate) room: OpenFrames<'g>,
 }
 
-impl Walk {
+impl<'g> Walk<'g> {
     /// Before the first tree. Types and contexts are found by their hashes under a seed.
-    pub(crate) fn new(alloc: Global, table: &GraphTable, seed: HashSeed) -> Result<Walk, NoMemory>
+    pub(crate) fn new(
+        alloc: Global,
+        table: &GraphTable,
+        seed: HashSeed,
+    ) -> Result<Walk<'g>, NoMemory>
         ensures { IfOk result (λ walk. OnlyInner table.now walk.seen) }
     {
         Ok(Walk {
             seen: Seen::none_of(alloc, table)?,
             types: TypeTable::with_seed(alloc, seed)?,
             contexts: CtxTable::with_seed(alloc, seed)?,
+            room: OpenFrames::new(alloc),
         })
     }
 
     /// The tree of a vertex that heads one.
-    pub(crate) fn tree<'g>(
+    pub(crate) fn tree(
         &mut self,
         alloc: Global,
         table: &'g GraphTable,
@@ -56,16 +62,22 @@ impl Walk {
     }
 
     /// The marking of a tree.
-    pub(crate) fn marking<'n, 't>(
+    pub(crate) fn marking<'n>(
         &mut self,
         alloc: Global,
-        tree: &'n Tree<'t>,
-    ) -> Result<MarkedTree<'n, 't>, NoMemory>
+        tree: &'n Tree<'g>,
+    ) -> Result<MarkedTree<'n, 'g>, NoMemory>
         requires { IsSortedTree tree.now }
         ensures marked { IfOk result (λ marked. IsMarkedTree tree.now (meant_nodes self.new.types marked)) }
         ensures numbers { IfOk result (AreMarkedNodesOf self.new.types) }
         ensures seen { self.new.seen ≡ self.old.seen }
     {
-        Ok(mark_tree(alloc, tree, &mut self.types, &mut self.contexts)?)
+        Ok(mark_tree(
+            alloc,
+            tree,
+            &mut self.types,
+            &mut self.contexts,
+            &mut self.room,
+        )?)
     }
 }

@@ -5,9 +5,11 @@
 mod erasing;
 mod marking_trees;
 mod no_memory;
+mod open_frames;
 mod taking;
 
 pub use erasing::erase;
 pub use marking::{MarkedGrove, MarkedNode, MarkedTree, MarkedTreeList};
 pub use marking_trees::{mark_grove, mark_tree};
 pub use no_memory::NoMemory;
+pub use open_frames::OpenFrames;

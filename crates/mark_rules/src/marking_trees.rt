@@ -7,6 +7,7 @@ ghost use Rattle.marking.specs.Numbers.{AreMarkedNodesOf, AreMarkedListsOf, IsMa
 ghost use Rattle.grove_terms.specs.Sorted.{IsSortedTree, AreSortedTrees, IsSortedGrove};
 
 use crate::no_memory::NoMemory;
+use crate::open_frames::OpenFrames;
 use crate::taking::{Walk, take};
 use ctx_table::CtxTable;
 use grove_terms::{Grove, Tree, TreeList};
@@ -15,12 +16,13 @@ use std::alloc::Global;
 use type_core::TypeTable;
 
 /// The nodes of a well-sorted tree with what marking adds to them. The numbers of both tables keep their meaning, also where memory
-/// runs out.
+/// runs out. The room is kept for the next tree; where memory runs out it is lost, and the next tree makes it anew.
 pub fn mark_tree<'n, 't>(
     alloc: Global,
     tree: &'n Tree<'t>,
     types: &mut TypeTable,
     ctxs: &mut CtxTable,
+    room: &mut OpenFrames<'t>,
 ) -> Result<MarkedTree<'n, 't>, NoMemory>
     requires sorted { IsSortedTree tree.now }
     ensures marked { IfOk result (λ marked. IsMarkedTree tree.now (meant_nodes types.new marked)) }
@@ -30,13 +32,15 @@ pub fn mark_tree<'n, 't>(
 {
     let nodes = tree.as_slice();
     let mut walk = Walk {
-        frames: Vec::new(alloc),
+        frames: room.take_out(alloc),
         added: Vec::with_capacity(alloc, nodes.len())?,
     };
     for node in nodes {
         take(alloc, types, ctxs, &mut walk, node)?;
     }
-    Ok(MarkedTree::new(nodes, walk.added))
+    let Walk { frames, added } = walk;
+    room.put_back(frames);
+    Ok(MarkedTree::new(nodes, added))
 }
 
 fn mark_trees<'n, 't>(
@@ -52,8 +56,9 @@ fn mark_trees<'n, 't>(
     ensures contexts { KeepsContexts ctxs.old ctxs.new }
 {
     let mut marked = MarkedTreeList::new(alloc);
+    let mut room = OpenFrames::new(alloc);
     for tree in trees.as_slice() {
-        marked.push(mark_tree(alloc, tree, types, ctxs)?)?;
+        marked.push(mark_tree(alloc, tree, types, ctxs, &mut room)?)?;
     }
     Ok(marked)
 }

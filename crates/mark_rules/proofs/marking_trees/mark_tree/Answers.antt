@@ -36,10 +36,10 @@ pub returns-clause-marked : goal.returns-clause-marked
 returns-clause-marked c =
     let nodes : List LentNode = c.as_slice-nodes.result.now in
     let none : drop c.loop-node.node-index nodes ≡ [] = grind (arith, common_steps) in
-    subst (λ ms. IsMarkedTree c.args.tree.now (meant_nodes c.loop-node.types ms)) (sym c.new-2.ensures)
+    subst (λ ms. IsMarkedTree c.args.tree.now (meant_nodes c.loop-node.types ms)) (sym c.new.ensures)
     (all_taken c.loop-node.types c.loop-node.ctxs nodes c.loop-node.walk c.args.tree.now (nodes_of (drop c.loop-node.node-index nodes)) c.requires.sorted (ap nodes_of none)
     (c.loop-node.invariant.state ∙ ap (run (at [] [])) c.as_slice-nodes.ensures))
 
 pub returns-clause-numbers : goal.returns-clause-numbers
 returns-clause-numbers c =
-    subst (AreMarkedNodesOf c.loop-node.types) (sym c.new-2.ensures) (are_marked c.loop-node.types c.as_slice-nodes.result.now c.loop-node.walk.added.items c.loop-node.invariant.walk.added)
+    subst (AreMarkedNodesOf c.loop-node.types) (sym c.new.ensures) (are_marked c.loop-node.types c.as_slice-nodes.result.now c.loop-node.walk.added.items c.loop-node.invariant.walk.added)
