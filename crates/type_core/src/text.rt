@@ -9,6 +9,7 @@ use crate::no_memory::NoMemory;
 use crate::node::Node;
 use crate::table::TypeTable;
 use crate::type_id::TypeId;
+use text_parts::{put_short, write_short};
 
 // A piece of a type's text that is still to be written.
 #[derive(Clone, Copy)]
@@ -35,7 +36,7 @@ impl TypeTable {
         ensures unchanged { OnErr result (out.new.items ≡ out.old.items) }
     {
         match self.form(t, levels) {
-            Form::Fixed(text) => append_fixed(text, out),
+            Form::Fixed(text) => Ok(write_short(text, out)?),
             Form::Parts(_, _, _, _) => self.write_parts(t, levels, out),
         }
     }
@@ -85,7 +86,7 @@ impl TypeTable {
         let mut depth = levels;
         loop {
             match self.form(id, depth) {
-                Form::Fixed(text) => return append_fixed(text, out),
+                Form::Fixed(text) => return Ok(write_short(text, out)?),
                 Form::Parts(former, first, second, below) => {
                     if let Some(texts) = self.fixed_parts(first, second, below) {
                         return append_pair(former, texts.0, texts.1, out);
@@ -176,42 +177,11 @@ fn append_pair(
 {
     out.reserve(12)?;
     out.push_reserved(b'(');
-    put_fixed(first, out);
+    put_short(first, out);
     put_sign(former, out);
-    put_fixed(second, out);
+    put_short(second, out);
     out.push_reserved(b')');
     Ok(())
-}
-
-// Appends a fixed text.
-fn append_fixed(text: &[u8], out: &mut Vec<u8>) -> Result<(), NoMemory>
-    ensures written { OnOk result (out.new.items ≡ out.old.items ++ text.now) }
-    ensures unchanged { OnErr result (out.new.items ≡ out.old.items) }
-{
-    out.reserve(text.len())?;
-    put_fixed(text, out);
-    Ok(())
-}
-
-// The same where there is room for it. Almost every fixed text has one byte or two, which take less than a copy of them.
-fn put_fixed(text: &[u8], out: &mut Vec<u8>)
-    requires room { vec_len out.old + length text.now ≤ vec_capacity out.old }
-    ensures written { out.new.items ≡ out.old.items ++ text.now }
-    ensures len { vec_len out.new ≡ vec_len out.old + length text.now }
-    ensures capacity { vec_capacity out.new ≡ vec_capacity out.old }
-{
-    match text {
-        [only] => out.push_reserved(*only),
-        [first, second] => {
-            out.push_reserved(*first);
-            out.push_reserved(*second);
-        }
-        _ => {
-            for byte in text {
-                out.push_reserved(*byte);
-            }
-        }
-    }
 }
 
 // Appends the sign between the parts.

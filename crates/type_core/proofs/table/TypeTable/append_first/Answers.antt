@@ -14,9 +14,8 @@ loop-text-init c = record {
 
 pub returns-in-Fixed-clause-written : goal.returns-in-Fixed-clause-written
 returns-in-Fixed-clause-written c =
-    on_ok_weaker c.append_fixed.result
-    (Writes-fixed c.args.self.now _ _ _ _ c.loop-text.id c.loop-text.depth c.in-Fixed.text.now _ _ _ c.loop-text.invariant c.in-Fixed.ensures.0 c.in-Fixed.ensures.1)
-    c.append_fixed.ensures.written
+    Writes-fixed c.args.self.now _ _ _ _ c.loop-text.id c.loop-text.depth c.in-Fixed.text.now _ _ _ c.loop-text.invariant c.in-Fixed.ensures.0 c.in-Fixed.ensures.1
+    c.in_ok-write_short-in-Fixed.ensures.appended
 
 pub returns-in-Some-clause-written : goal.returns-in-Some-clause-written
 returns-in-Some-clause-written c =
@@ -28,7 +27,7 @@ returns-in-Some-clause-written c =
 pub returns-in-Fixed-clause-longer : goal.returns-in-Fixed-clause-longer
 returns-in-Fixed-clause-longer c =
     Lengthens-trans c.args.out.now.items c.loop-text.out.items _ c.loop-text.invariant.longer
-    (Lengthens-appended c.append_fixed.result _ _ _ c.append_fixed.ensures.written c.append_fixed.ensures.unchanged)
+    (record { more = _; longer = c.in_ok-write_short-in-Fixed.ensures.appended })
 
 pub returns-in-Some-clause-longer : goal.returns-in-Some-clause-longer
 returns-in-Some-clause-longer c =
