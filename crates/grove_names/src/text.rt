@@ -1,4 +1,4 @@
-ghost use Rattle.std.specs.Prelude.{◌≡◌, ◌≢◌, ◌↔◌, ℕ, ◌<◌, ◌^◌, List, false, ◌∷◌, ◌++◌, take, vec_len, IfSome, IsSomeAnd, IfOk, OnOk, OnErr, IsErr};
+ghost use Rattle.std.specs.Prelude.{◌≡◌, ◌≢◌, ◌↔◌, ℕ, ◌<◌, ◌^◌, List, false, ◌∷◌, ◌++◌, IfSome, IsSomeAnd, IfOk, OnOk, OnErr, IsErr};
 ghost use Rattle.std.specs.Str.Parse.{digits_value};
 ghost use Rattle.text_parts.specs.Number.{IsNumberText, begins_with_digit};
 ghost use Rattle.grove_names.specs.declared.name.Name.{Name};
@@ -7,7 +7,10 @@ ghost use Rattle.grove_names.specs.Name.{InRange, name_text};
 use crate::fault::NameFault;
 use crate::name::Name;
 use crate::no_memory::NoMemory;
-use text_parts::{take_number, write_number};
+use text_parts::{put_number, take_number};
+
+// Room for two numbers and a dot. An author has 10 digits at most, but `put_number` asks for the room of the longest number, 20.
+const ROOM_FOR_A_NAME: usize = 41;
 
 /// Reads a name, which all of the bytes spell: the author's number, a dot and the counter.
 pub fn read_name(bytes: &[u8]) -> Result<Name, NameFault>
@@ -49,12 +52,11 @@ pub fn write_name(name: Name, out: &mut Vec<u8>) -> Result<(), NoMemory>
     ensures appended { OnOk result (out.new.items ≡ out.old.items ++ name_text name) }
     ensures unchanged { OnErr result (out.new.items ≡ out.old.items) }
 {
-    let length = out.len();
-    let written = append_text(name, out);
-    if written.is_err() {
-        out.truncate(length);
-    }
-    written
+    out.reserve(ROOM_FOR_A_NAME)?;
+    put_number(u64::from(name.author), out);
+    out.push_reserved(b'.');
+    put_number(name.counter, out);
+    Ok(())
 }
 
 /// Two names never have the same text, and any number below 2^32, a dot and a number below 2^64 are the text of a name.
@@ -64,14 +66,3 @@ pub fn name_has_one_text()
         → digits_value 10 author < 2 ^ 32 → digits_value 10 counter < 2 ^ 64
         → author ++ 46 ∷ counter ≡ name_text (record { author = digits_value 10 author; counter = digits_value 10 counter }) }
 {}
-
-// Where memory runs out, a part of the text may stand at the end.
-fn append_text(name: Name, out: &mut Vec<u8>) -> Result<(), NoMemory>
-    ensures appended { OnOk result (out.new.items ≡ out.old.items ++ name_text name) }
-    ensures kept { OnErr result (take (vec_len out.old) out.new.items ≡ out.old.items) }
-{
-    write_number(u64::from(name.author), out)?;
-    out.push(b'.')?;
-    write_number(name.counter, out)?;
-    Ok(())
-}

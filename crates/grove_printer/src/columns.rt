@@ -10,7 +10,7 @@ use edit_table::LentCtor;
 use grove_names::write_name;
 use grove_sorts::{Position, write_ctor, write_position};
 use grove_terms::{LentEdge, LentNode, LentWhat};
-use text_parts::write_number;
+use text_parts::{write_number, write_short};
 
 // After an error each of these functions may have appended a part.
 
@@ -81,7 +81,7 @@ fn append_ctor(ctor: &LentCtor, out: &mut Vec<u8>) -> Result<(), NoMemory>
     match ctor {
         LentCtor::At(ctor) => write_ctor(ctor, out)?,
         LentCtor::Literal(number) => {
-            out.extend_from_slice(b"num:")?;
+            write_short(b"num:", out)?;
             write_number(*number, out)?
         }
     }
@@ -94,17 +94,17 @@ fn append_what(what: &LentWhat, out: &mut Vec<u8>) -> Result<(), NoMemory>
 {
     match what {
         LentWhat::Vertex(vertex) => append_ctor(&vertex.ctor, out)?,
-        LentWhat::Hole(_) => out.extend_from_slice(b"hole")?,
+        LentWhat::Hole(_) => write_short(b"hole", out)?,
         LentWhat::Conflict(_, count) => {
-            out.extend_from_slice(b"conflict:")?;
+            write_short(b"conflict:", out)?;
             write_number(*count, out)?
         }
         LentWhat::MultiRef(vertex) => {
-            out.extend_from_slice(b"multi:")?;
+            write_short(b"multi:", out)?;
             append_ctor(&vertex.ctor, out)?
         }
         LentWhat::CycleRef(vertex) => {
-            out.extend_from_slice(b"cycle:")?;
+            write_short(b"cycle:", out)?;
             append_ctor(&vertex.ctor, out)?
         }
     }

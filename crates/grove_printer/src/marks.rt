@@ -13,6 +13,7 @@ use grove_sorts::{Sort, write_sort};
 use grove_terms::{LentNode, LentWhat};
 use mark_step::{Mark, Mode};
 use marking::Added;
+use text_parts::write_short;
 use type_core::{TypeId, TypeTable};
 
 /// How many levels of a type are printed.
@@ -35,7 +36,7 @@ pub(crate) fn append_marks(
     out.push(b' ')?;
     append_type(added.typ, types, out)?;
     out.push(b' ')?;
-    out.extend_from_slice(mark_word(added.mark))?;
+    write_short(mark_word(added.mark), out)?;
     Ok(())
 }
 
@@ -51,9 +52,9 @@ fn append_mode(
 {
     match mode {
         None => write_sort(sort, out)?,
-        Some(Mode::Syn) => out.extend_from_slice(b"syn")?,
+        Some(Mode::Syn) => write_short(b"syn", out)?,
         Some(Mode::Ana(typ)) => {
-            out.extend_from_slice(b"ana:")?;
+            write_short(b"ana:", out)?;
             types.write_type(typ, LEVELS, out)?
         }
     }

@@ -7,7 +7,7 @@ use crate::line::{append_line, whole_or_nothing};
 use crate::no_memory::NoMemory;
 use crate::section::Section;
 use marking::{MarkedGrove, MarkedTree, MarkedTreeList};
-use text_parts::write_number;
+use text_parts::{write_number, write_short};
 use type_core::TypeTable;
 
 /// Appends the print text of a marked grove: under a heading for each of its three lists a line for each node of its trees.
@@ -77,7 +77,7 @@ fn append_heading(section: Section, trees: usize, out: &mut Vec<u8>) -> Result<(
     ensures appended { OnOk result (out.new.items ≡ out.old.items ++ heading section trees) }
     ensures in_part { OnErr result (Extends out.old.items out.new.items) }
 {
-    out.extend_from_slice(section.word())?;
+    write_short(section.word(), out)?;
     write_number(trees as u64, out)?;
     out.push(b'\n')?;
     Ok(())

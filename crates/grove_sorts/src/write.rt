@@ -9,7 +9,7 @@ use crate::ident::Ident;
 use crate::no_memory::NoMemory;
 use crate::position::Position;
 use crate::sort::Sort;
-use text_parts::write_number;
+use text_parts::{write_number, write_short};
 
 /// Appends an identifier.
 pub fn write_ident(ident: &Ident, out: &mut Vec<u8>) -> Result<(), NoMemory>
@@ -27,7 +27,7 @@ pub fn write_ctor(ctor: &Ctor, out: &mut Vec<u8>) -> Result<(), NoMemory>
     ensures unchanged { OnErr result (out.new.items ≡ out.old.items) }
 {
     let start = out.len();
-    out.extend_from_slice(keyword(ctor))?;
+    write_short(keyword(ctor), out)?;
     if let Err(error) = write_payload(ctor, out) {
         out.truncate(start);
         return Err(error);
@@ -52,8 +52,7 @@ pub fn write_position(position: Position, out: &mut Vec<u8>) -> Result<(), NoMem
     ensures appended { OnOk result (out.new.items ≡ out.old.items ++ position_text position) }
     ensures unchanged { OnErr result (out.new.items ≡ out.old.items) }
 {
-    out.extend_from_slice(position_word(position))?;
-    Ok(())
+    Ok(write_short(position_word(position), out)?)
 }
 
 /// Appends the word of a sort.
@@ -61,8 +60,7 @@ pub fn write_sort(sort: Sort, out: &mut Vec<u8>) -> Result<(), NoMemory>
     ensures appended { OnOk result (out.new.items ≡ out.old.items ++ sort_text sort) }
     ensures unchanged { OnErr result (out.new.items ≡ out.old.items) }
 {
-    out.extend_from_slice(sort_word(sort))?;
-    Ok(())
+    Ok(write_short(sort_word(sort), out)?)
 }
 
 // The word that a constructor's text begins with.

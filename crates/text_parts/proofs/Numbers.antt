@@ -1,8 +1,6 @@
 -- The text of numbers.
-use Rattle.std.proofs.Common.{◌≡◌, ◌≢◌, ℕ, zero, suc, ◌+◌, ◌-◌, ◌*◌, ◌<◌, ◌≤◌, ◌^◌, ◌⊎◌, List, [], ◌∷◌, Option, None, Some, IfSome, OnSome, IfNone, length, get_or, drop, decimal, refl, ap, sym, ◌∙◌, inl, inr, subst, arith}
-use Rattle.std.specs.Int.{IsInRange}
+use Rattle.std.proofs.Common.{◌≡◌, ◌≢◌, ℕ, zero, suc, ◌+◌, ◌*◌, ◌<◌, ◌≤◌, ◌^◌, ◌⊎◌, List, [], ◌∷◌, length, get_or, decimal, refl, ap, sym, inl, inr, subst, arith}
 use Rattle.std.proofs.lemmas.Bool.{cases_lt}
-use Rattle.std.proofs.lemmas.List.{at_drop_more, drop_more}
 use Rattle.std.proofs.lemmas.Str.{digit_value_digit}
 use Rattle.std.specs.Char.{digit_value}
 use Rattle.std.specs.Str.Parse.{AllDigits, digits_value, digits_value_after}
@@ -26,10 +24,6 @@ Lacks-digits c (d ∷ ds) digits other =
 pub Lacks-decimal : (c n : ℕ) → n < 2 ^ 64 → (c < 48) ⊎ (57 < c) → Lacks c (decimal n)
 Lacks-decimal c n small other = Lacks-digits c (decimal n) (decimal_is_IsNumeral n small).0.1 other
 
--- it is not empty
-pub decimal-nonempty : (n : ℕ) → n < 2 ^ 64 → decimal n ≢ []
-decimal-nonempty n small e = omega (arith, decimal_nonempty n small, ap length e)
-
 -- it has at most 20 bytes
 pub length-decimal : (n : ℕ) → n < 2 ^ 64 → length (decimal n) ≤ 20
 length-decimal n small = length-decimal-le 20 n (omega arith) (omega arith) small
@@ -44,28 +38,9 @@ pub digits_value_after-ge : (n : ℕ) (ds : List ℕ) → n ≤ digits_value_aft
 digits_value_after-ge n [] = omega arith
 digits_value_after-ge n (d ∷ ds) = omega (arith, digits_value_after-ge (n * 10 + digit_value d) ds)
 
--- one digit read
-pub digits_value_after-drop : (bytes : List ℕ) (i n : ℕ) → i < length bytes → IsInRange 48 57 (get_or bytes i 0) → digits_value_after 10 n (drop i bytes) ≡ digits_value_after 10 (n * 10 + (get_or bytes i 0 - 48)) (drop (i + 1) bytes)
-digits_value_after-drop bytes i n within digit =
-    at_drop_more (digits_value_after 10 n) bytes i 0 within
-    ∙ ap (λ d. digits_value_after 10 (n * 10 + d) (drop (i + 1) bytes)) (omega (arith, digit_value_digit (get_or bytes i 0) digit))
-
-pub digits_value_after-drop-ge : (bytes : List ℕ) (i n : ℕ) → i < length bytes → IsInRange 48 57 (get_or bytes i 0) → n * 10 + (get_or bytes i 0 - 48) ≤ digits_value_after 10 n (drop i bytes)
-digits_value_after-drop-ge bytes i n within digit =
-    omega (arith, digits_value_after-drop bytes i n within digit, digits_value_after-ge (n * 10 + (get_or bytes i 0 - 48)) (drop (i + 1) bytes))
-
-pub AllDigits-drop : (bytes : List ℕ) (i : ℕ) → i < length bytes → IsInRange 48 57 (get_or bytes i 0) → AllDigits 10 (drop (i + 1) bytes) → AllDigits 10 (drop i bytes)
-AllDigits-drop bytes i within digit rest =
-    subst (AllDigits 10) (sym (drop_more bytes i 0 within)) (omega (arith, digit_value_digit (get_or bytes i 0) digit), rest)
-
 -- digits with no spare zero in front are the text of their value
 pub decimal_from_digits : (ds : List ℕ) → AllDigits 10 ds → 0 < length ds → (get_or ds 0 0 ≡ 48 → length ds ≡ 1) → digits_value 10 ds < 2 ^ 64 → ds ≡ decimal (digits_value 10 ds)
 decimal_from_digits ds digits some plain small = sym (decimal-digits_value numerals ds digits some plain small)
-
--- so what reads the value of digits reads a number's text
-pub decimal_if_digits : (bytes : List ℕ) (r : Option ℕ) → OnSome r (AllDigits 10 bytes) → OnSome r (digits_value 10 bytes < 2 ^ 64) → IfSome r (λ n. n ≡ digits_value 10 bytes) → 0 < length bytes → (get_or bytes 0 0 ≡ 48 → length bytes ≡ 1) → IfSome r (λ n. bytes ≡ decimal n)
-decimal_if_digits bytes None digits small value some plain = tt
-decimal_if_digits bytes (Some n) digits small value some plain = decimal_from_digits bytes digits some plain small ∙ ap decimal (sym value)
 
 -- a number's text is `0`, or a digit from 1 to 9 followed by digits
 spelled_from_digits : (ds : List ℕ) → AllDigits 10 ds → 0 < length ds → (get_or ds 0 0 ≡ 48 → length ds ≡ 1) → IsNumberText ds
@@ -93,20 +68,3 @@ decimal_from_IsNumberText (d ∷ ds) spelled small = elim spelled [
       let first : digit_value d < 10 = omega (arith, digit_value_digit d (omega arith, longer.1)) in
       decimal_from_digits (d ∷ ds) (first, longer.2) (omega arith) (λ h. absurd (omega arith)) small
 ]
-
--- no number's text is empty
-pub not_decimal_empty : (bytes : List ℕ) → length bytes ≡ 0 → (n : ℕ) → n < 2 ^ 64 → bytes ≢ decimal n
-not_decimal_empty bytes none n small e = omega (arith, ap length e, decimal_nonempty n small)
-
--- a text with a spare zero in front is that of no number
-pub not_decimal_spare_zero : (bytes : List ℕ) → get_or bytes 0 0 ≡ 48 → 1 < length bytes → (n : ℕ) → n < 2 ^ 64 → bytes ≢ decimal n
-not_decimal_spare_zero bytes zero_first more n small e =
-    omega (arith, ap length e, decimal-zero_first n small (ap (λ ds. get_or ds 0 0) (sym e) ∙ zero_first))
-
--- nor is one where no value of digits is read
-pub not_decimal_if_none : (bytes : List ℕ) (r : Option ℕ) → IfNone r (AllDigits 10 bytes → digits_value 10 bytes < 2 ^ 64 → ⊥) → IfNone r ((n : ℕ) → n < 2 ^ 64 → bytes ≢ decimal n)
-not_decimal_if_none bytes None none = λ n small e.
-    let numeral = decimal_is_IsNumeral n small in
-    let value : digits_value 10 bytes ≡ n = ap (digits_value 10) e ∙ numeral.1 in
-    none (subst (AllDigits 10) (sym e) numeral.0.1) (omega arith)
-not_decimal_if_none bytes (Some n) none = tt

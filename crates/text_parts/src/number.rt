@@ -1,26 +1,25 @@
-ghost use Rattle.std.specs.Prelude.{◌≡◌, ◌≢◌, ℕ, ◌<◌, ◌≤◌, ◌^◌, ◌-◌, ◌++◌, List, false, length, take, drop, decimal, IfSome, OnSome, IfNone, IsSomeAnd, OnOk, OnErr};
+ghost use Rattle.std.specs.Prelude.{◌≡◌, ◌≢◌, ℕ, ◌<◌, ◌≤◌, ◌^◌, ◌-◌, ◌+◌, ◌++◌, List, false, length, take, drop, decimal, vec_len, vec_capacity, IfSome, IfNone, IsSomeAnd, OnOk, OnErr};
 ghost use Rattle.std.specs.Int.{IsInRange};
 ghost use Rattle.std.specs.Str.Parse.{AllDigits, digits_value};
 ghost use Rattle.text_parts.specs.Number.{IsNumberText, begins_with_digit};
 
 use crate::no_memory::NoMemory;
+use crate::short::put_short;
 use itoa::Buffer;
 
 // A number of so many digits is below 2^64, whatever they are.
 const FITTING_DIGITS: usize = 19;
+
+// How many digits the greatest number below 2^64 has.
+const LONGEST_NUMBER: usize = 20;
 
 /// Reads a number: `0`, or a digit from 1 to 9 followed by digits, below 2^64 and with nothing around it.
 pub fn read_number(bytes: &[u8]) -> Option<u64>
     ensures found { IfSome result (λ number. bytes.now ≡ decimal number) }
     ensures none { IfNone result ((number : ℕ) → number < 2 ^ 64 → bytes.now ≢ decimal number) }
 {
-    if bytes.is_empty() {
-        return None;
-    }
-    if bytes[0] == b'0' && bytes.len() > 1 {
-        return None;
-    }
-    value_of(bytes)
+    let (number, rest) = take_number(bytes)?;
+    if rest.is_empty() { Some(number) } else { None }
 }
 
 /// Reads the number that the bytes begin with, all of its digits, and answers what stands behind it.
@@ -42,13 +41,24 @@ pub fn write_number(number: u64, out: &mut Vec<u8>) -> Result<(), NoMemory>
     ensures appended { OnOk result (out.new.items ≡ out.old.items ++ decimal number) }
     ensures unchanged { OnErr result (out.new.items ≡ out.old.items) }
 {
+    out.reserve(LONGEST_NUMBER)?;
+    put_number(number, out);
+    Ok(())
+}
+
+/// Appends the digits of a number where there is room for the longest, which has 20.
+pub fn put_number(number: u64, out: &mut Vec<u8>)
+    requires room { vec_len out.old + 20 ≤ vec_capacity out.old }
+    ensures written { out.new.items ≡ out.old.items ++ decimal number }
+    ensures len { vec_len out.new ≤ vec_len out.old + 20 }
+    ensures capacity { vec_capacity out.new ≡ vec_capacity out.old }
+{
     if number < 10 {
-        out.push(b'0' + number as u8)?;
-        return Ok(());
+        out.push_reserved(b'0' + number as u8);
+        return;
     }
     let mut buffer = Buffer::new();
-    out.extend_from_slice(buffer.format(number).as_bytes())?;
-    Ok(())
+    put_short(buffer.format(number).as_bytes(), out);
 }
 
 /// A number below 2^64 has exactly one text, which is `0`, or a digit from 1 to 9 followed by digits; and each such text is that of the number that its digits write.
@@ -58,23 +68,6 @@ pub fn number_has_one_text()
     ensures valued { (n : ℕ) → n < 2 ^ 64 → digits_value 10 (decimal n) ≡ n }
     ensures each { (text : List ℕ) → IsNumberText text → digits_value 10 text < 2 ^ 64 → text ≡ decimal (digits_value 10 text) }
 {}
-
-// The value of digits, which may begin with zeros.
-fn value_of(bytes: &[u8]) -> Option<u64>
-    ensures digits { OnSome result (AllDigits 10 bytes.now) }
-    ensures fits { OnSome result (digits_value 10 bytes.now < 2 ^ 64) }
-    ensures value { IfSome result (λ value. value ≡ digits_value 10 bytes.now) }
-    ensures none { IfNone result (AllDigits 10 bytes.now → digits_value 10 bytes.now < 2 ^ 64 → ⊥) }
-{
-    let mut value: u64 = 0;
-    for byte in bytes {
-        if !byte.is_ascii_digit() {
-            return None;
-        }
-        value = value.checked_mul(10)?.checked_add(u64::from(*byte - b'0'))?;
-    }
-    Some(value)
-}
 
 // The value of the digits that the bytes begin with, and how many they are: at least one.
 #[inline(always)]
