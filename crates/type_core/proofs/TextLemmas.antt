@@ -1,5 +1,5 @@
 -- The text of a type, piece by piece.
-use Rattle.std.proofs.Common.{◌≡◌, ℕ, ◌+◌, ◌<◌, ◌≤◌, List, [], ◌∷◌, ◌++◌, All, Some, sym, ap, subst, ◌∙◌, arith, append_assoc}
+use Rattle.std.proofs.Common.{◌≡◌, ℕ, ◌+◌, ◌<◌, ◌≤◌, List, [], ◌∷◌, ◌++◌, All, Some, Result, Ok, Err, OnOk, OnErr, codes, sym, ap, subst, ◌∙◌, arith, append_assoc}
 use Rattle.std.proofs.lemmas.List.{append-nil}
 use Rattle.std.proofs.lemmas.List.Elements.{All-nil, All-push, All-pop}
 use Rattle.std.proofs.lemmas.List.Sums.{sum_by-append}
@@ -31,6 +31,10 @@ Lengthens-trans xs ys zs a b = record {
   more = a.more ++ b.more;
   longer = b.longer ∙ ap (λ l. l ++ b.more) a.longer ∙ append_assoc xs a.more b.more;
 }
+
+pub Lengthens-appended : {T E : Type 0} (r : Result T E) (old new more : List ℕ) → OnOk r (new ≡ old ++ more) → OnErr r (new ≡ old) → Lengthens old new
+Lengthens-appended (Ok x) old new more wrote kept = record { more = more; longer = wrote }
+Lengthens-appended (Err e) old new more wrote kept = record { more = []; longer = kept ∙ sym (append-nil old) }
 
 -- the text of a type is written up to that of the part t
 pub record IsDescending (table : List Typ) (whole : List ℕ) (cost : ℕ) (rest : List Piece) (out : List ℕ) (t : TypeId) (levels : ℕ) (rest_new : List Piece) (out_new : List ℕ) : Type 0 where
@@ -69,6 +73,16 @@ module _ (table : List Typ) (whole : List ℕ) (cost : ℕ) (rest : List Piece) 
     within = before.within;
     less = (let l = before.less in omega (arith, l, some));
   }
+
+  -- a pair of parts with fixed texts is written
+  pub Writes-pair : (t : TypeId) (levels : ℕ) (f : Former) (a b : TypeId) (k : ℕ) (first second : List ℕ) (waiting : List Piece) (now out_new : List ℕ)
+      → IsDescending table whole cost rest out t levels waiting now → FormOf table t levels (Parts f a b k) → type_text k (type_at table a) ≡ first
+      → type_text k (type_at table b) ≡ second → out_new ≡ now ++ (codes "(" ++ first ++ sign f ++ second ++ codes ")") → Writes table whole cost rest out waiting out_new
+  Writes-pair t levels f a b k first second waiting now out_new before form is_first is_second wrote =
+      Writes-fixed t levels (codes "(" ++ first ++ sign f ++ second ++ codes ")") waiting now out_new before
+      (form.2 ∙ ap (λ w. codes "(" ++ w ++ sign f ++ type_text k (type_at table b) ++ codes ")") is_first ∙ ap (λ w. codes "(" ++ first ++ sign f ++ w ++ codes ")") is_second)
+      (let c = form.3 in omega (arith, c))
+      wrote
 
 -- the sign is written, the bracket waits, and the second part is begun
 pub Writes-second : (table : List Typ) (f : Former) (b : TypeId) (k : ℕ) (rest waiting rest_new : List Piece) (out now out_new : List ℕ) → now ≡ out ++ sign f

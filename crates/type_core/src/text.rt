@@ -1,4 +1,4 @@
-ghost use Rattle.std.specs.Prelude.{◌≡◌, ◌++◌, [], IfOk, OnOk, OnErr};
+ghost use Rattle.std.specs.Prelude.{◌≡◌, ◌+◌, ◌≤◌, ◌++◌, [], length, codes, vec_len, vec_capacity, IfOk, IfSome, OnOk, OnErr};
 ghost use Rattle.type_core.specs.Typ as typ;
 ghost use Rattle.type_core.specs.Typ.{type_text};
 ghost use Rattle.type_core.specs.TypeTable.{IsTypeOf, type_at};
@@ -35,7 +35,7 @@ impl TypeTable {
         ensures unchanged { OnErr result (out.new.items ≡ out.old.items) }
     {
         match self.form(t, levels) {
-            Form::Fixed(text) => Ok(out.extend_from_slice(text)?),
+            Form::Fixed(text) => append_fixed(text, out),
             Form::Parts(_, _, _, _) => self.write_parts(t, levels, out),
         }
     }
@@ -68,8 +68,8 @@ impl TypeTable {
         Ok(())
     }
 
-    // Appends the text of a type up to the end of the first part in it that has none. What is left stands at the end of `rest`, the next
-    // piece last.
+    // Appends the text of a type up to the end of the first part in it that is written at once: one with a fixed text, or whose own
+    // parts both have one. What is left stands at the end of `rest`, the next piece last.
     fn append_first(
         &self,
         t: TypeId,
@@ -85,8 +85,11 @@ impl TypeTable {
         let mut depth = levels;
         loop {
             match self.form(id, depth) {
-                Form::Fixed(text) => return Ok(out.extend_from_slice(text)?),
+                Form::Fixed(text) => return append_fixed(text, out),
                 Form::Parts(former, first, second, below) => {
+                    if let Some(texts) = self.fixed_parts(first, second, below) {
+                        return append_pair(former, texts.0, texts.1, out);
+                    }
                     out.push(b'(')?;
                     rest.push(Piece::Second(former, second, below))?;
                     id = first;
@@ -118,6 +121,28 @@ impl TypeTable {
         Ok(())
     }
 
+    // The texts of two parts, where both are fixed.
+    fn fixed_parts(
+        &self,
+        first: TypeId,
+        second: TypeId,
+        levels: u32,
+    ) -> Option<(&'static [u8], &'static [u8])>
+        requires first { IsTypeOf self.now first }
+        requires second { IsTypeOf self.now second }
+        ensures first { IfSome result (λ texts. type_text levels (type_at self.now first) ≡ texts.0.now) }
+        ensures second { IfSome result (λ texts. type_text levels (type_at self.now second) ≡ texts.1.now) }
+        ensures short { IfSome result (λ texts. (length texts.0.now ≤ 4) × (length texts.1.now ≤ 4)) }
+    {
+        let Form::Fixed(before) = self.form(first, levels) else {
+            return None;
+        };
+        let Form::Fixed(after) = self.form(second, levels) else {
+            return None;
+        };
+        Some((before, after))
+    }
+
     fn form(&self, id: TypeId, levels: u32) -> Form
         requires { IsTypeOf self.now id }
         ensures { FormOf self.now id levels result }
@@ -137,15 +162,81 @@ impl TypeTable {
     }
 }
 
+// Appends a pair of parts whose texts are fixed. Room for the longest, `(bool->bool)`, is made first, so that no byte asks for its own.
+fn append_pair(
+    former: Former,
+    first: &[u8],
+    second: &[u8],
+    out: &mut Vec<u8>,
+) -> Result<(), NoMemory>
+    requires first { length first.now ≤ 4 }
+    requires second { length second.now ≤ 4 }
+    ensures written { OnOk result (out.new.items ≡ out.old.items ++ (codes "(" ++ first.now ++ typ.sign former ++ second.now ++ codes ")")) }
+    ensures unchanged { OnErr result (out.new.items ≡ out.old.items) }
+{
+    out.reserve(12)?;
+    out.push_reserved(b'(');
+    put_fixed(first, out);
+    put_sign(former, out);
+    put_fixed(second, out);
+    out.push_reserved(b')');
+    Ok(())
+}
+
+// Appends a fixed text.
+fn append_fixed(text: &[u8], out: &mut Vec<u8>) -> Result<(), NoMemory>
+    ensures written { OnOk result (out.new.items ≡ out.old.items ++ text.now) }
+    ensures unchanged { OnErr result (out.new.items ≡ out.old.items) }
+{
+    out.reserve(text.len())?;
+    put_fixed(text, out);
+    Ok(())
+}
+
+// The same where there is room for it. Almost every fixed text has one byte or two, which take less than a copy of them.
+fn put_fixed(text: &[u8], out: &mut Vec<u8>)
+    requires room { vec_len out.old + length text.now ≤ vec_capacity out.old }
+    ensures written { out.new.items ≡ out.old.items ++ text.now }
+    ensures len { vec_len out.new ≡ vec_len out.old + length text.now }
+    ensures capacity { vec_capacity out.new ≡ vec_capacity out.old }
+{
+    match text {
+        [only] => out.push_reserved(*only),
+        [first, second] => {
+            out.push_reserved(*first);
+            out.push_reserved(*second);
+        }
+        _ => {
+            for byte in text {
+                out.push_reserved(*byte);
+            }
+        }
+    }
+}
+
 // Appends the sign between the parts.
 fn append_sign(former: Former, out: &mut Vec<u8>) -> Result<(), NoMemory>
     ensures written { OnOk result (out.new.items ≡ out.old.items ++ typ.sign former) }
     ensures unchanged { OnErr result (out.new.items ≡ out.old.items) }
 {
-    match former {
-        Former::Arrow => out.extend_from_slice(b"->")?,
-        Former::Product => out.push(b'*')?,
-        Former::Sum => out.push(b'+')?,
-    }
+    out.reserve(2)?;
+    put_sign(former, out);
     Ok(())
+}
+
+// The same where there is room for it.
+fn put_sign(former: Former, out: &mut Vec<u8>)
+    requires room { vec_len out.old + 2 ≤ vec_capacity out.old }
+    ensures written { out.new.items ≡ out.old.items ++ typ.sign former }
+    ensures len { vec_len out.new ≤ vec_len out.old + 2 }
+    ensures capacity { vec_capacity out.new ≡ vec_capacity out.old }
+{
+    match former {
+        Former::Arrow => {
+            out.push_reserved(b'-');
+            out.push_reserved(b'>');
+        }
+        Former::Product => out.push_reserved(b'*'),
+        Former::Sum => out.push_reserved(b'+'),
+    }
 }
