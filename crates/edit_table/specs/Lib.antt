@@ -5,5 +5,4 @@ pub mod Keys
 pub mod Records
 pub mod Renumbered
 pub mod Ranks
-pub mod TableEdge
 pub mod TableVertex

@@ -17,7 +17,6 @@ mod ranking;
 mod record;
 mod renumbering;
 mod sorting;
-mod table_edge;
 mod table_vertex;
 mod vertex_key;
 
@@ -26,5 +25,4 @@ pub use edit_table_builder::EditTableBuilder;
 pub use lent_ctor::LentCtor;
 pub use lent_vertex::{LentVertex, compare_lent, is_lent, is_same_lent};
 pub use no_memory::NoMemory;
-pub use table_edge::TableEdge;
 pub use table_vertex::TableVertex;
