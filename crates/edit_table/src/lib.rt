@@ -10,6 +10,7 @@ mod keeping;
 mod lending;
 mod lent_ctor;
 mod lent_vertex;
+mod likely_ends;
 mod no_memory;
 mod numbering;
 mod ranked_ctors;
