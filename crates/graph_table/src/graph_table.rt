@@ -88,7 +88,7 @@ impl GraphTable {
         ensures { graph_edge result ≡ edge_at self.now index }
     {
         // The invariant bounds the index.
-        let _ = &self.table;
+        let _ = &self.links;
         GraphEdge::at(self, index as u32)
     }
 
