@@ -5,6 +5,7 @@ pub mod Keys
 pub mod Ends
 pub mod Made
 pub mod Records
+pub mod Growing
 pub mod Orders
 pub mod Reading
 pub mod KeptRecords

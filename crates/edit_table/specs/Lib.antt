@@ -4,6 +4,6 @@ pub mod Made
 pub mod Keys
 pub mod Records
 pub mod Renumbered
+pub mod Waiting
 pub mod Ranks
-pub mod TableEdge
 pub mod TableVertex

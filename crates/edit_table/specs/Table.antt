@@ -51,10 +51,6 @@ kind_at table index = kind_or_insert (slice_get table.edits index)
 abbrev pub IsIndex : Table → ℕ → Type 0
 IsIndex table index = index < length table.edits
 
--- the number is that of the vertex to which the edge of the edit at an index leads
-abbrev pub IsTarget : Table → ℕ → ℕ → Type 0
-IsTarget table index number = IsNumber table number × (vertex_at table number ≡ (edge_at table index).target)
-
 -- the vertex is the root, or an end of an edit of the list
 abbrev pub IsEndIn : List Edit → Vertex → Type 0
 IsEndIn edits v = (v ≡ root) ⊎ ((edit : Edit) × Contains edits edit × (((edit_edge edit).source ≡ v) ⊎ ((edit_edge edit).target ≡ v)))

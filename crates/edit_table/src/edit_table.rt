@@ -1,13 +1,12 @@
 ghost use Rattle.std.specs.Prelude.{◌≡◌, ◌<◌, ◌^◌, length, IfOk};
 ghost use Rattle.grove_edits.specs.Graph.{graph, IsCanonical};
-ghost use Rattle.edit_table.specs.Table.{edge_at, kind_at, vertex_at, AreEnds, IsIndex, IsNumber, IsTarget};
+ghost use Rattle.edit_table.specs.Table.{edge_at, kind_at, vertex_at, AreEnds, IsIndex, IsNumber};
 
 use crate::edit_table_builder::EditTableBuilder;
 use crate::lending::lent_ctor;
 use crate::lent_vertex::LentVertex;
 use crate::no_memory::NoMemory;
 use crate::record::Record;
-use crate::table_edge::TableEdge;
 use crate::table_vertex::TableVertex;
 use crate::vertex_key::VertexKey;
 use grove_edits::{EditKind, EditList};
@@ -42,7 +41,6 @@ impl Model for EditTable {
 
 impl EditTable {
     ghost use Rattle.edit_table.specs.Lent.{lent_vertex};
-    ghost use Rattle.edit_table.specs.TableEdge.{table_edge};
     ghost use Rattle.edit_table.specs.TableVertex.{table_vertex};
 
     /// The table of the canonical list of the graph of some edits.
@@ -67,26 +65,6 @@ impl EditTable {
         ensures vertices { AreEnds self.now.edits self.now.vertices }
     {
         self.keys.len()
-    }
-
-    /// The edge of the edit at an index.
-    pub fn edge(&self, index: usize) -> TableEdge<'_>
-        requires { IsIndex self.now index }
-        ensures { table_edge result ≡ edge_at self.now index }
-    {
-        self.edge_to(index, self.target(index))
-    }
-
-    /// The edge of the edit at an index, where the number of the vertex to which it leads is known.
-    pub fn edge_to(&self, index: usize, target: usize) -> TableEdge<'_>
-        requires index { IsIndex self.now index }
-        requires target { IsTarget self.now index target }
-        ensures { table_edge result ≡ edge_at self.now index }
-    {
-        // The invariant bounds both.
-        let _ = &self.records;
-        let _ = &self.keys;
-        TableEdge::at(self, index as u32, target as u32)
     }
 
     /// The vertex with a number.

@@ -4,8 +4,9 @@ ghost use Rattle.grove_edits.specs.SpelledEdit.{spelled_edit};
 ghost use Rattle.grove_edits.specs.Vertex.{root};
 
 use crate::edit_table::EditTable;
+use crate::likely_ends::WAITING;
 use crate::no_memory::NoMemory;
-use crate::numbering::{branch_ctors, push_record};
+use crate::numbering::{branch_ctors, push_records};
 use crate::ranking::rank_ctors;
 use crate::record::Record;
 use crate::renumbering::renumber;
@@ -20,28 +21,30 @@ use std::marker::Model;
 
 /// A table of edits that grows. Contracts see what they see of a table that is read.
 #[derive(Drop)]
-pub struct EditTableBuilder {
+pub struct EditTableBuilder<'t> {
     // The branches first, and then other constructors as they were met.
     ctors: IndexSet<Ctor, HashSeed>,
     keys: IndexSet<VertexKey, HashSeed>,
     records: Vec<Record>,
+    // The last edits, which have no records yet.
+    waiting: Vec<SpelledEdit<'t>>,
 }
 
-impl Model for EditTableBuilder {
+impl<'t> Model for EditTableBuilder<'t> {
     ghost use Rattle.edit_table.specs.Table.{Table};
 
     ghost Value = { Table };
 
-    ghost use Rattle.edit_table.specs.Records.{table_of, AreRecords};
+    ghost use Rattle.edit_table.specs.Waiting.{growing_table, IsGrowing};
 
-    ghost view = { λ table. table_of table.ctors.keys table.keys.keys table.records.items };
+    ghost view = { λ table. growing_table table.ctors.keys table.keys.keys table.records.items table.waiting.items };
 
-    ghost invariant = { λ table. AreRecords table.ctors.keys table.keys.keys table.records.items };
+    ghost invariant = { λ table. IsGrowing table.ctors.keys table.keys.keys table.records.items table.waiting.items };
 }
 
-impl EditTableBuilder {
+impl<'t> EditTableBuilder<'t> {
     /// The table of no edits, which tells its vertices apart by their hash under a seed.
-    pub fn with_seed(alloc: Global, seed: HashSeed) -> Result<EditTableBuilder, NoMemory>
+    pub fn with_seed(alloc: Global, seed: HashSeed) -> Result<EditTableBuilder<'t>, NoMemory>
         ensures edits { IfOk result (λ table. table.edits ≡ []) }
         ensures vertices { IfOk result (λ table. table.vertices ≡ root ∷ []) }
     {
@@ -51,19 +54,21 @@ impl EditTableBuilder {
             name: Vertex::ROOT.name,
             ctor: CtorKey::At(0),
         })?;
+        let waiting = Vec::with_capacity(alloc, WAITING)?;
         Ok(EditTableBuilder {
             ctors,
             keys,
             records: Vec::new(alloc),
+            waiting,
         })
     }
 
     /// The table of a list.
     pub fn of_list(
         alloc: Global,
-        edits: &EditList,
+        edits: &'t EditList,
         seed: HashSeed,
-    ) -> Result<EditTableBuilder, NoMemory>
+    ) -> Result<EditTableBuilder<'t>, NoMemory>
         ensures edits { IfOk result (λ table. table.edits ≡ edits.now) }
     {
         let mut table = EditTableBuilder::with_seed(alloc, seed)?;
@@ -84,15 +89,33 @@ impl EditTableBuilder {
     }
 
     /// Appends an edit. Vertices that the table has keep their numbers.
-    pub fn push(&mut self, edit: &SpelledEdit) -> Result<(), NoMemory>
+    pub fn push(&mut self, edit: &SpelledEdit<'t>) -> Result<(), NoMemory>
         ensures appended { OnOk result (self.new.edits ≡ self.old.edits ++ spelled_edit edit.now ∷ []) }
         ensures unchanged { OnErr result (self.new ≡ self.old) }
     {
-        let count = self.keys.len();
-        let pushed = push_record(&mut self.ctors, &mut self.keys, &mut self.records, edit);
-        if pushed.is_err() {
-            self.keys.truncate(count);
+        if self.len() >= u32::MAX as usize {
+            return Err(NoMemory);
         }
+        let waiting = self.waiting.len();
+        self.waiting.push(*edit)?;
+        if self.waiting.len() < WAITING {
+            return Ok(());
+        }
+        let keys = self.keys.len();
+        let records = self.records.len();
+        let pushed = push_records(
+            &mut self.ctors,
+            &mut self.keys,
+            &mut self.records,
+            self.waiting.as_slice(),
+        );
+        if pushed.is_err() {
+            self.keys.truncate(keys);
+            self.records.truncate(records);
+            self.waiting.truncate(waiting);
+            return pushed;
+        }
+        self.waiting.clear();
         pushed
     }
 
@@ -101,19 +124,21 @@ impl EditTableBuilder {
         ensures count { result ≡ length self.now.edits }
         ensures few { result < 2 ^ 32 }
     {
-        self.records.len()
+        self.records.len() + self.waiting.len()
     }
 
     /// The table of the canonical list of the graph that the edits make: one edit for each edge that they name, in edge order. Vertices
     /// are numbered anew, in the order of that list, so that what goes over it in order reads memory in order.
     pub fn into_table(self, alloc: Global) -> Result<EditTable, NoMemory>
-        ensures { IfOk result (λ table. IsCanonical (graph self.edits) table.edits) }
+        ensures { IfOk result (λ table. IsCanonical (graph self.entry.edits) table.edits) }
     {
         let EditTableBuilder {
-            ctors,
-            keys,
+            mut ctors,
+            mut keys,
             mut records,
+            waiting,
         } = self;
+        push_records(&mut ctors, &mut keys, &mut records, waiting.as_slice())?;
         let ranks = rank_ctors(alloc, ctors.as_slice())?;
         make_canonical(ctors.as_slice(), &ranks, keys.as_slice(), &mut records);
         let keys = renumber(alloc, keys.as_slice(), &mut records)?;

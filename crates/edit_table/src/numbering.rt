@@ -1,4 +1,4 @@
-ghost use Rattle.std.specs.Prelude.{◌≡◌, ◌<◌, ◌^◌, [], ◌∷◌, ◌++◌, List, Some, IsTrue, length, slice_get, IfOk, IfSome, IfNone, OnOk, OnErr, false};
+ghost use Rattle.std.specs.Prelude.{◌≡◌, ◌<◌, ◌^◌, [], ◌∷◌, ◌++◌, List, Some, map, IsTrue, length, slice_get, IfOk, IfSome, IfNone, OnOk, OnErr, false};
 ghost use Rattle.indexmap.specs.IndexSet.{insert_key};
 ghost use Rattle.grove_sorts.specs.Branch.{branch_ctor};
 ghost use Rattle.grove_sorts.specs.Spelled.{spelled_ctor};
@@ -9,6 +9,7 @@ ghost use Rattle.edit_table.specs.declared.vertex_key.VertexKey.{VertexKey};
 ghost use Rattle.edit_table.specs.Keys.{branch_key, branch_number, is_short, vertices_of, with_vertex, AreCtors, AreKeys, BeginsWith, IsCtorKeyOf};
 ghost use Rattle.edit_table.specs.Records.{edits_of, AreRecords};
 
+use crate::likely_ends::{LikelyEnds, NONE};
 use crate::no_memory::NoMemory;
 use crate::record::Record;
 use crate::vertex_key::{CtorKey, VertexKey};
@@ -57,24 +58,56 @@ pub(crate) fn branch_ctors(
     Ok(ctors)
 }
 
-/// Appends the record of an edit. Where memory runs out, keys may stand at the end that no record has.
-pub(crate) fn push_record(
+/// Appends the records of some edits. Where memory runs out, records of the first of them may stand at the end, and keys that no record has.
+pub(crate) fn push_records(
+    ctors: &mut IndexSet<Ctor, HashSeed>,
+    keys: &mut IndexSet<VertexKey, HashSeed>,
+    records: &mut Vec<Record>,
+    edits: &[SpelledEdit],
+) -> Result<(), NoMemory>
+    requires { AreRecords ctors.old.keys keys.old.keys records.old.items }
+    ensures records { OnOk result (AreRecords ctors.new.keys keys.new.keys records.new.items) }
+    ensures edits { OnOk result (edits_of (vertices_of ctors.new.keys keys.new.keys) records.new.items
+        ≡ edits_of (vertices_of ctors.old.keys keys.old.keys) records.old.items ++ map spelled_edit edits.now) }
+    ensures records_stay { BeginsWith records.new.items records.old.items }
+    ensures ctors { AreCtors ctors.new.keys }
+    ensures ctors_stay { BeginsWith ctors.new.keys ctors.old.keys }
+    ensures keys_stay { BeginsWith keys.new.keys keys.old.keys }
+{
+    let likely = LikelyEnds::of(keys, edits);
+    for index in 0..edits.len() {
+        push_record(
+            ctors,
+            keys,
+            records,
+            &edits[index],
+            likely.source(index),
+            likely.target(index),
+        )?;
+    }
+    Ok(())
+}
+
+// Appends the record of an edit, whose ends may have these numbers. Where memory runs out, keys may stand at the end that no record has.
+fn push_record(
     ctors: &mut IndexSet<Ctor, HashSeed>,
     keys: &mut IndexSet<VertexKey, HashSeed>,
     records: &mut Vec<Record>,
     edit: &SpelledEdit,
+    likely_source: u32,
+    likely_target: u32,
 ) -> Result<(), NoMemory>
     requires { AreRecords ctors.old.keys keys.old.keys records.old.items }
     ensures records { OnOk result (AreRecords ctors.new.keys keys.new.keys records.new.items) }
     ensures edits { OnOk result (edits_of (vertices_of ctors.new.keys keys.new.keys) records.new.items
         ≡ edits_of (vertices_of ctors.old.keys keys.old.keys) records.old.items ++ spelled_edit edit.now ∷ []) }
-    ensures unchanged { OnErr result (records.new.items ≡ records.old.items) }
+    ensures records_stay { BeginsWith records.new.items records.old.items }
     ensures ctors { AreCtors ctors.new.keys }
     ensures ctors_stay { BeginsWith ctors.new.keys ctors.old.keys }
     ensures keys_stay { BeginsWith keys.new.keys keys.old.keys }
 {
-    let source = source_number(keys, records, &source_key(edit))?;
-    let target = target_number(ctors, keys, &edit.target())?;
+    let source = source_number(keys, records, &source_key(edit), likely_source)?;
+    let target = target_number(ctors, keys, &edit.target(), likely_target)?;
     if records.len() >= u32::MAX as usize {
         return Err(NoMemory);
     }
@@ -88,9 +121,9 @@ pub(crate) fn push_record(
     Ok(())
 }
 
-// The key of the source of an edit.
+/// The key of the source of an edit.
 #[inline(always)]
-fn source_key(edit: &SpelledEdit) -> VertexKey
+pub(crate) fn source_key(edit: &SpelledEdit) -> VertexKey
     ensures { (branch : Branch) × (result ≡ branch_key (edit_edge (spelled_edit edit.now)).source.name branch)
         × (branch_ctor branch ≡ (edit_edge (spelled_edit edit.now)).source.ctor) }
 {
@@ -100,13 +133,21 @@ fn source_key(edit: &SpelledEdit) -> VertexKey
     }
 }
 
-// The number of a key, which gets the next one where it has none.
-fn key_number(keys: &mut IndexSet<VertexKey, HashSeed>, key: VertexKey) -> Result<u32, NoMemory>
+// The number of a key, which may be this one. It gets the next one where it has none.
+fn key_number(
+    keys: &mut IndexSet<VertexKey, HashSeed>,
+    key: VertexKey,
+    likely: u32,
+) -> Result<u32, NoMemory>
+    requires { length keys.old.keys < 2 ^ 32 }
     ensures number { IfOk result (λ number. slice_get keys.new.keys number ≡ Some key) }
     ensures keys { OnOk result (keys.new.keys ≡ insert_key ⟦<VertexKey as PartialEq>⟧.eq keys.old.keys key) }
     ensures few { OnOk result (length keys.new.keys < 2 ^ 32) }
     ensures unchanged { OnErr result (keys.new.keys ≡ keys.old.keys) }
 {
+    if is_at(keys, likely, &key) {
+        return Ok(likely);
+    }
     if keys.len() >= u32::MAX as usize {
         return Err(NoMemory);
     }
@@ -114,11 +155,12 @@ fn key_number(keys: &mut IndexSet<VertexKey, HashSeed>, key: VertexKey) -> Resul
     Ok(index as u32)
 }
 
-// The number of a key. Mostly it is that of an end of the last record, and is not looked up.
+// The same of the source of an edit. Often it is an end of the last record, and is not looked up.
 fn source_number(
     keys: &mut IndexSet<VertexKey, HashSeed>,
     records: &[Record],
     key: &VertexKey,
+    likely: u32,
 ) -> Result<u32, NoMemory>
     requires { length keys.old.keys < 2 ^ 32 }
     ensures number { IfOk result (λ number. slice_get keys.new.keys number ≡ Some key.now) }
@@ -126,10 +168,10 @@ fn source_number(
     ensures few { OnOk result (length keys.new.keys < 2 ^ 32) }
     ensures unchanged { OnErr result (keys.new.keys ≡ keys.old.keys) }
 {
-    if let Some(number) = number_again(keys, records, key) {
+    if likely == NONE && let Some(number) = number_again(keys, records, key) {
         return Ok(number);
     }
-    key_number(keys, *key)
+    key_number(keys, *key, likely)
 }
 
 // The number of a key that is an end of the last record.
@@ -160,9 +202,9 @@ fn is_at(keys: &IndexSet<VertexKey, HashSeed>, number: u32, key: &VertexKey) -> 
     }
 }
 
-// The key of a constructor that has it without a look-up: a branch, or a literal that is short.
+/// The key of a constructor that has it without a look-up: a branch, or a literal that is short.
 #[inline(always)]
-fn fixed_key(ctor: &SpelledCtor) -> Option<CtorKey>
+pub(crate) fn fixed_key(ctor: &SpelledCtor) -> Option<CtorKey>
     ensures key { IfSome result (λ key. (ctors : List Ctor) → AreCtors ctors → IsCtorKeyOf ctors key (spelled_ctor ctor.now)) }
     ensures none { IfNone result (is_short (spelled_ctor ctor.now) ≡ false) }
 {
@@ -209,11 +251,12 @@ fn ctor_key(ctors: &mut IndexSet<Ctor, HashSeed>, ctor: &SpelledCtor) -> Result<
     }
 }
 
-// The number of a vertex, which gets the next one where it has none.
+// The number of a vertex that may have this one. It gets the next one where it has none.
 fn target_number(
     ctors: &mut IndexSet<Ctor, HashSeed>,
     keys: &mut IndexSet<VertexKey, HashSeed>,
     vertex: &SpelledVertex,
+    likely: u32,
 ) -> Result<u32, NoMemory>
     requires { AreKeys ctors.old.keys keys.old.keys }
     ensures number { IfOk result (λ number. slice_get (vertices_of ctors.new.keys keys.new.keys) number ≡ Some (spelled_vertex vertex.now)) }
@@ -231,5 +274,6 @@ fn target_number(
             name: vertex.name,
             ctor,
         },
+        likely,
     )
 }

@@ -18,6 +18,12 @@ pub(crate) struct VertexKey {
 // How many names that follow each other are hashed alike.
 const NEIGHBOURS: u64 = 16;
 
+/// Whether two names are so near each other that vertices of one constructor with them are hashed alike.
+#[inline(always)]
+pub(crate) fn are_neighbours(a: &Name, b: &Name) -> bool {
+    a.author == b.author && a.counter / NEIGHBOURS == b.counter / NEIGHBOURS
+}
+
 // Vertices whose names follow each other are mostly looked up one after the other, so those of one constructor are hashed alike: a
 // table finds them in memory that was just read. Whoever chooses the vertices gets no more of one hash than these few.
 impl Hash for VertexKey {

@@ -2,6 +2,7 @@
 use Rattle.std.proofs.Common.{◌≡◌, ℕ, zero, suc, ◌+◌, ◌-◌, ◌<◌, ◌≤◌, Bool, true, false, cond, List, [], ◌∷◌, ◌++◌, length, get_or, set, slice_get, reverse, Some, replicate, refl, sym, ap, subst, ◌∙◌, arith, append_assoc}
 use Rattle.std.proofs.lemmas.List.{append-nil, reverse-append, reverse-reverse}
 use Rattle.std.proofs.lemmas.Option.{slice_get_within}
+use Rattle.grove_names.specs.declared.name.Name.{Name}
 use Rattle.grove_sorts.specs.declared.position.Position.{Position}
 use Rattle.grove_sorts.specs.Position.{is_same_position}
 use Rattle.graph_table.specs.declared.link.Link.{Link}
@@ -26,17 +27,18 @@ link_read (x ∷ links) (suc i) l d is = link_read links i l d is
 
 chain_stays : (links more : List Link) (last : ℕ) (cs : List Child) → IsChain links last cs → IsChain (links ++ more) last cs
 chain_stays links more last [] chain = chain
-chain_stays links more last (c ∷ cs) (is, (before, (target, (there, (below, rest))))) = (is, (before, (target, (link_stays links more c.index _ there, (below, chain_stays links more before cs rest)))))
+chain_stays links more last (c ∷ cs) (is, (before, (target, (name, (there, (below, rest)))))) =
+    (is, (before, (target, (name, (link_stays links more c.index _ there, (below, chain_stays links more before cs rest))))))
 
 chain_within : (links : List Link) (last : ℕ) (cs : List Child) → IsChain links last cs → last ≤ length links
 chain_within links last [] chain = omega (arith, chain)
-chain_within links last (c ∷ cs) (is, (before, (target, (there, (below, rest))))) = omega (arith, is, slice_get_within links c.index _ there)
+chain_within links last (c ∷ cs) (is, (before, (target, (name, (there, (below, rest)))))) = omega (arith, is, slice_get_within links c.index _ there)
 
-chain_more : (links : List Link) (last : ℕ) (cs : List Child) (p : Position) (t : ℕ) → IsChain links last cs
-    → IsChain (links ++ record { position = p; target = t; before = last } ∷ []) (suc (length links)) (record { position = p; index = length links } ∷ cs)
-chain_more links last cs p t chain =
-    let l : Link = record { position = p; target = t; before = last } in
-    (refl, (last, (t, (link_last links l, (chain_within links last cs chain, chain_stays links (l ∷ []) last cs chain)))))
+chain_more : (links : List Link) (last : ℕ) (cs : List Child) (name : Name) (p : Position) (t : ℕ) → IsChain links last cs
+    → IsChain (links ++ record { name = name; position = p; target = t; before = last } ∷ []) (suc (length links)) (record { position = p; index = length links } ∷ cs)
+chain_more links last cs name p t chain =
+    let l : Link = record { name = name; position = p; target = t; before = last } in
+    (refl, (last, (t, (name, (link_last links l, (chain_within links last cs chain, chain_stays links (l ∷ []) last cs chain))))))
 
 -- ---- what is kept of the vertices
 
@@ -76,13 +78,13 @@ pub around_pushed : (links : List Link) (l : Link) (es : List Ends) (ns : List N
 around_pushed links l es ns are = around_stays links (l ∷ []) es ns are
 
 -- a live edge from a vertex
-pub child_linked : (links : List Link) (e : Ends) (n : Neighbours) (p : Position) (t i : ℕ) → length links ≡ i → IsAround links e n
-    → IsAround (links ++ record { position = p; target = t; before = e.last } ∷ []) (record { last = i + 1; parents = e.parents })
+pub child_linked : (links : List Link) (e : Ends) (n : Neighbours) (name : Name) (p : Position) (t i : ℕ) → length links ≡ i → IsAround links e n
+    → IsAround (links ++ record { name = name; position = p; target = t; before = e.last } ∷ []) (record { last = i + 1; parents = e.parents })
     (record { children = n.children ++ record { position = p; index = i } ∷ []; parents = n.parents })
-child_linked links e n p t i count is =
+child_linked links e n name p t i count is =
     let c : Child = record { position = p; index = i } in
-    let l : Link = record { position = p; target = t; before = e.last } in
-    let more : IsChain (links ++ l ∷ []) (suc (length links)) (record { position = p; index = length links } ∷ reverse n.children) = chain_more links e.last (reverse n.children) p t is.0 in
+    let l : Link = record { name = name; position = p; target = t; before = e.last } in
+    let more : IsChain (links ++ l ∷ []) (suc (length links)) (record { position = p; index = length links } ∷ reverse n.children) = chain_more links e.last (reverse n.children) name p t is.0 in
     let named : IsChain (links ++ l ∷ []) (suc i) (c ∷ reverse n.children) = subst (λ k. IsChain (links ++ l ∷ []) (suc k) (record { position = p; index = k } ∷ reverse n.children)) count more in
     let next : suc i ≡ i + 1 = omega arith in
     (subst (IsChain (links ++ l ∷ []) (i + 1)) (sym (reverse-append n.children (c ∷ []))) (subst (λ k. IsChain (links ++ l ∷ []) k (c ∷ reverse n.children)) next named), is.1)
@@ -91,23 +93,24 @@ child_linked links e n p t i count is =
 
 index_there : (links : List Link) (next index : ℕ) (cs : List Child) → (next ≡ 0 → ⊥) → index ≡ next - 1 → IsChain links next cs → index < length links
 index_there links next index [] not at chain = absurd (not chain)
-index_there links next index (c ∷ cs) not at (is, (before, (target, (there, (below, rest))))) = omega (arith, at, is, slice_get_within links c.index _ there)
+index_there links next index (c ∷ cs) not at (is, (before, (target, (name, (there, (below, rest)))))) = omega (arith, at, is, slice_get_within links c.index _ there)
 
 pub chained_within : (links : List Link) (next index : ℕ) → (next ≡ 0 → ⊥) → index ≡ next - 1 → IsChained links next → index < length links
 chained_within links next index not at (cs, chain) = index_there links next index cs not at chain
 
 -- the chain goes on behind a link
 module _ (links : List Link) (next index : ℕ) (link default : Link) (not : next ≡ 0 → ⊥) (at : index ≡ next - 1) (read : link ≡ get_or links index default) where
-  read_there : (c : Child) (before target : ℕ) → next ≡ suc c.index → slice_get links c.index ≡ Some (record { position = c.position; target = target; before = before })
-      → link ≡ record { position = c.position; target = target; before = before }
-  read_there c before target is there =
+  read_there : (c : Child) (before target : ℕ) (name : Name) → next ≡ suc c.index
+      → slice_get links c.index ≡ Some (record { name = name; position = c.position; target = target; before = before })
+      → link ≡ record { name = name; position = c.position; target = target; before = before }
+  read_there c before target name is there =
       let one : index ≡ c.index = omega (arith, at, is) in
-      read ∙ ap (λ k. get_or links k default) one ∙ link_read links c.index (record { position = c.position; target = target; before = before }) default there
+      read ∙ ap (λ k. get_or links k default) one ∙ link_read links c.index (record { name = name; position = c.position; target = target; before = before }) default there
 
   falls_by : (cs : List Child) → IsChain links next cs → link.before < next
   falls_by [] chain = absurd (not chain)
-  falls_by (c ∷ cs) (is, (before, (target, (there, (below, rest))))) =
-      let same : link.before ≡ before = ap (λ (l : Link). l.before) (read_there c before target is there) in
+  falls_by (c ∷ cs) (is, (before, (target, (name, (there, (below, rest)))))) =
+      let same : link.before ≡ before = ap (λ (l : Link). l.before) (read_there c before target name is there) in
       omega (arith, same, below, is)
 
   pub chain_falls : IsChained links next → link.before < next
@@ -116,8 +119,8 @@ module _ (links : List Link) (next index : ℕ) (link default : Link) (not : nex
   pub chain_goes_on : (p : Position) (b : Bool) (now new : List ℕ) → b ≡ is_same_position link.position p → new ≡ now ++ cond b (index ∷ []) [] → (cs : List Child) → IsChain links next cs
       → (more : List Child) × (IsChain links link.before more × (new ++ indices_at p more ≡ now ++ indices_at p cs))
   chain_goes_on p b now new same is_new [] chain = absurd (not chain)
-  chain_goes_on p b now new same is_new (c ∷ cs) (is, (before, (target, (there, (below, rest))))) =
-      let l = read_there c before target is there in
+  chain_goes_on p b now new same is_new (c ∷ cs) (is, (before, (target, (name, (there, (below, rest)))))) =
+      let l = read_there c before target name is there in
       let one : index ≡ c.index = omega (arith, at, is) in
       let test : b ≡ is_same_position c.position p = same ∙ ap (λ (k : Link). is_same_position k.position p) l in (
         cs,

@@ -8,6 +8,7 @@ use Rattle.std.proofs.Math.Seq.{take-append_seam}
 use Rattle.std.proofs.Math.ListN.{length-set}
 use Rattle.std.proofs.lemmas.Map.Keys.{IsDistinct-head, IsDistinct-tail}
 use Rattle.grove_edits.specs.declared.vertex.Vertex.{Vertex}
+use Rattle.grove_names.specs.declared.name.Name.{Name}
 use Rattle.grove_sorts.specs.declared.position.Position.{Position}
 use Rattle.grove_edits.specs.declared.edit.Edit.{Edit}
 use Rattle.grove_edits.specs.declared.edit.EditKind.{EditKind}
@@ -205,7 +206,7 @@ module _ (edits : List Edit) (edit : Edit) (vs : List Vertex) (i s t : ℕ) (lin
   before = map (neighbours (take i edits)) vs
 
   abbrev linked : List Link
-  linked = links ++ link_of (edit_edge edit).position s t es ∷ []
+  linked = links ++ link_of (edit_edge edit).name (edit_edge edit).position s t es ∷ []
 
   as_many : length es ≡ length vs
   as_many = around_count links es before kept ∙ length-map vs (neighbours (take i edits))
@@ -213,8 +214,8 @@ module _ (edits : List Edit) (edit : Edit) (vs : List Vertex) (i s t : ℕ) (lin
   source_set : AreAround linked (with_last_at s i es) (with_child_at s (child i (edit_edge edit)) before)
   source_set =
       around_set linked es before s (record { last = i + 1; parents = (ends_at es s).parents }) (record { children = (at before s).children ++ child i (edit_edge edit) ∷ []; parents = (at before s).parents })
-      (around_pushed links (link_of (edit_edge edit).position s t es) es before kept)
-      (child_linked links (ends_at es s) (at before s) (edit_edge edit).position t i count
+      (around_pushed links (link_of (edit_edge edit).name (edit_edge edit).position s t es) es before kept)
+      (child_linked links (ends_at es s) (at before s) (edit_edge edit).name (edit_edge edit).position t i count
       (around_at links es before s no_ends no_neighbours kept (omega (arith, as_many, slice_get_within vs s _ at_source))))
 
   both_set : AreAround linked (with_parent_at t i (with_last_at s i es)) (with_parent_to t i (with_child_at s (child i (edit_edge edit)) before))
@@ -230,7 +231,7 @@ module _ (edits : List Edit) (edit : Edit) (vs : List Vertex) (i s t : ℕ) (lin
   kept_noted = by_kind (is_insertion (edit_kind edit)) where
     by_kind : (b : Bool) → AreAround linked (cond b (with_parent_at t i (with_last_at s i es)) es) (cond b (with_parent_to t i (with_child_at s (child i (edit_edge edit)) before)) before)
     by_kind true = both_set
-    by_kind false = around_pushed links (link_of (edit_edge edit).position s t es) es before kept
+    by_kind false = around_pushed links (link_of (edit_edge edit).name (edit_edge edit).position s t es) es before kept
 
   pub kept_more : new_links ≡ linked → new ≡ ends_noted i (edit_kind edit) s t es → AreAround new_links new (map (neighbours (take (i + 1) edits)) vs)
   kept_more links_are are =
@@ -262,18 +263,20 @@ pub number_within : (f : Vertex → Neighbours) (links : List Link) (table : Tab
 number_within f links table es n within are = omega (arith, within, around_count links es (map f table.vertices) are, length-map table.vertices f)
 
 -- one more edit of a table, as its parts are read
-module _ (table : Table) (i s t : ℕ) (kind : EditKind) (position : Position) (links new_links : List Link) (es new : List Ends) where
+module _ (table : Table) (i s t : ℕ) (kind : EditKind) (name : Name) (position : Position) (links new_links : List Link) (es new : List Ends) where
   pub gathered_more : IsDistinct is_same_vertex table.vertices → IsIndex table i → IsNumber table s → vertex_at table s ≡ (edge_at table i).source → IsNumber table t → vertex_at table t ≡ (edge_at table i).target
-      → position ≡ (edge_at table i).position → kind ≡ kind_at table i → length links ≡ i → AreAround links es (map (neighbours (take i table.edits)) table.vertices)
-      → new_links ≡ links ++ link_of position s t es ∷ [] → new ≡ ends_noted i kind s t es → (len : ℕ) (rest : List Ends) → len ≡ length es
+      → name ≡ (edge_at table i).name → position ≡ (edge_at table i).position → kind ≡ kind_at table i → length links ≡ i → AreAround links es (map (neighbours (take i table.edits)) table.vertices)
+      → new_links ≡ links ++ link_of name position s t es ∷ [] → new ≡ ends_noted i kind s t es → (len : ℕ) (rest : List Ends) → len ≡ length es
       → AreAround new_links (take len (new ++ rest)) (map (neighbours (take (i + 1) table.edits)) table.vertices)
-  gathered_more once within of_s source_is of_t target_is position_is kind_is count kept linked noted_now len rest lengths =
+  gathered_more once within of_s source_is of_t target_is name_is position_is kind_is count kept linked noted_now len rest lengths =
       let found = some_at table.edits i within in
       let edit = found.0 in
       let read : edit ≡ get_or table.edits i edit = sym (get_or_from_slice_get table.edits i edit edit found.1) in
       let at_source = number_read table s (edit_edge edit).source of_s (source_is ∙ ap (λ (o : Option Edit). (edge_or_none o).source) found.1) in
       let at_target = number_read table t (edit_edge edit).target of_t (target_is ∙ ap (λ (o : Option Edit). (edge_or_none o).target) found.1) in
-      let link_is = linked ∙ ap (λ (p : Position). links ++ link_of p s t es ∷ []) (position_is ∙ ap (λ (o : Option Edit). (edge_or_none o).position) found.1) in
+      let same_name = name_is ∙ ap (λ (o : Option Edit). (edge_or_none o).name) found.1 in
+      let same_position = position_is ∙ ap (λ (o : Option Edit). (edge_or_none o).position) found.1 in
+      let link_is = linked ∙ (λ j. links ++ link_of (same_name j) (same_position j) s t es ∷ []) in
       let ends_are = noted_now ∙ ap (λ (k : EditKind). ends_noted i k s t es) (kind_is ∙ ap kind_or_insert found.1) in
       let more = kept_more table.edits edit table.vertices i s t links new_links es new once within read at_source at_target count kept link_is ends_are in
       whole table.edits edit table.vertices i s t links new_links es new once within read at_source at_target count kept len rest lengths more

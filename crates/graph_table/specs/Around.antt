@@ -1,6 +1,7 @@
 -- Inner model, which no public contract cites: the live edges around each vertex, by their indices, and how the code gathers them.
 use Rattle.std.specs.Prelude.{ℕ, suc, ◌+◌, Bool, ◌&&◌, List, [], ◌∷◌, set, if◌then◌else◌}
 use Rattle.std.specs.List.{slice_index_or}
+use Rattle.grove_names.specs.declared.name.Name.{Name}
 use Rattle.grove_sorts.specs.declared.position.Position.{Position}
 use Rattle.grove_edits.specs.declared.vertex.Vertex.{Vertex}
 use Rattle.grove_edits.specs.declared.edge.Edge.{Edge}
@@ -96,6 +97,6 @@ with_parent_at number index ends = set ends number (record { last = (ends_at end
 abbrev pub ends_noted : ℕ → EditKind → ℕ → ℕ → List Ends → List Ends
 ends_noted index kind source target ends = if is_insertion kind then with_parent_at target index (with_last_at source index ends) else ends
 
--- the link of an edit with this position, whose ends have these numbers
-abbrev pub link_of : Position → ℕ → ℕ → List Ends → Link
-link_of position source target ends = record { position = position; target = target; before = (ends_at ends source).last }
+-- the link of an edit of an edge with this name and position, whose ends have these numbers
+abbrev pub link_of : Name → Position → ℕ → ℕ → List Ends → Link
+link_of name position source target ends = record { name = name; position = position; target = target; before = (ends_at ends source).last }

@@ -1,5 +1,6 @@
 -- Inner model, which no public contract cites: the live edges from a vertex, each of which leads to the one before it.
 use Rattle.std.specs.Prelude.{◌≡◌, ℕ, suc, ◌≤◌, List, [], ◌∷◌, Some, slice_get, reverse}
+use Rattle.grove_names.specs.declared.name.Name.{Name}
 use Rattle.graph_table.specs.declared.link.Link.{Link}
 use Rattle.graph_table.specs.Around.{Child, Ends, Neighbours}
 
@@ -7,7 +8,8 @@ use Rattle.graph_table.specs.Around.{Child, Ends, Neighbours}
 abbrev pub IsChain : List Link → ℕ → List Child → Type 0
 IsChain links last [] = last ≡ 0
 IsChain links last (c ∷ cs) =
-    (last ≡ suc c.index) × ((before : ℕ) × ((target : ℕ) × ((slice_get links c.index ≡ Some (record { position = c.position; target = target; before = before })) × ((before ≤ c.index) × IsChain links before cs))))
+    (last ≡ suc c.index)
+    × ((before : ℕ) × ((target : ℕ) × ((name : Name) × ((slice_get links c.index ≡ Some (record { name = name; position = c.position; target = target; before = before })) × ((before ≤ c.index) × IsChain links before cs)))))
 
 -- there is such a chain
 abbrev pub IsChained : List Link → ℕ → Type 0

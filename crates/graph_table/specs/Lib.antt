@@ -4,3 +4,4 @@ pub mod Around
 pub mod Chain
 pub mod Parts
 pub mod ParentIndices
+pub mod GraphEdge

@@ -8,6 +8,7 @@ use crate::link::Link;
 use crate::no_memory::NoMemory;
 use edit_table::EditTable;
 use grove_edits::EditKind;
+use grove_names::Name;
 use grove_sorts::Position;
 use std::alloc::Global;
 
@@ -59,17 +60,19 @@ fn note(around: &mut [Around], index: usize, kind: EditKind, source: usize, targ
 
 fn link(
     around: &[Around],
+    name: Name,
     position: Position,
     source: usize,
     target: usize,
 ) -> Result<Link, NoMemory>
     requires { source < length around.now }
-    ensures { IfOk result (λ link. link ≡ link_of position source target around.now) }
+    ensures { IfOk result (λ link. link ≡ link_of name position source target around.now) }
 {
     let Ok(target) = u32::try_from(target) else {
         return Err(NoMemory);
     };
     Ok(Link {
+        name,
         position,
         target,
         before: around[source].last(),
@@ -85,7 +88,13 @@ pub(crate) fn gather(alloc: Global, table: &EditTable) -> Result<Gathered, NoMem
     for index in 0..table.len() {
         let source = table.source(index);
         let target = table.target(index);
-        let next = link(&around, table.position(index), source, target)?;
+        let next = link(
+            &around,
+            table.name(index),
+            table.position(index),
+            source,
+            target,
+        )?;
         links.push(next)?;
         note(&mut around, index, table.kind(index), source, target);
     }

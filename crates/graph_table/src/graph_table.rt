@@ -7,19 +7,22 @@ ghost use Rattle.walks.specs.Few.{first_two};
 ghost use Rattle.walks.specs.Live.{parents_of, children_of};
 ghost use Rattle.grove_edits.specs.Vertex.{vertex_cmp, stands_in, is_same_vertex};
 ghost use Rattle.walks.specs.Whole.{AreLive, IsVertexOf};
-ghost use Rattle.edit_table.specs.TableEdge.{table_edge};
+ghost use Rattle.edit_table.specs.Lent.{lent_vertex};
 ghost use Rattle.edit_table.specs.TableVertex.{table_vertex};
+ghost use Rattle.graph_table.specs.GraphEdge.{graph_edge};
 ghost use Rattle.graph_table.specs.ParentIndices.{AreIndices};
 ghost use Rattle.graph_table.specs.Table.{live, vertex_at, edge_at, few_at, IsNumber, IsIndex};
 
 use crate::around::Around;
 use crate::following::children_at;
 use crate::gathering::{Gathered, gather};
+use crate::graph_edge::GraphEdge;
 use crate::link::Link;
 use crate::no_memory::NoMemory;
 use crate::ordering::in_vertex_order;
 use crate::parents::Parents;
-use edit_table::{EditTable, TableEdge, TableVertex};
+use edit_table::{EditTable, LentVertex, TableVertex};
+use grove_names::Name;
 use grove_sorts::Position;
 use std::alloc::Global;
 use std::marker::Model;
@@ -79,12 +82,42 @@ impl GraphTable {
         in_vertex_order(alloc, &self.table, numbers)
     }
 
-    /// The edge of the edit at an index, as the table lends it.
-    pub fn edge(&self, index: usize) -> TableEdge<'_>
+    /// The edge of the edit at an index, lent.
+    pub fn edge(&self, index: usize) -> GraphEdge<'_>
         requires { IsIndex self.now index }
-        ensures { table_edge result ≡ edge_at self.now index }
+        ensures { graph_edge result ≡ edge_at self.now index }
     {
-        self.table.edge_to(index, self.links[index].target as usize)
+        // The invariant bounds the index.
+        let _ = &self.links;
+        GraphEdge::at(self, index as u32)
+    }
+
+    pub(crate) fn name(&self, index: usize) -> Name
+        requires { IsIndex self.now index }
+        ensures { result ≡ (edge_at self.now index).name }
+    {
+        self.links[index].name
+    }
+
+    pub(crate) fn position(&self, index: usize) -> Position
+        requires { IsIndex self.now index }
+        ensures { result ≡ (edge_at self.now index).position }
+    {
+        self.links[index].position
+    }
+
+    pub(crate) fn lent_source(&self, index: usize) -> LentVertex<'_>
+        requires { IsIndex self.now index }
+        ensures { lent_vertex result ≡ (edge_at self.now index).source }
+    {
+        self.table.lent(self.table.source(index))
+    }
+
+    pub(crate) fn lent_target(&self, index: usize) -> LentVertex<'_>
+        requires { IsIndex self.now index }
+        ensures { lent_vertex result ≡ (edge_at self.now index).target }
+    {
+        self.table.lent(self.links[index].target as usize)
     }
 
     /// The vertex with a number, as the table lends it.

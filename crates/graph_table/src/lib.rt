@@ -5,6 +5,7 @@
 mod around;
 mod following;
 mod gathering;
+mod graph_edge;
 mod graph_table;
 mod link;
 mod named_vertex;
@@ -13,6 +14,7 @@ mod no_memory;
 mod ordering;
 mod parents;
 
+pub use graph_edge::GraphEdge;
 pub use graph_table::GraphTable;
 pub use no_memory::NoMemory;
 pub use parents::Parents;

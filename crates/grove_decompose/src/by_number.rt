@@ -42,7 +42,7 @@ impl<'g> LiveGraph<'g> for LiveTable<'g> {
     ghost AreInner = { λ it noted. OnlyInner it.table.now noted };
 
     fn edge(&self, link: &usize) -> LentEdge<'g> {
-        LentEdge::OfTable(self.table.edge(*link))
+        LentEdge::OfGraph(self.table.edge(*link))
     }
 
     fn target(&self, link: &usize) -> usize {

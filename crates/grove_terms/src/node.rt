@@ -2,7 +2,8 @@ ghost use Rattle.std.specs.Prelude.{◌≡◌};
 ghost use Rattle.std.specs.Option.{option_map};
 ghost use Rattle.grove_terms.specs.Lent.{edge_of};
 
-use edit_table::{LentVertex, TableEdge, TableVertex};
+use edit_table::{LentVertex, TableVertex};
+use graph_table::GraphEdge;
 use grove_edits::{Edge, Vertex};
 use grove_names::Name;
 use grove_sorts::{Position, Sort};
@@ -45,8 +46,8 @@ pub enum Role {
 #[derive(Clone, Copy, Debug)]
 pub enum LentEdge<'g> {
     Whole(&'g Edge),
-    /// An edge of a table, which is kept in parts.
-    OfTable(TableEdge<'g>),
+    /// An edge of a graph by numbers, which is kept in parts.
+    OfGraph(GraphEdge<'g>),
 }
 
 impl<'g> LentEdge<'g> {
@@ -59,7 +60,7 @@ impl<'g> LentEdge<'g> {
     {
         match self {
             LentEdge::Whole(edge) => **edge,
-            LentEdge::OfTable(edge) => edge.edge(),
+            LentEdge::OfGraph(edge) => edge.edge(),
         }
     }
 
@@ -69,7 +70,7 @@ impl<'g> LentEdge<'g> {
     {
         match self {
             LentEdge::Whole(edge) => edge.name,
-            LentEdge::OfTable(edge) => edge.name(),
+            LentEdge::OfGraph(edge) => edge.name(),
         }
     }
 
@@ -79,7 +80,7 @@ impl<'g> LentEdge<'g> {
     {
         match self {
             LentEdge::Whole(edge) => edge.position,
-            LentEdge::OfTable(edge) => edge.position(),
+            LentEdge::OfGraph(edge) => edge.position(),
         }
     }
 
@@ -89,7 +90,7 @@ impl<'g> LentEdge<'g> {
     {
         match self {
             LentEdge::Whole(edge) => LentVertex::of(&edge.target),
-            LentEdge::OfTable(edge) => edge.target(),
+            LentEdge::OfGraph(edge) => edge.target(),
         }
     }
 }
@@ -148,7 +149,7 @@ enum Place<'g> {
     Head(&'g Vertex),
     HeadAt(TableVertex<'g>),
     Whole(Role, &'g Edge),
-    OfTable(Role, TableEdge<'g>),
+    OfGraph(Role, GraphEdge<'g>),
     Hole(Position, Sort),
     Conflict(Position, Sort, u64),
 }
@@ -188,7 +189,7 @@ impl<'g> LentNode<'g> {
     {
         let place = match edge {
             LentEdge::Whole(edge) => Place::Whole(role, edge),
-            LentEdge::OfTable(edge) => Place::OfTable(role, edge),
+            LentEdge::OfGraph(edge) => Place::OfGraph(role, edge),
         };
         LentNode { depth, place }
     }
@@ -231,7 +232,7 @@ impl<'g> LentNode<'g> {
         match self.place {
             Place::Head(_) | Place::HeadAt(_) => None,
             Place::Whole(_, edge) => Some(edge.position),
-            Place::OfTable(_, edge) => Some(edge.position()),
+            Place::OfGraph(_, edge) => Some(edge.position()),
             Place::Hole(position, _) | Place::Conflict(position, _, _) => Some(position),
         }
     }
@@ -243,7 +244,7 @@ impl<'g> LentNode<'g> {
     {
         match self.place {
             Place::Whole(_, edge) => Some(LentEdge::Whole(edge)),
-            Place::OfTable(_, edge) => Some(LentEdge::OfTable(edge)),
+            Place::OfGraph(_, edge) => Some(LentEdge::OfGraph(edge)),
             Place::Head(_) | Place::HeadAt(_) | Place::Hole(_, _) | Place::Conflict(_, _, _) => {
                 None
             }
@@ -258,7 +259,7 @@ impl<'g> LentNode<'g> {
             Place::Head(vertex) => LentWhat::Vertex(LentVertex::of(vertex)),
             Place::HeadAt(vertex) => LentWhat::Vertex(vertex.lent()),
             Place::Whole(role, edge) => LentWhat::in_role(role, LentVertex::of(&edge.target)),
-            Place::OfTable(role, edge) => LentWhat::in_role(role, edge.target()),
+            Place::OfGraph(role, edge) => LentWhat::in_role(role, edge.target()),
             Place::Hole(_, sort) => LentWhat::Hole(sort),
             Place::Conflict(_, sort, count) => LentWhat::Conflict(sort, count),
         }

@@ -33,7 +33,7 @@ fn read_lines(
     version: Version,
     lines: &[u8],
     seed: HashSeed,
-) -> Result<EditTableBuilder, TextFault>
+) -> Result<EditTableBuilder<'_>, TextFault>
     ensures spelled { IfOk result (λ table. SpellsAll version lines.now table.edits) }
     ensures fault { IfErr result (HasTextFault version lines.now) }
 {
@@ -79,11 +79,11 @@ fn most_lines(text: &[u8]) -> usize {
 }
 
 // The table of no edits, with room for so many.
-fn table_with_room(
+fn table_with_room<'t>(
     alloc: Global,
     count: usize,
     seed: HashSeed,
-) -> Result<EditTableBuilder, NoMemory>
+) -> Result<EditTableBuilder<'t>, NoMemory>
     ensures { IfOk result (λ table. table.edits ≡ []) }
 {
     let mut table = EditTableBuilder::with_seed(alloc, seed)?;

@@ -7,7 +7,7 @@ use Rattle.graph_table.proofs.Chains.{followed_none, followed_more, followed_all
 use Rattle.graph_table.proofs.following.push_indices.Goals as goal
 
 none : Link
-none = record { position = Main; target = 0; before = 0 }
+none = record { name = record { author = 0; counter = 0 }; position = Main; target = 0; before = 0 }
 
 pub loop-next-init : goal.loop-next-init
 loop-next-init c = followed_none c.args.links.now c.args.position c.args.out.now.items c.args.last c.requires
