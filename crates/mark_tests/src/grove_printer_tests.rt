@@ -3,6 +3,7 @@ ghost use Rattle.type_core.specs.Typ.{Typ};
 ghost use Rattle.marking.specs.Numbers.{IsAddedOf, AreMarkedNodesOf, IsMarkedGroveOf};
 
 use edit_table::EditTable;
+use graph_table::GraphTable;
 use grove_edits::{Edge, Edit, EditKind, EditList, Vertex};
 use grove_names::Name;
 use grove_printer::*;
@@ -175,7 +176,7 @@ fn an_injection_against_a_number_is_printed(rt: HostRuntime) -> Result<(), Fail>
 }
 
 #[test]
-fn nodes_of_a_table_are_printed(rt: HostRuntime) -> Result<(), Fail> {
+fn nodes_of_a_graph_by_numbers_are_printed(rt: HostRuntime) -> Result<(), Fail> {
     let types = TypeTable::new(rt.alloc())?;
     let edge = Edge {
         name: Name {
@@ -189,11 +190,15 @@ fn nodes_of_a_table_are_printed(rt: HostRuntime) -> Result<(), Fail> {
     let mut edits = EditList::new(rt.alloc());
     edits.push(Edit::new(EditKind::Insert, edge)?)?;
     let table = EditTable::of_list(rt.alloc(), &edits, HashSeed::FIXED)?;
-    if table.len() == 0 || table.vertex_count() == 0 {
+    if table.len() == 0 {
         return Err(Fail::from("an edge of the root"));
     }
-    let head = LentNode::head_at(table.vertex(0));
-    let child = LentNode::child(1, LentEdge::OfTable(table.edge(0)), Role::MultiRef);
+    let graph = GraphTable::of(rt.alloc(), table)?;
+    if graph.number_count() == 0 {
+        return Err(Fail::from("the root"));
+    }
+    let head = LentNode::head_at(graph.vertex(0));
+    let child = LentNode::child(1, LentEdge::OfGraph(graph.edge(0)), Role::MultiRef);
     let root = Vertex::ROOT;
     assert!(rt; head.node() == LentNode::head(&root).node());
     assert!(rt; child.node() == LentNode::child(1, LentEdge::Whole(&edge), Role::MultiRef).node());
