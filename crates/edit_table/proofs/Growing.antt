@@ -1,5 +1,5 @@
 -- A table that grows, whose last edits have no records yet.
-use Rattle.std.proofs.Common.{◌≡◌, ◌++◌, List, map, length, sym, ap, subst, ◌∙◌, arith}
+use Rattle.std.proofs.Common.{◌≡◌, ◌++◌, List, map, length, ap, subst, ◌∙◌, arith}
 use Rattle.std.specs.Prelude.{Result, Ok, Err, OnErr}
 use Rattle.grove_sorts.specs.declared.ctor.Ctor.{Ctor}
 use Rattle.grove_edits.specs.declared.edit.Edit.{Edit}
@@ -9,7 +9,7 @@ use Rattle.grove_edits.specs.SpelledEdit.{spelled_edit}
 use Rattle.edit_table.specs.declared.vertex_key.VertexKey.{VertexKey}
 use Rattle.edit_table.specs.declared.record.Record.{Record}
 use Rattle.edit_table.specs.Keys.{vertices_of, AreCtors, BeginsWith}
-use Rattle.edit_table.specs.Records.{edits_of, table_of, AreRecords}
+use Rattle.edit_table.specs.Records.{edits_of}
 use Rattle.edit_table.specs.Table.{Table}
 use Rattle.edit_table.specs.Waiting.{growing_table, IsGrowing}
 use Rattle.edit_table.proofs.Records.{records_back, table_back}

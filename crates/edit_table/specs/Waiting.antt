@@ -1,5 +1,5 @@
 -- Inner model, which no public contract cites: a table that grows, whose last edits have no records yet.
-use Rattle.std.specs.Prelude.{ℕ, ◌+◌, ◌<◌, ◌^◌, ◌++◌, List, map, length}
+use Rattle.std.specs.Prelude.{◌+◌, ◌<◌, ◌^◌, ◌++◌, List, map, length}
 use Rattle.grove_sorts.specs.declared.ctor.Ctor.{Ctor}
 use Rattle.grove_edits.specs.declared.spelled.SpelledEdit.{SpelledEdit}
 use Rattle.grove_edits.specs.SpelledEdit.{spelled_edit}

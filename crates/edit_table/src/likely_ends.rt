@@ -1,14 +1,11 @@
 use crate::numbering::{fixed_key, source_key};
-use crate::vertex_key::{VertexKey, are_neighbours};
+use crate::vertex_key::{NONE, VertexKey, are_neighbours};
 use grove_edits::{SpelledEdit, SpelledVertex, Vertex};
 use indexmap::IndexSet;
 use seeded_hash::HashSeed;
 
 /// How many edits may wait for their records.
 pub(crate) const WAITING: usize = 64;
-
-/// No vertex has this number.
-pub(crate) const NONE: u32 = u32::MAX;
 
 /// The numbers that the ends of some edits may have. They are a hint: what stands at a number is compared before it is taken.
 ///
@@ -43,16 +40,17 @@ impl LikelyEnds {
     }
 }
 
-// Sources and targets are looked up apart, since most sources are found, and most targets are not.
+// Sources and targets are looked up apart, since most sources are found, and most targets are not. One that is hashed like an end of the
+// edit before waits for nothing, and is left out.
 fn likely_sources(keys: &IndexSet<VertexKey, HashSeed>, edits: &[SpelledEdit]) -> [u32; WAITING] {
     let mut numbers = [NONE; WAITING];
-    let mut last = Vertex::ROOT.name;
+    let mut last = (Vertex::ROOT.name, Vertex::ROOT.name);
     for index in 0..edits.len().min(WAITING) {
         let key = source_key(&edits[index]);
-        if !are_neighbours(&key.name, &last) {
+        if !are_neighbours(&key.name, &last.0) && !are_neighbours(&key.name, &last.1) {
             numbers[index] = likely_number(keys, &key);
         }
-        last = edits[index].target().name;
+        last = (key.name, edits[index].target().name);
     }
     numbers
 }

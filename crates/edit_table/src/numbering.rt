@@ -9,10 +9,10 @@ ghost use Rattle.edit_table.specs.declared.vertex_key.VertexKey.{VertexKey};
 ghost use Rattle.edit_table.specs.Keys.{branch_key, branch_number, is_short, vertices_of, with_vertex, AreCtors, AreKeys, BeginsWith, IsCtorKeyOf};
 ghost use Rattle.edit_table.specs.Records.{edits_of, AreRecords};
 
-use crate::likely_ends::{LikelyEnds, NONE};
+use crate::likely_ends::LikelyEnds;
 use crate::no_memory::NoMemory;
 use crate::record::Record;
-use crate::vertex_key::{CtorKey, VertexKey};
+use crate::vertex_key::{CtorKey, NONE, VertexKey};
 use grove_edits::{SpelledEdit, SpelledVertex};
 use grove_sorts::{Branch, Ctor, SpelledCtor};
 use indexmap::IndexSet;
@@ -168,7 +168,9 @@ fn source_number(
     ensures few { OnOk result (length keys.new.keys < 2 ^ 32) }
     ensures unchanged { OnErr result (keys.new.keys ≡ keys.old.keys) }
 {
-    if likely == NONE && let Some(number) = number_again(keys, records, key) {
+    if likely == NONE
+        && let Some(number) = number_again(keys, records, key)
+    {
         return Ok(number);
     }
     key_number(keys, *key, likely)

@@ -8,11 +8,8 @@ ghost use Rattle.edit_table.specs.Renumbered.{AreRenumbered, DifferInNumber, Has
 
 use crate::no_memory::NoMemory;
 use crate::record::Record;
-use crate::vertex_key::VertexKey;
+use crate::vertex_key::{NONE, VertexKey};
 use std::alloc::Global;
-
-// No vertex has this number.
-const NONE: u32 = u32::MAX;
 
 /// Numbers the vertices of records anew, in the order in which they are met there; the root stays number 0. Gives their keys by the new
 /// numbers.

@@ -15,6 +15,9 @@ pub(crate) struct VertexKey {
     pub(crate) ctor: CtorKey,
 }
 
+/// No vertex has this number.
+pub(crate) const NONE: u32 = u32::MAX;
+
 // How many names that follow each other are hashed alike.
 const NEIGHBOURS: u64 = 16;
 

@@ -50,12 +50,13 @@ fn sum(alloc: Global) -> Result<EditList, Fail> {
 
 // Whether the edit of a table at an index is this one, by each of its parts.
 fn is_at(table: &EditTable, index: usize, edit: &Edit) -> bool {
-    if index >= table.len() || table.edge(index).edge() != edit.edge() {
+    if index >= table.len() {
         return false;
     }
-    let is_source = is_lent(&table.vertex(table.source(index)).lent(), &edit.source());
-    let is_target = is_lent(&table.edge(index).target(), edit.target());
-    is_source && is_target && table.kind(index) == edit.kind()
+    let is_named = table.name(index) == edit.name() && table.position(index) == edit.position();
+    let is_source = is_lent(&table.lent(table.source(index)), &edit.source());
+    let is_target = is_lent(&table.lent(table.target(index)), edit.target());
+    is_named && is_source && is_target && table.kind(index) == edit.kind()
 }
 
 fn are_alike(table: &EditTable, edits: &[Edit]) -> bool {
@@ -75,6 +76,30 @@ fn a_table_has_the_canonical_list(rt: HostRuntime) -> Result<(), Fail> {
     assert!(rt; canonical.len() == 4);
     assert!(rt; are_alike(&table, canonical.as_slice()));
     assert!(rt; table.vertex_count() == 4);
+    Ok(())
+}
+
+// More edits than wait for their records at a time. Each source is far from those before it, and each vertex comes again.
+fn scattered(alloc: Global) -> Result<EditList, Fail> {
+    let mut list = EditList::new(alloc);
+    for counter in 1..200 {
+        let source = vertex(counter * 37 % 101 + 1, Ctor::Plus);
+        let target = vertex(counter * 53 % 101 + 1, Ctor::Pair);
+        let edge = edge(counter, source, Position::Left, target);
+        list.push(Edit::insert(edge)?)?;
+    }
+    Ok(list)
+}
+
+#[test]
+fn edits_that_waited_have_their_records(rt: HostRuntime) -> Result<(), Fail> {
+    let list = scattered(rt.alloc())?;
+    let table = EditTable::of_list(rt.alloc(), &list, HashSeed::FIXED)?;
+    let canonical = list.into_canonical();
+    assert!(rt; table.len() == 199);
+    assert!(rt; are_alike(&table, canonical.as_slice()));
+    // The root, and two for each name.
+    assert!(rt; table.vertex_count() == 203);
     Ok(())
 }
 

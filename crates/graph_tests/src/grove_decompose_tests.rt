@@ -10,11 +10,11 @@ ghost use Rattle.grove_decompose.specs.Trees.{OnlyInner, vertices_of};
 
 use child_index::ChildIndex;
 use edge_lattice::State;
-use edit_table::EditTableBuilder;
+use edit_table::EditTable;
 use graph_store::GraphStore;
 use graph_table::GraphTable;
 use grove_decompose::*;
-use grove_edits::{Edge, Edit, SpelledEdit, Vertex};
+use grove_edits::{Edge, Edit, EditList, Vertex};
 use grove_names::Name;
 use grove_sorts::{Ctor, Position};
 use grove_terms::{Tree, What};
@@ -104,29 +104,23 @@ fn first_tree<'g>(
     }
 }
 
-// Appends the insertion of an edge.
-fn push(edits: &mut EditTableBuilder, inserted: Edge) -> Result<(), Fail> {
-    let edit = Edit::insert(inserted)?;
-    edits.push(&SpelledEdit::of(&edit))?;
-    Ok(())
-}
-
 // A sum of two numbers that are one vertex, and a cycle of two vertices.
 fn sample(alloc: Global) -> Result<GraphTable, Fail> {
     let sum = vertex(1, Ctor::Plus);
     let seven = vertex(2, Ctor::Num(7));
     let fst = vertex(3, Ctor::Fst);
     let snd = vertex(4, Ctor::Snd);
-    let mut edits = EditTableBuilder::with_seed(alloc, HashSeed::FIXED)?;
+    let mut edits = EditList::new(alloc);
     for inserted in [
         edge(6, sum, Position::Left, seven),
         edge(7, sum, Position::Right, seven),
         edge(8, fst, Position::Operand, snd),
         edge(9, snd, Position::Operand, fst),
     ] {
-        push(&mut edits, inserted)?;
+        edits.push(Edit::insert(inserted)?)?;
     }
-    Ok(GraphTable::of(alloc, edits.into_table(alloc)?)?)
+    let table = EditTable::of_list(alloc, &edits, HashSeed::FIXED)?;
+    Ok(GraphTable::of(alloc, table)?)
 }
 
 #[test]

@@ -1,7 +1,7 @@
 ghost use Rattle.std.specs.Prelude.{◌≡◌, Some, true, slice_get, IfOk};
 ghost use Rattle.walks.specs.declared.class.Class.TheVariants.{Inner};
 ghost use Rattle.walks.specs.Class.{class};
-ghost use Rattle.graph_table.specs.Table.{Table, live, vertex_at};
+ghost use Rattle.graph_table.specs.Table.{live, vertex_at};
 ghost use Rattle.grove_decompose.specs.Trees.{OnlyInner};
 
 use crate::no_memory::NoMemory;

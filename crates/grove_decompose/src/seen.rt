@@ -1,5 +1,4 @@
 ghost use Rattle.std.specs.Prelude.{◌≡◌, Some, true, slice_get, IfOk};
-ghost use Rattle.graph_table.specs.Table.{Table};
 ghost use Rattle.grove_decompose.specs.Trees.{OnlyInner};
 
 use crate::no_memory::NoMemory;
