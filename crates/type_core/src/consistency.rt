@@ -8,7 +8,7 @@ ghost use Rattle.type_core.specs.Pairings.{is_consistent_pairing, AreAnswers, Ve
 use crate::heads::{Heads, Pairing};
 use crate::no_memory::NoMemory;
 use crate::noted::{Noted, find, note, noted_at};
-use crate::relations::consistency;
+use crate::relations::{KEEP_EVERY, consistency};
 use crate::table::TypeTable;
 use crate::type_id::TypeId;
 use indexmap::IndexMap;
@@ -46,8 +46,8 @@ impl TypeTable {
         }
     }
 
-    /// Whether two types are consistent, as `consistent` says. The table keeps what it found of these two and of their parts, so that
-    /// it need not go over them again.
+    /// Whether two types are consistent, as `consistent` says. The table keeps what it found of these two and of some of their
+    /// parts, so that it need not go over them all again.
     pub fn relate(&mut self, alloc: Global, a: TypeId, b: TypeId) -> Result<bool, NoMemory>
         requires left { IsTypeOf self.old a }
         requires right { IsTypeOf self.old b }
@@ -77,14 +77,16 @@ impl TypeTable {
         Ok(consistent)
     }
 
-    // Keeps what was found of each of these pairings.
+    // Keeps what was found of some of these pairings, the last among them.
     fn keep_answers(&mut self, answers: &Noted<bool>) -> Result<(), NoMemory>
         requires { AreAnswers self.old answers.now.entries }
         ensures unchanged { self.new ≡ self.old }
     {
         for place in 0..answers.len() {
-            let (pairing, answer) = noted_at(answers, place);
-            self.keep(pairing, consistency(answer))?;
+            if place % KEEP_EVERY == 0 || place + 1 == answers.len() {
+                let (pairing, answer) = noted_at(answers, place);
+                self.keep(pairing, consistency(answer))?;
+            }
         }
         Ok(())
     }

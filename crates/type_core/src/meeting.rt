@@ -10,7 +10,7 @@ ghost use Rattle.type_core.specs.Noted.{noted_in};
 use crate::heads::{Heads, Pairing};
 use crate::no_memory::NoMemory;
 use crate::noted::{Noted, find, note};
-use crate::relations::Relation;
+use crate::relations::{KEEP_EVERY, Relation};
 use crate::table::TypeTable;
 use crate::type_id::TypeId;
 use indexmap::IndexMap;
@@ -83,6 +83,7 @@ impl TypeTable {
                 }
                 Step::Done(m) => {
                     let Some(next) = waiting.pop() else {
+                        self.keep(current, Relation::Meets(m))?;
                         return Ok(m);
                     };
                     note(&mut met, current, m)?;
@@ -92,7 +93,7 @@ impl TypeTable {
         }
     }
 
-    // Meets two types whose parts have been met, which is kept, or says which parts have not.
+    // Meets two types whose parts have been met, or says which parts have not. Some of the meets are kept.
     fn meet_step(&mut self, met: &Noted<TypeId>, pairing: Pairing) -> Result<Step, NoMemory>
         requires within { IsPairingOf self.old pairing }
         requires consistent { is_consistent_pairing self.old pairing ≡ true }
@@ -111,7 +112,9 @@ impl TypeTable {
                     return Ok(Step::Waits(second));
                 };
                 let meet = self.pair(former, first_meet, second_meet)?;
-                self.keep(pairing, Relation::Meets(meet))?;
+                if met.len() % KEEP_EVERY == 0 {
+                    self.keep(pairing, Relation::Meets(meet))?;
+                }
                 Ok(Step::Done(meet))
             }
         }

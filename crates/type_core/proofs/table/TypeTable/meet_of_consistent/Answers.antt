@@ -1,5 +1,6 @@
 use Rattle.std.proofs.Common.{subst, sym}
 use Rattle.type_core.specs.Meets.{StepOf}
+use Rattle.type_core.specs.TypeTable.{KeepsTypes}
 use Rattle.type_core.proofs.NodeLemmas.{KeepsTypes-trans}
 use Rattle.type_core.proofs.PathLemmas.{IsPath-current}
 use Rattle.type_core.proofs.MeetLemmas.{IsPending, IsMeeting, IsMeeting-waits, IsMeeting-done}
@@ -29,7 +30,7 @@ loop-waiting-preserved-in-Waits c =
 
 pub returns-in_default-clause-kept : goal.returns-in_default-clause-kept
 returns-in_default-clause-kept c =
-    KeepsTypes-trans c.args.self.now c.loop-waiting.self c.meet_step.new.self c.loop-waiting.invariant.meeting.kept c.meet_step.ensures.kept
+    subst (KeepsTypes c.args.self.now) (sym c.keep.ensures.unchanged) (KeepsTypes-trans c.args.self.now c.loop-waiting.self c.meet_step.new.self c.loop-waiting.invariant.meeting.kept c.meet_step.ensures.kept)
 
 pub note-requires : goal.note-requires
 note-requires c =
