@@ -8,4 +8,5 @@ pub mod PathLemmas
 pub mod AnswerLemmas
 pub mod MeetLemmas
 pub mod TextLemmas
+pub mod ShortTextLemmas
 pub mod RelationLemmas

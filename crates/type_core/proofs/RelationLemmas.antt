@@ -1,11 +1,12 @@
 -- What is kept of pairs of types stays right.
-use Rattle.std.proofs.Common.{◌≡◌, ◌⊎◌, inl, inr, true, false, cond, List, [], None, Some, sym, ap, subst, ◌∙◌}
+use Rattle.std.proofs.Common.{◌≡◌, ℕ, ◌⊎◌, inl, inr, true, false, cond, List, [], None, Some, sym, ap, subst, ◌∙◌}
 use Rattle.std.proofs.lemmas.Bool.{cases_Bool}
 use Rattle.std.specs.BTreeMap.{is_at}
 use Rattle.type_core.specs.declared.heads.Pairing.{Pairing}
 use Rattle.type_core.specs.declared.node.Node.{Node}
 use Rattle.type_core.specs.declared.relations.Relation.{Relation}
 use Rattle.type_core.specs.declared.relations.Relation.TheVariants.{Apart, Consistent, Meets}
+use Rattle.type_core.specs.declared.short_text.ShortText.{ShortText}
 use Rattle.type_core.specs.contracts.heads.PairingOrd.TheImpl as pairing_ord
 use Rattle.type_core.specs.contracts.heads.PairingOrd.TheImpl.Laws.{matches_eq-law}
 use Rattle.type_core.specs.Typ.{Typ}
@@ -14,6 +15,7 @@ use Rattle.type_core.specs.TypeTable.{IsTypeOf, type_at, KeepsTypes}
 use Rattle.type_core.specs.Heads.{IsPairingOf, meet_of}
 use Rattle.type_core.specs.Nodes.{types_of, IsTable}
 use Rattle.type_core.specs.Relations.{relation_in, IsRelationOf, AreRelations, IsWhole}
+use Rattle.type_core.specs.ShortTexts.{AreTexts}
 use Rattle.type_core.proofs.NodeLemmas.{IsTypeOf-kept}
 use Rattle.type_core.proofs.PairingEq.{sound}
 use Rattle.type_core.proofs.MeetLemmas.{IsPairingOf-kept, meet_of-kept, is_consistent-kept}
@@ -68,17 +70,20 @@ AreRelations-put table old new p r all within right updates = record {
     by_right q s (inr h) = all.right q s h
 
 -- the same, of a table
-pub IsWhole-put : (nodes : List Node) (table : List Typ) (old new : List (Pairing × Relation)) (p : Pairing) (r : Relation) → types_of nodes ≡ table → IsWhole nodes old → IsPairingOf table p
-    → IsRelationOf table p r → ((q : Pairing) → relation_in new q ≡ cond (is_at (pairing_ord.ghosts.cmp p) q) (Some r) (relation_in old q)) → IsWhole nodes new
-IsWhole-put nodes table old new p r view whole within right updates = record {
+pub IsWhole-put : (nodes : List Node) (table : List Typ) (old new : List (Pairing × Relation)) (places : List ShortText) (bytes : List ℕ) (p : Pairing) (r : Relation) → types_of nodes ≡ table
+    → IsWhole nodes old places bytes → IsPairingOf table p → IsRelationOf table p r
+    → ((q : Pairing) → relation_in new q ≡ cond (is_at (pairing_ord.ghosts.cmp p) q) (Some r) (relation_in old q)) → IsWhole nodes new places bytes
+IsWhole-put nodes table old new places bytes p r view whole within right updates = record {
   table = whole.table;
+  texts = whole.texts;
   right = AreRelations-put (types_of nodes) old new p r whole.right (subst (λ t. IsPairingOf t p) (sym view) within) (subst (λ t. IsRelationOf t p r) (sym view) right) updates;
 }
 
-pub IsWhole-grown : (nodes new : List Node) (table : List Typ) (relations : List (Pairing × Relation)) → types_of nodes ≡ table → IsWhole nodes relations → IsTable new → KeepsTypes table (types_of new)
-    → IsWhole new relations
-IsWhole-grown nodes new table relations view whole is_table kept = record {
+pub IsWhole-grown : (nodes new : List Node) (table : List Typ) (relations : List (Pairing × Relation)) (places places_new : List ShortText) (bytes bytes_new : List ℕ) → types_of nodes ≡ table
+    → IsWhole nodes relations places bytes → IsTable new → KeepsTypes table (types_of new) → AreTexts (types_of new) places_new bytes_new → IsWhole new relations places_new bytes_new
+IsWhole-grown nodes new table relations places places_new bytes bytes_new view whole is_table kept texts = record {
   table = is_table;
+  texts = texts;
   right = AreRelations-kept (types_of nodes) (types_of new) relations (subst (λ t. KeepsTypes t (types_of new)) (sym view) kept) whole.right;
 }
 

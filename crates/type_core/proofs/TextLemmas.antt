@@ -74,16 +74,6 @@ module _ (table : List Typ) (whole : List ℕ) (cost : ℕ) (rest : List Piece) 
     less = (let l = before.less in omega (arith, l, some));
   }
 
-  -- a pair of parts with fixed texts is written
-  pub Writes-pair : (t : TypeId) (levels : ℕ) (f : Former) (a b : TypeId) (k : ℕ) (first second : List ℕ) (waiting : List Piece) (now out_new : List ℕ)
-      → IsDescending table whole cost rest out t levels waiting now → FormOf table t levels (Parts f a b k) → type_text k (type_at table a) ≡ first
-      → type_text k (type_at table b) ≡ second → out_new ≡ now ++ (codes "(" ++ first ++ sign f ++ second ++ codes ")") → Writes table whole cost rest out waiting out_new
-  Writes-pair t levels f a b k first second waiting now out_new before form is_first is_second wrote =
-      Writes-fixed t levels (codes "(" ++ first ++ sign f ++ second ++ codes ")") waiting now out_new before
-      (form.2 ∙ ap (λ w. codes "(" ++ w ++ sign f ++ type_text k (type_at table b) ++ codes ")") is_first ∙ ap (λ w. codes "(" ++ first ++ sign f ++ w ++ codes ")") is_second)
-      (let c = form.3 in omega (arith, c))
-      wrote
-
 -- the sign is written, the bracket waits, and the second part is begun
 pub Writes-second : (table : List Typ) (f : Former) (b : TypeId) (k : ℕ) (rest waiting rest_new : List Piece) (out now out_new : List ℕ) → now ≡ out ++ sign f
     → waiting ≡ rest ++ Close ∷ [] → Writes table (type_text k (type_at table b)) (type_cost (type_at table b)) waiting now rest_new out_new

@@ -4,6 +4,7 @@ pub mod Nodes
 pub mod Pairings
 pub mod Pieces
 pub mod Relations
+pub mod ShortTexts
 pub mod Typ
 pub mod TypeTable
 pub mod TypCode

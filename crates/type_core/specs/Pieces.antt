@@ -35,7 +35,7 @@ total_cost table ps = sum_by (piece_cost table) ps
 
 -- how the text of a type is made
 abbrev pub FormOf : List Typ → TypeId → ℕ → Form → Type 0
-FormOf table id levels (Fixed text) = (type_text levels (type_at table id) ≡ text.now) × (0 < type_cost (type_at table id)) × (length text.now ≤ 4)
+FormOf table id levels (Fixed text) = (type_text levels (type_at table id) ≡ text.now) × (0 < type_cost (type_at table id))
 FormOf table id levels (Parts f a b below) = IsTypeOf table a × IsTypeOf table b
     × (type_text levels (type_at table id) ≡ codes "(" ++ type_text below (type_at table a) ++ sign f ++ type_text below (type_at table b) ++ codes ")")
     × (type_cost (type_at table a) + type_cost (type_at table b) + 2 < type_cost (type_at table id))

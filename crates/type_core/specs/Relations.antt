@@ -1,17 +1,19 @@
 -- What was found of pairs of types, as a table keeps it.
-use Rattle.std.specs.Prelude.{◌≡◌, true, false, List, Option, Some}
+use Rattle.std.specs.Prelude.{◌≡◌, ℕ, true, false, List, Option, Some}
 use Rattle.std.specs.BTreeMap.{is_at}
 use Rattle.std.specs.Map.{lookup}
 use Rattle.type_core.specs.declared.heads.Pairing.{Pairing}
 use Rattle.type_core.specs.declared.node.Node.{Node}
 use Rattle.type_core.specs.declared.relations.Relation.{Relation}
 use Rattle.type_core.specs.declared.relations.Relation.TheVariants.{Apart, Consistent, Meets}
+use Rattle.type_core.specs.declared.short_text.ShortText.{ShortText}
 use Rattle.type_core.specs.contracts.heads.PairingOrd.TheImpl as pairing_ord
 use Rattle.type_core.specs.Typ.{Typ}
 use Rattle.type_core.specs.TypeTable.{IsTypeOf, type_at}
 use Rattle.type_core.specs.Heads.{IsPairingOf, meet_of}
 use Rattle.type_core.specs.Pairings.{is_consistent_pairing}
 use Rattle.type_core.specs.Nodes.{types_of, IsTable}
+use Rattle.type_core.specs.ShortTexts.{AreTexts}
 
 -- what is kept of a pairing
 abbrev pub relation_in : List (Pairing × Relation) → Pairing → Option Relation
@@ -29,6 +31,7 @@ pub record AreRelations (table : List Typ) (relations : List (Pairing × Relatio
   pub right : (p : Pairing) (r : Relation) → relation_in relations p ≡ Some r → IsRelationOf table p r
 
 -- the nodes are a table's, and what is kept of its types is right
-pub record IsWhole (nodes : List Node) (relations : List (Pairing × Relation)) : Type 0 where
+pub record IsWhole (nodes : List Node) (relations : List (Pairing × Relation)) (places : List ShortText) (bytes : List ℕ) : Type 0 where
   pub table : IsTable nodes
   pub right : AreRelations (types_of nodes) relations
+  pub texts : AreTexts (types_of nodes) places bytes

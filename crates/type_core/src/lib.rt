@@ -12,6 +12,7 @@ mod no_memory;
 mod node;
 mod noted;
 mod relations;
+mod short_text;
 mod table;
 mod text;
 mod type_id;

@@ -9,6 +9,7 @@ use crate::heads::Pairing;
 use crate::no_memory::NoMemory;
 use crate::node::Node;
 use crate::relations::Relation;
+use crate::short_text::ShortTexts;
 use crate::type_id::TypeId;
 use indexmap::IndexSet;
 use seeded_hash::HashSeed;
@@ -29,6 +30,7 @@ pub struct TypeTable {
     nodes: IndexSet<Node, HashSeed>,
     // What was found of pairs of types. Ordered, so that nobody makes it slow by the types that they choose.
     pub(crate) relations: BTreeMap<Pairing, Relation>,
+    pub(crate) texts: ShortTexts,
 }
 
 impl Model for TypeTable {
@@ -46,7 +48,7 @@ impl Model for TypeTable {
 
     ghost view = { λ t. types_of t.nodes.keys };
 
-    ghost invariant = { λ t. IsWhole t.nodes.keys t.relations.entries };
+    ghost invariant = { λ t. IsWhole t.nodes.keys t.relations.entries t.texts.places.items t.texts.bytes.items };
 }
 
 // The nodes of a table of the unknown type and the base types.
@@ -92,6 +94,7 @@ impl TypeTable {
         Ok(TypeTable {
             nodes,
             relations: BTreeMap::new(alloc),
+            texts: ShortTexts::new(alloc)?,
         })
     }
 
@@ -236,7 +239,12 @@ impl TypeTable {
         ensures kept { KeepsTypes self.old self.new }
         ensures unchanged { OnErr result (self.new ≡ self.old) }
     {
+        self.texts.reserve()?;
         let place = place_of(&mut self.nodes, Node::Pair(former, first, second))?;
+        // Each node has a place among the texts, so a new one is the one without.
+        if self.nodes.len() > self.texts.len() {
+            self.texts.push_pair(former, first, second);
+        }
         Ok(TypeId(place))
     }
 }

@@ -9,7 +9,10 @@ use crate::no_memory::NoMemory;
 use crate::node::Node;
 use crate::table::TypeTable;
 use crate::type_id::TypeId;
-use text_parts::{put_short, write_short};
+use text_parts::write_short;
+
+// A longer text is copied as a whole, which costs a call.
+const LONGEST_BY_BYTES: usize = 8;
 
 // A piece of a type's text that is still to be written.
 #[derive(Clone, Copy)]
@@ -21,8 +24,8 @@ enum Piece {
 
 // How a type is written.
 #[derive(Clone, Copy)]
-enum Form {
-    Fixed(&'static [u8]),
+enum Form<'t> {
+    Fixed(&'t [u8]),
     // The two parts down to so many levels, round the sign.
     Parts(Former, TypeId, TypeId, u32),
 }
@@ -36,7 +39,7 @@ impl TypeTable {
         ensures unchanged { OnErr result (out.new.items ≡ out.old.items) }
     {
         match self.form(t, levels) {
-            Form::Fixed(text) => Ok(write_short(text, out)?),
+            Form::Fixed(text) => append_fixed(text, out),
             Form::Parts(_, _, _, _) => self.write_parts(t, levels, out),
         }
     }
@@ -69,8 +72,8 @@ impl TypeTable {
         Ok(())
     }
 
-    // Appends the text of a type up to the end of the first part in it that is written at once: one with a fixed text, or whose own
-    // parts both have one. What is left stands at the end of `rest`, the next piece last.
+    // Appends the text of a type up to the end of the first part in it with a fixed text. What is left stands at the end of `rest`, the
+    // next piece last.
     fn append_first(
         &self,
         t: TypeId,
@@ -86,11 +89,8 @@ impl TypeTable {
         let mut depth = levels;
         loop {
             match self.form(id, depth) {
-                Form::Fixed(text) => return Ok(write_short(text, out)?),
+                Form::Fixed(text) => return append_fixed(text, out),
                 Form::Parts(former, first, second, below) => {
-                    if let Some(texts) = self.fixed_parts(first, second, below) {
-                        return append_pair(former, texts.0, texts.1, out);
-                    }
                     out.push(b'(')?;
                     rest.push(Piece::Second(former, second, below))?;
                     id = first;
@@ -122,29 +122,8 @@ impl TypeTable {
         Ok(())
     }
 
-    // The texts of two parts, where both are fixed.
-    fn fixed_parts(
-        &self,
-        first: TypeId,
-        second: TypeId,
-        levels: u32,
-    ) -> Option<(&'static [u8], &'static [u8])>
-        requires first { IsTypeOf self.now first }
-        requires second { IsTypeOf self.now second }
-        ensures first { IfSome result (λ texts. type_text levels (type_at self.now first) ≡ texts.0.now) }
-        ensures second { IfSome result (λ texts. type_text levels (type_at self.now second) ≡ texts.1.now) }
-        ensures short { IfSome result (λ texts. (length texts.0.now ≤ 4) × (length texts.1.now ≤ 4)) }
-    {
-        let Form::Fixed(before) = self.form(first, levels) else {
-            return None;
-        };
-        let Form::Fixed(after) = self.form(second, levels) else {
-            return None;
-        };
-        Some((before, after))
-    }
-
-    fn form(&self, id: TypeId, levels: u32) -> Form
+    // The text of a type is fixed where it is kept, and where the type has no parts or no level is left for them.
+    fn form(&self, id: TypeId, levels: u32) -> Form<'_>
         requires { IsTypeOf self.now id }
         ensures { FormOf self.now id levels result }
     {
@@ -152,35 +131,37 @@ impl TypeTable {
             Node::Unknown => Form::Fixed(b"?"),
             Node::Num => Form::Fixed(b"num"),
             Node::Boolean => Form::Fixed(b"bool"),
-            Node::Pair(former, first, second) => {
-                if levels == 0 {
-                    Form::Fixed(b"..")
-                } else {
-                    Form::Parts(former, first, second, levels - 1)
-                }
-            }
+            Node::Pair(former, first, second) => match self.kept_text(id, levels) {
+                Some(text) => Form::Fixed(text),
+                None if levels == 0 => Form::Fixed(b".."),
+                None => Form::Parts(former, first, second, levels - 1),
+            },
         }
+    }
+
+    // The text of a type with so many levels, where it is kept.
+    fn kept_text(&self, id: TypeId, levels: u32) -> Option<&[u8]>
+        requires { IsTypeOf self.now id }
+        ensures { IfSome result (λ text. type_text levels (type_at self.now id) ≡ text.now) }
+    {
+        let place = self.texts.places[id.0 as usize];
+        if place.len == 0 || u32::from(place.depth) > levels {
+            return None;
+        }
+        Some(&self.texts.bytes[place.start..place.start + usize::from(place.len)])
     }
 }
 
-// Appends a pair of parts whose texts are fixed. Room for the longest, `(bool->bool)`, is made first, so that no byte asks for its own.
-fn append_pair(
-    former: Former,
-    first: &[u8],
-    second: &[u8],
-    out: &mut Vec<u8>,
-) -> Result<(), NoMemory>
-    requires first { length first.now ≤ 4 }
-    requires second { length second.now ≤ 4 }
-    ensures written { OnOk result (out.new.items ≡ out.old.items ++ (codes "(" ++ first.now ++ typ.sign former ++ second.now ++ codes ")")) }
+// Appends a fixed text.
+fn append_fixed(text: &[u8], out: &mut Vec<u8>) -> Result<(), NoMemory>
+    ensures appended { OnOk result (out.new.items ≡ out.old.items ++ text.now) }
     ensures unchanged { OnErr result (out.new.items ≡ out.old.items) }
 {
-    out.reserve(12)?;
-    out.push_reserved(b'(');
-    put_short(first, out);
-    put_sign(former, out);
-    put_short(second, out);
-    out.push_reserved(b')');
+    if text.len() <= LONGEST_BY_BYTES {
+        write_short(text, out)?;
+    } else {
+        out.extend_from_slice(text)?;
+    }
     Ok(())
 }
 
@@ -195,7 +176,7 @@ fn append_sign(former: Former, out: &mut Vec<u8>) -> Result<(), NoMemory>
 }
 
 // The same where there is room for it.
-fn put_sign(former: Former, out: &mut Vec<u8>)
+pub(crate) fn put_sign(former: Former, out: &mut Vec<u8>)
     requires room { vec_len out.old + 2 ≤ vec_capacity out.old }
     ensures written { out.new.items ≡ out.old.items ++ typ.sign former }
     ensures len { vec_len out.new ≤ vec_len out.old + 2 }

@@ -1,6 +1,6 @@
 use Rattle.std.proofs.Common.{arith, refl}
 use Rattle.std.proofs.lemmas.Result.{on_ok_weaker}
-use Rattle.type_core.proofs.TextLemmas.{Lengthens-trans, Lengthens-refl, Lengthens-appended, IsDescending-step, Writes-fixed, Writes-pair}
+use Rattle.type_core.proofs.TextLemmas.{Lengthens-trans, Lengthens-refl, Lengthens-appended, IsDescending-step, Writes-fixed}
 use Rattle.type_core.proofs.table.TypeTable.append_first.Goals as goal
 
 pub loop-text-init : goal.loop-text-init
@@ -14,25 +14,14 @@ loop-text-init c = record {
 
 pub returns-in-Fixed-clause-written : goal.returns-in-Fixed-clause-written
 returns-in-Fixed-clause-written c =
-    Writes-fixed c.args.self.now _ _ _ _ c.loop-text.id c.loop-text.depth c.in-Fixed.text.now _ _ _ c.loop-text.invariant c.in-Fixed.ensures.0 c.in-Fixed.ensures.1
-    c.in_ok-write_short-in-Fixed.ensures.appended
-
-pub returns-in-Some-clause-written : goal.returns-in-Some-clause-written
-returns-in-Some-clause-written c =
-    on_ok_weaker c.append_pair.result
-    (Writes-pair c.args.self.now _ _ _ _ c.loop-text.id c.loop-text.depth c.in-Parts.former c.in-Parts.first c.in-Parts.second c.in-Parts.below c.in-Some.texts.0.now c.in-Some.texts.1.now
-    _ _ _ c.loop-text.invariant c.in-Parts.ensures c.in-Some.ensures.first c.in-Some.ensures.second)
-    c.append_pair.ensures.written
+    on_ok_weaker c.append_fixed.result
+    (Writes-fixed c.args.self.now _ _ _ _ c.loop-text.id c.loop-text.depth c.in-Fixed.text.now _ _ _ c.loop-text.invariant c.in-Fixed.ensures.0 c.in-Fixed.ensures.1)
+    c.append_fixed.ensures.appended
 
 pub returns-in-Fixed-clause-longer : goal.returns-in-Fixed-clause-longer
 returns-in-Fixed-clause-longer c =
     Lengthens-trans c.args.out.now.items c.loop-text.out.items _ c.loop-text.invariant.longer
-    (record { more = _; longer = c.in_ok-write_short-in-Fixed.ensures.appended })
-
-pub returns-in-Some-clause-longer : goal.returns-in-Some-clause-longer
-returns-in-Some-clause-longer c =
-    Lengthens-trans c.args.out.now.items c.loop-text.out.items _ c.loop-text.invariant.longer
-    (Lengthens-appended c.append_pair.result _ _ _ c.append_pair.ensures.written c.append_pair.ensures.unchanged)
+    (Lengthens-appended c.append_fixed.result _ _ _ c.append_fixed.ensures.appended c.append_fixed.ensures.unchanged)
 
 pub returns-in_err-push-in-Parts-2-clause-longer :
     goal.returns-in_err-push-in-Parts-2-clause-longer
