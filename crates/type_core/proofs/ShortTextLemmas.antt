@@ -1,11 +1,10 @@
 -- The texts of types that are kept where they are short.
-use Rattle.std.proofs.Common.{◌≡◌, ℕ, ◌+◌, ◌-◌, ◌<◌, ◌≤◌, ◌⊎◌, inl, inr, List, [], ◌∷◌, ◌++◌, length, take, drop, get_or, All, refl, sym, ap, subst, ◌∙◌, arith}
+use Rattle.std.proofs.Common.{◌≡◌, ℕ, ◌+◌, ◌-◌, ◌<◌, ◌≤◌, ◌⊎◌, inl, inr, List, [], ◌∷◌, ◌++◌, length, take, drop, get_or, sym, ap, subst, ◌∙◌, arith}
 use Rattle.std.proofs.lemmas.List.{drop-append-le, take-append-le, length-append, length-drop, length_push, get_or_append_left, get_or_push}
 use Rattle.std.proofs.lemmas.List.Elements.{All-push}
 use Rattle.std.proofs.lemmas.Bool.{cases_order}
-use Rattle.type_core.specs.declared.former.Former.{Former}
 use Rattle.type_core.specs.declared.short_text.ShortText.{ShortText}
-use Rattle.type_core.specs.Typ.{Typ, Pair}
+use Rattle.type_core.specs.Typ.{Typ}
 use Rattle.type_core.specs.Typ as typ
 use Rattle.type_core.specs.TypeTable.{HasAdded}
 use Rattle.type_core.specs.Pieces.{Lengthens}

@@ -1,5 +1,5 @@
 -- The pieces of a type's text that are still to be written.
-use Rattle.std.specs.Prelude.{◌≡◌, ℕ, ◌+◌, ◌<◌, ◌≤◌, List, [], ◌∷◌, ◌++◌, All, length, sum_by, codes}
+use Rattle.std.specs.Prelude.{◌≡◌, ℕ, ◌+◌, ◌<◌, List, [], ◌∷◌, ◌++◌, All, sum_by, codes}
 use Rattle.type_core.specs.declared.text.Piece.{Piece}
 use Rattle.type_core.specs.declared.text.Piece.TheVariants.{Second, Close}
 use Rattle.type_core.specs.declared.type_id.TypeId.{TypeId}

@@ -49,9 +49,21 @@ impl ShortTexts {
         let mut bytes = Vec::new(alloc);
         bytes.extend_from_slice(b"?numbool")?;
         let mut places = Vec::new(alloc);
-        places.push(ShortText { start: 0, len: 1, depth: 0 })?;
-        places.push(ShortText { start: 1, len: 3, depth: 0 })?;
-        places.push(ShortText { start: 4, len: 4, depth: 0 })?;
+        places.push(ShortText {
+            start: 0,
+            len: 1,
+            depth: 0,
+        })?;
+        places.push(ShortText {
+            start: 1,
+            len: 3,
+            depth: 0,
+        })?;
+        places.push(ShortText {
+            start: 4,
+            len: 4,
+            depth: 0,
+        })?;
         Ok(ShortTexts { places, bytes })
     }
 
