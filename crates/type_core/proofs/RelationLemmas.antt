@@ -6,7 +6,7 @@ use Rattle.type_core.specs.declared.heads.Pairing.{Pairing}
 use Rattle.type_core.specs.declared.node.Node.{Node}
 use Rattle.type_core.specs.declared.relations.Relation.{Relation}
 use Rattle.type_core.specs.declared.relations.Relation.TheVariants.{Apart, Consistent, Meets}
-use Rattle.type_core.specs.declared.short_text.ShortText.{ShortText}
+use Rattle.type_core.specs.declared.short_text.TypeTexts.{TypeTexts}
 use Rattle.type_core.specs.contracts.heads.PairingOrd.TheImpl as pairing_ord
 use Rattle.type_core.specs.contracts.heads.PairingOrd.TheImpl.Laws.{matches_eq-law}
 use Rattle.type_core.specs.Typ.{Typ}
@@ -70,7 +70,7 @@ AreRelations-put table old new p r all within right updates = record {
     by_right q s (inr h) = all.right q s h
 
 -- the same, of a table
-pub IsWhole-put : (nodes : List Node) (table : List Typ) (old new : List (Pairing × Relation)) (places : List ShortText) (bytes : List ℕ) (p : Pairing) (r : Relation) → types_of nodes ≡ table
+pub IsWhole-put : (nodes : List Node) (table : List Typ) (old new : List (Pairing × Relation)) (places : List TypeTexts) (bytes : List ℕ) (p : Pairing) (r : Relation) → types_of nodes ≡ table
     → IsWhole nodes old places bytes → IsPairingOf table p → IsRelationOf table p r
     → ((q : Pairing) → relation_in new q ≡ cond (is_at (pairing_ord.ghosts.cmp p) q) (Some r) (relation_in old q)) → IsWhole nodes new places bytes
 IsWhole-put nodes table old new places bytes p r view whole within right updates = record {
@@ -79,7 +79,7 @@ IsWhole-put nodes table old new places bytes p r view whole within right updates
   right = AreRelations-put (types_of nodes) old new p r whole.right (subst (λ t. IsPairingOf t p) (sym view) within) (subst (λ t. IsRelationOf t p r) (sym view) right) updates;
 }
 
-pub IsWhole-grown : (nodes new : List Node) (table : List Typ) (relations : List (Pairing × Relation)) (places places_new : List ShortText) (bytes bytes_new : List ℕ) → types_of nodes ≡ table
+pub IsWhole-grown : (nodes new : List Node) (table : List Typ) (relations : List (Pairing × Relation)) (places places_new : List TypeTexts) (bytes bytes_new : List ℕ) → types_of nodes ≡ table
     → IsWhole nodes relations places bytes → IsTable new → KeepsTypes table (types_of new) → AreTexts (types_of new) places_new bytes_new → IsWhole new relations places_new bytes_new
 IsWhole-grown nodes new table relations places places_new bytes bytes_new view whole is_table kept texts = record {
   table = is_table;

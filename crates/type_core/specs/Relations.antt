@@ -6,7 +6,7 @@ use Rattle.type_core.specs.declared.heads.Pairing.{Pairing}
 use Rattle.type_core.specs.declared.node.Node.{Node}
 use Rattle.type_core.specs.declared.relations.Relation.{Relation}
 use Rattle.type_core.specs.declared.relations.Relation.TheVariants.{Apart, Consistent, Meets}
-use Rattle.type_core.specs.declared.short_text.ShortText.{ShortText}
+use Rattle.type_core.specs.declared.short_text.TypeTexts.{TypeTexts}
 use Rattle.type_core.specs.contracts.heads.PairingOrd.TheImpl as pairing_ord
 use Rattle.type_core.specs.Typ.{Typ}
 use Rattle.type_core.specs.TypeTable.{IsTypeOf, type_at}
@@ -31,7 +31,7 @@ pub record AreRelations (table : List Typ) (relations : List (Pairing × Relatio
   pub right : (p : Pairing) (r : Relation) → relation_in relations p ≡ Some r → IsRelationOf table p r
 
 -- the nodes are a table's, and what is kept of its types is right
-pub record IsWhole (nodes : List Node) (relations : List (Pairing × Relation)) (places : List ShortText) (bytes : List ℕ) : Type 0 where
+pub record IsWhole (nodes : List Node) (relations : List (Pairing × Relation)) (places : List TypeTexts) (bytes : List ℕ) : Type 0 where
   pub table : IsTable nodes
   pub right : AreRelations (types_of nodes) relations
   pub texts : AreTexts (types_of nodes) places bytes

@@ -7,6 +7,7 @@ ghost use Rattle.type_core.specs.Pieces.{IsPieceOf, piece_text, piece_cost, type
 use crate::former::Former;
 use crate::no_memory::NoMemory;
 use crate::node::Node;
+use crate::short_text::KEPT_LEVELS;
 use crate::table::TypeTable;
 use crate::type_id::TypeId;
 use text_parts::write_short;
@@ -139,16 +140,18 @@ impl TypeTable {
         }
     }
 
-    // The text of a type with so many levels, where it is kept.
+    // The text of a type with so many levels, where it is kept: with just as many as are kept, or with more where the type has no more.
     fn kept_text(&self, id: TypeId, levels: u32) -> Option<&[u8]>
         requires { IsTypeOf self.now id }
         ensures { IfSome result (λ text. type_text levels (type_at self.now id) ≡ text.now) }
     {
-        let place = self.texts.places[id.0 as usize];
-        if place.len == 0 || u32::from(place.depth) > levels {
+        let texts = self.texts.places[id.0 as usize];
+        let kept_levels = u32::from(KEPT_LEVELS);
+        if levels < kept_levels || (levels > kept_levels && texts.depth > KEPT_LEVELS) {
             return None;
         }
-        Some(&self.texts.bytes[place.start..place.start + usize::from(place.len)])
+        let text = texts.two;
+        Some(&self.texts.bytes[text.start..text.start + usize::from(text.len)])
     }
 }
 
