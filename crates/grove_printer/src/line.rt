@@ -9,18 +9,19 @@ use crate::marks::append_marks;
 use crate::no_memory::NoMemory;
 use grove_terms::LentNode;
 use marking::Added;
-use type_core::TypeTable;
+use type_core::TypePrinter;
 
 /// Appends the line of a node and what marking adds to it; after an error a part of it may stand.
 pub(crate) fn append_line(
     node: &LentNode,
     added: &Added,
-    types: &TypeTable,
+    types: &mut TypePrinter,
     out: &mut Vec<u8>,
 ) -> Result<(), NoMemory>
-    requires { IsMarkedNodeOf types.now (with_added node.now added.now) }
-    ensures appended { OnOk result (out.new.items ≡ out.old.items ++ node_line (meant types.now (with_added node.now added.now))) }
+    requires { IsMarkedNodeOf types.old (with_added node.now added.now) }
+    ensures appended { OnOk result (out.new.items ≡ out.old.items ++ node_line (meant types.old (with_added node.now added.now))) }
     ensures in_part { OnErr result (Extends out.old.items out.new.items) }
+    ensures same_types { types.new ≡ types.old }
 {
     append_columns(node, out)?;
     out.push(b' ')?;

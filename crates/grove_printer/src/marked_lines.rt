@@ -6,7 +6,7 @@ ghost use Rattle.grove_printer.specs.Print.{Extends, tree_marked_lines, trees_ma
 use crate::line::{append_line, whole_or_nothing};
 use crate::no_memory::NoMemory;
 use marking::{MarkedGrove, MarkedTree};
-use type_core::TypeTable;
+use type_core::{TypePrinter, TypeTable};
 
 /// Appends the lines of the print text whose nodes have a mark, without headings.
 pub fn print_marked_lines(
@@ -19,7 +19,8 @@ pub fn print_marked_lines(
     ensures unchanged { OnErr result (out.new.items ≡ out.old.items) }
 {
     let start = out.len();
-    let written = append_marked_lines(marked, types, out);
+    let mut printer = TypePrinter::new(*out.allocator(), types);
+    let written = append_marked_lines(marked, &mut printer, out);
     whole_or_nothing(written, start, out)
 }
 
@@ -34,7 +35,8 @@ pub fn print_marked_lines_of(
     ensures unchanged { OnErr result (out.new.items ≡ out.old.items) }
 {
     let start = out.len();
-    let written = append_of_tree(tree, types, out);
+    let mut printer = TypePrinter::new(*out.allocator(), types);
+    let written = append_of_tree(tree, &mut printer, out);
     whole_or_nothing(written, start, out)
 }
 
@@ -42,12 +44,13 @@ pub fn print_marked_lines_of(
 
 fn append_marked_lines(
     marked: &MarkedGrove,
-    types: &TypeTable,
+    types: &mut TypePrinter,
     out: &mut Vec<u8>,
 ) -> Result<(), NoMemory>
-    requires { IsMarkedGroveOf types.now marked.now }
-    ensures appended { OnOk result (out.new.items ≡ out.old.items ++ marked_lines (meant_grove types.now marked.now)) }
+    requires { IsMarkedGroveOf types.old marked.now }
+    ensures appended { OnOk result (out.new.items ≡ out.old.items ++ marked_lines (meant_grove types.old marked.now)) }
     ensures in_part { OnErr result (Extends out.old.items out.new.items) }
+    ensures same_types { types.new ≡ types.old }
 {
     append_of_trees(marked.none.as_slice(), types, out)?;
     append_of_trees(marked.multi.as_slice(), types, out)?;
@@ -56,12 +59,13 @@ fn append_marked_lines(
 
 fn append_of_trees(
     trees: &[MarkedTree],
-    types: &TypeTable,
+    types: &mut TypePrinter,
     out: &mut Vec<u8>,
 ) -> Result<(), NoMemory>
-    requires { AreMarkedListsOf types.now trees.now }
-    ensures appended { OnOk result (out.new.items ≡ out.old.items ++ trees_marked_lines (map (meant_nodes types.now) trees.now)) }
+    requires { AreMarkedListsOf types.old trees.now }
+    ensures appended { OnOk result (out.new.items ≡ out.old.items ++ trees_marked_lines (map (meant_nodes types.old) trees.now)) }
     ensures in_part { OnErr result (Extends out.old.items out.new.items) }
+    ensures same_types { types.new ≡ types.old }
 {
     for tree in trees {
         append_of_tree(tree, types, out)?;
@@ -69,10 +73,15 @@ fn append_of_trees(
     Ok(())
 }
 
-fn append_of_tree(tree: &MarkedTree, types: &TypeTable, out: &mut Vec<u8>) -> Result<(), NoMemory>
-    requires { AreMarkedNodesOf types.now tree.now }
-    ensures appended { OnOk result (out.new.items ≡ out.old.items ++ tree_marked_lines (meant_nodes types.now tree.now)) }
+fn append_of_tree(
+    tree: &MarkedTree,
+    types: &mut TypePrinter,
+    out: &mut Vec<u8>,
+) -> Result<(), NoMemory>
+    requires { AreMarkedNodesOf types.old tree.now }
+    ensures appended { OnOk result (out.new.items ≡ out.old.items ++ tree_marked_lines (meant_nodes types.old tree.now)) }
     ensures in_part { OnErr result (Extends out.old.items out.new.items) }
+    ensures same_types { types.new ≡ types.old }
 {
     for (node, added) in tree.nodes().iter().zip(tree.added()) {
         if added.mark.is_some() {

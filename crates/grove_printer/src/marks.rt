@@ -14,10 +14,10 @@ use grove_terms::{LentNode, LentWhat};
 use mark_step::{Mark, Mode};
 use marking::Added;
 use text_parts::write_short;
-use type_core::{TypeId, TypeTable};
+use type_core::{TypeId, TypePrinter};
 
 /// How many levels of a type are printed.
-const LEVELS: u32 = 8;
+const LEVELS: u8 = 8;
 
 // After an error each of these functions may have appended a part.
 
@@ -25,12 +25,13 @@ const LEVELS: u32 = 8;
 pub(crate) fn append_marks(
     node: &LentNode,
     added: &Added,
-    types: &TypeTable,
+    types: &mut TypePrinter,
     out: &mut Vec<u8>,
 ) -> Result<(), NoMemory>
-    requires { IsMarkedNodeOf types.now (with_added node.now added.now) }
-    ensures appended { OnOk result (out.new.items ≡ out.old.items ++ mark_columns (meant types.now (with_added node.now added.now))) }
+    requires { IsMarkedNodeOf types.old (with_added node.now added.now) }
+    ensures appended { OnOk result (out.new.items ≡ out.old.items ++ mark_columns (meant types.old (with_added node.now added.now))) }
     ensures in_part { OnErr result (Extends out.old.items out.new.items) }
+    ensures same_types { types.new ≡ types.old }
 {
     append_mode(sort_of_node(&node.what()), added.mode, types, out)?;
     out.push(b' ')?;
@@ -43,12 +44,13 @@ pub(crate) fn append_marks(
 fn append_mode(
     sort: Sort,
     mode: Option<Mode>,
-    types: &TypeTable,
+    types: &mut TypePrinter,
     out: &mut Vec<u8>,
 ) -> Result<(), NoMemory>
-    requires { IfSome mode (IsModeOf types.now) }
-    ensures appended { OnOk result (out.new.items ≡ out.old.items ++ mode_column sort (option_map (wanted_at types.now) mode)) }
+    requires { IfSome mode (IsModeOf types.old) }
+    ensures appended { OnOk result (out.new.items ≡ out.old.items ++ mode_column sort (option_map (wanted_at types.old) mode)) }
     ensures in_part { OnErr result (Extends out.old.items out.new.items) }
+    ensures same_types { types.new ≡ types.old }
 {
     match mode {
         None => write_sort(sort, out)?,
@@ -61,10 +63,15 @@ fn append_mode(
     Ok(())
 }
 
-fn append_type(typ: Option<TypeId>, types: &TypeTable, out: &mut Vec<u8>) -> Result<(), NoMemory>
-    requires { IfSome typ (IsTypeOf types.now) }
-    ensures appended { OnOk result (out.new.items ≡ out.old.items ++ type_column (option_map (type_at types.now) typ)) }
+fn append_type(
+    typ: Option<TypeId>,
+    types: &mut TypePrinter,
+    out: &mut Vec<u8>,
+) -> Result<(), NoMemory>
+    requires { IfSome typ (IsTypeOf types.old) }
+    ensures appended { OnOk result (out.new.items ≡ out.old.items ++ type_column (option_map (type_at types.old) typ)) }
     ensures in_part { OnErr result (Extends out.old.items out.new.items) }
+    ensures same_types { types.new ≡ types.old }
 {
     match typ {
         None => out.push(b'-')?,

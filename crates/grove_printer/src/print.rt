@@ -8,7 +8,7 @@ use crate::no_memory::NoMemory;
 use crate::section::Section;
 use marking::{MarkedGrove, MarkedTree, MarkedTreeList};
 use text_parts::{write_number, write_short};
-use type_core::TypeTable;
+use type_core::{TypePrinter, TypeTable};
 
 /// Appends the print text of a marked grove: under a heading for each of its three lists a line for each node of its trees.
 pub fn print_grove(
@@ -21,7 +21,8 @@ pub fn print_grove(
     ensures unchanged { OnErr result (out.new.items ≡ out.old.items) }
 {
     let start = out.len();
-    let written = append_grove(marked, types, out);
+    let mut printer = TypePrinter::new(*out.allocator(), types);
+    let written = append_grove(marked, &mut printer, out);
     whole_or_nothing(written, start, out)
 }
 
@@ -42,16 +43,22 @@ pub fn print_tree(tree: &MarkedTree, types: &TypeTable, out: &mut Vec<u8>) -> Re
     ensures unchanged { OnErr result (out.new.items ≡ out.old.items) }
 {
     let start = out.len();
-    let written = append_tree(tree, types, out);
+    let mut printer = TypePrinter::new(*out.allocator(), types);
+    let written = append_tree(tree, &mut printer, out);
     whole_or_nothing(written, start, out)
 }
 
 // After an error each of these functions may have appended a part.
 
-fn append_grove(marked: &MarkedGrove, types: &TypeTable, out: &mut Vec<u8>) -> Result<(), NoMemory>
-    requires { IsMarkedGroveOf types.now marked.now }
-    ensures appended { OnOk result (out.new.items ≡ out.old.items ++ print_text (meant_grove types.now marked.now)) }
+fn append_grove(
+    marked: &MarkedGrove,
+    types: &mut TypePrinter,
+    out: &mut Vec<u8>,
+) -> Result<(), NoMemory>
+    requires { IsMarkedGroveOf types.old marked.now }
+    ensures appended { OnOk result (out.new.items ≡ out.old.items ++ print_text (meant_grove types.old marked.now)) }
     ensures in_part { OnErr result (Extends out.old.items out.new.items) }
+    ensures same_types { types.new ≡ types.old }
 {
     append_section(Section::NoParent, &marked.none, types, out)?;
     append_section(Section::Multi, &marked.multi, types, out)?;
@@ -61,13 +68,14 @@ fn append_grove(marked: &MarkedGrove, types: &TypeTable, out: &mut Vec<u8>) -> R
 fn append_section(
     section: Section,
     trees: &MarkedTreeList,
-    types: &TypeTable,
+    types: &mut TypePrinter,
     out: &mut Vec<u8>,
 ) -> Result<(), NoMemory>
-    requires { AreMarkedListsOf types.now trees.now }
+    requires { AreMarkedListsOf types.old trees.now }
     ensures appended { OnOk result (out.new.items ≡ out.old.items
-        ++ (heading section (length trees.now) ++ trees_text (map (meant_nodes types.now) trees.now))) }
+        ++ (heading section (length trees.now) ++ trees_text (map (meant_nodes types.old) trees.now))) }
     ensures in_part { OnErr result (Extends out.old.items out.new.items) }
+    ensures same_types { types.new ≡ types.old }
 {
     append_heading(section, trees.len(), out)?;
     append_trees(trees.as_slice(), types, out)
@@ -83,10 +91,15 @@ fn append_heading(section: Section, trees: usize, out: &mut Vec<u8>) -> Result<(
     Ok(())
 }
 
-fn append_trees(trees: &[MarkedTree], types: &TypeTable, out: &mut Vec<u8>) -> Result<(), NoMemory>
-    requires { AreMarkedListsOf types.now trees.now }
-    ensures appended { OnOk result (out.new.items ≡ out.old.items ++ trees_text (map (meant_nodes types.now) trees.now)) }
+fn append_trees(
+    trees: &[MarkedTree],
+    types: &mut TypePrinter,
+    out: &mut Vec<u8>,
+) -> Result<(), NoMemory>
+    requires { AreMarkedListsOf types.old trees.now }
+    ensures appended { OnOk result (out.new.items ≡ out.old.items ++ trees_text (map (meant_nodes types.old) trees.now)) }
     ensures in_part { OnErr result (Extends out.old.items out.new.items) }
+    ensures same_types { types.new ≡ types.old }
 {
     for tree in trees {
         append_tree(tree, types, out)?;
@@ -94,10 +107,15 @@ fn append_trees(trees: &[MarkedTree], types: &TypeTable, out: &mut Vec<u8>) -> R
     Ok(())
 }
 
-fn append_tree(tree: &MarkedTree, types: &TypeTable, out: &mut Vec<u8>) -> Result<(), NoMemory>
-    requires { AreMarkedNodesOf types.now tree.now }
-    ensures appended { OnOk result (out.new.items ≡ out.old.items ++ tree_text (meant_nodes types.now tree.now)) }
+fn append_tree(
+    tree: &MarkedTree,
+    types: &mut TypePrinter,
+    out: &mut Vec<u8>,
+) -> Result<(), NoMemory>
+    requires { AreMarkedNodesOf types.old tree.now }
+    ensures appended { OnOk result (out.new.items ≡ out.old.items ++ tree_text (meant_nodes types.old tree.now)) }
     ensures in_part { OnErr result (Extends out.old.items out.new.items) }
+    ensures same_types { types.new ≡ types.old }
 {
     for (node, added) in tree.nodes().iter().zip(tree.added()) {
         append_line(node, added, types, out)?;

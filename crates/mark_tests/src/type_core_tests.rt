@@ -2,7 +2,7 @@ ghost use Rattle.std.specs.Prelude.{IfOk};
 ghost use Rattle.type_core.specs.TypeTable.{IsTypeOf, KeepsTypes};
 
 use std::test::Fail;
-use type_core::{NoMemory, TypeId, TypeTable};
+use type_core::{NoMemory, TypeId, TypePrinter, TypeTable};
 
 // The product of a type with itself, of that product with itself, and so on.
 fn doubled(table: &mut TypeTable, from: TypeId, times: u32) -> Result<TypeId, NoMemory>
@@ -37,7 +37,7 @@ fn text_goes_down_to_the_levels(rt: HostRuntime) -> Result<(), Fail> {
     let num = table.num();
     let t = chain(&mut table, num, 9)?;
     let mut text = Vec::new(rt.alloc());
-    table.write_type(t, 8, &mut text)?;
+    TypePrinter::new(rt.alloc(), &table).write_type(t, 8, &mut text)?;
     let wanted = b"((((((((..->num)->num)->num)->num)->num)->num)->num)->num)";
     assert!(rt; text.as_slice() == wanted.as_slice());
     Ok(())
@@ -52,8 +52,9 @@ fn text_names_each_form(rt: HostRuntime) -> Result<(), Fail> {
     let num = table.num();
     let t = table.sum(pair, num)?;
     let mut text = Vec::new(rt.alloc());
-    table.write_type(t, 2, &mut text)?;
-    table.write_type(t, 0, &mut text)?;
+    let mut printer = TypePrinter::new(rt.alloc(), &table);
+    printer.write_type(t, 2, &mut text)?;
+    printer.write_type(t, 0, &mut text)?;
     assert!(rt; text.as_slice() == b"((?*bool)+num)..".as_slice());
     Ok(())
 }
@@ -82,7 +83,7 @@ fn the_meet_has_what_either_knows(rt: HostRuntime) -> Result<(), Fail> {
         return Err(Fail::from("no meet"));
     };
     let mut text = Vec::new(rt.alloc());
-    table.write_type(m, 8, &mut text)?;
+    TypePrinter::new(rt.alloc(), &table).write_type(m, 8, &mut text)?;
     assert!(rt; text.as_slice() == b"(num->bool)".as_slice());
     Ok(())
 }
@@ -98,10 +99,31 @@ fn shared_parts_are_met_once(rt: HostRuntime) -> Result<(), Fail> {
     let boolean = table.boolean();
     let v = doubled(&mut table, boolean, 40)?;
     assert!(rt; table.meet(rt.alloc(), t, v)? == None);
-    assert!(rt; table.consistent(rt.alloc(), u, v)? == true);
+    assert!(rt; table.relate(rt.alloc(), u, v)? == true);
     // What was found before is found again.
     assert!(rt; table.relate(rt.alloc(), t, v)? == false);
     assert!(rt; table.meet(rt.alloc(), t, u)? == Some(t));
+    Ok(())
+}
+
+// Types with so many pairs have landmarks among their parts.
+#[test]
+fn long_types_are_met_from_each_of_their_ends_on(rt: HostRuntime) -> Result<(), Fail> {
+    let mut table = TypeTable::new(rt.alloc())?;
+    let num = table.num();
+    let t = chain(&mut table, num, 300)?;
+    let unknown = table.unknown();
+    let u = chain(&mut table, unknown, 300)?;
+    let boolean = table.boolean();
+    let v = chain(&mut table, boolean, 300)?;
+    assert!(rt; table.relate(rt.alloc(), t, v)? == false);
+    assert!(rt; table.meet(rt.alloc(), u, t)? == Some(t));
+    let longer_t = table.arrow(t, num)?;
+    let longer_u = table.arrow(u, num)?;
+    let longer_v = table.arrow(v, num)?;
+    assert!(rt; table.meet(rt.alloc(), longer_u, longer_t)? == Some(longer_t));
+    assert!(rt; table.meet(rt.alloc(), longer_u, longer_v)? == Some(longer_v));
+    assert!(rt; table.meet(rt.alloc(), longer_t, longer_v)? == None);
     Ok(())
 }
 

@@ -4,8 +4,8 @@ pub mod TypLemmas
 pub mod HeadLemmas
 pub mod PairingEq
 pub mod PairingLemmas
-pub mod PathLemmas
-pub mod AnswerLemmas
+pub mod TurnLemmas
+pub mod SettleLemmas
 pub mod MeetLemmas
-pub mod TextLemmas
+pub mod TypeTextLemmas
 pub mod RelationLemmas

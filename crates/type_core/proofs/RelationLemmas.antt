@@ -1,13 +1,11 @@
 -- What is kept of pairs of types stays right.
 use Rattle.std.proofs.Common.{◌≡◌, ◌⊎◌, inl, inr, true, false, cond, List, [], None, Some, sym, ap, subst, ◌∙◌}
 use Rattle.std.proofs.lemmas.Bool.{cases_Bool}
-use Rattle.std.specs.BTreeMap.{is_at}
 use Rattle.type_core.specs.declared.heads.Pairing.{Pairing}
 use Rattle.type_core.specs.declared.node.Node.{Node}
 use Rattle.type_core.specs.declared.relations.Relation.{Relation}
 use Rattle.type_core.specs.declared.relations.Relation.TheVariants.{Apart, Consistent, Meets}
-use Rattle.type_core.specs.contracts.heads.PairingOrd.TheImpl as pairing_ord
-use Rattle.type_core.specs.contracts.heads.PairingOrd.TheImpl.Laws.{matches_eq-law}
+use Rattle.type_core.specs.contracts.heads.PairingPartialEq.TheImpl as pairing_eq
 use Rattle.type_core.specs.Typ.{Typ}
 use Rattle.type_core.specs.declared.type_id.TypeId.{TypeId}
 use Rattle.type_core.specs.TypeTable.{IsTypeOf, type_at, KeepsTypes}
@@ -17,10 +15,6 @@ use Rattle.type_core.specs.Relations.{relation_in, IsRelationOf, AreRelations, I
 use Rattle.type_core.proofs.NodeLemmas.{IsTypeOf-kept}
 use Rattle.type_core.proofs.PairingEq.{sound}
 use Rattle.type_core.proofs.MeetLemmas.{IsPairingOf-kept, meet_of-kept, is_consistent-kept}
-
--- the order finds pairings equal exactly where they are one
-at_is_same : (p q : Pairing) → is_at (pairing_ord.ghosts.cmp p) q ≡ true → p ≡ q
-at_is_same p q h = sound p q (matches_eq-law p q ∙ h)
 
 none_is_not : (r : Relation) → None ≡ Some r → ⊥
 none_is_not r e = cc
@@ -46,17 +40,17 @@ AreRelations-kept old new relations kept all = record {
 
 -- where one more is kept
 pub AreRelations-put : (table : List Typ) (old new : List (Pairing × Relation)) (p : Pairing) (r : Relation) → AreRelations table old → IsPairingOf table p → IsRelationOf table p r
-    → ((q : Pairing) → relation_in new q ≡ cond (is_at (pairing_ord.ghosts.cmp p) q) (Some r) (relation_in old q)) → AreRelations table new
+    → ((q : Pairing) → relation_in new q ≡ cond (pairing_eq.eq-value.it p q) (Some r) (relation_in old q)) → AreRelations table new
 AreRelations-put table old new p r all within right updates = record {
   within = λ q s e. by_within q s (had q s e);
   right = λ q s e. by_right q s (had q s e);
 }
   where
     had : (q : Pairing) (s : Relation) → relation_in new q ≡ Some s → ((p ≡ q) × (r ≡ s)) ⊎ (relation_in old q ≡ Some s)
-    had q s e = by (cases_Bool (is_at (pairing_ord.ghosts.cmp p) q))
+    had q s e = by (cases_Bool (pairing_eq.eq-value.it p q))
       where
-        by : (is_at (pairing_ord.ghosts.cmp p) q ≡ true) ⊎ (is_at (pairing_ord.ghosts.cmp p) q ≡ false) → ((p ≡ q) × (r ≡ s)) ⊎ (relation_in old q ≡ Some s)
-        by (inl h) = inl (at_is_same p q h, some_injective r s (ap (λ b. cond b (Some r) (relation_in old q)) (sym h) ∙ sym (updates q) ∙ e))
+        by : (pairing_eq.eq-value.it p q ≡ true) ⊎ (pairing_eq.eq-value.it p q ≡ false) → ((p ≡ q) × (r ≡ s)) ⊎ (relation_in old q ≡ Some s)
+        by (inl h) = inl (sound p q h, some_injective r s (ap (λ b. cond b (Some r) (relation_in old q)) (sym h) ∙ sym (updates q) ∙ e))
         by (inr h) = inr (ap (λ b. cond b (Some r) (relation_in old q)) (sym h) ∙ sym (updates q) ∙ e)
 
     by_within : (q : Pairing) (s : Relation) → ((p ≡ q) × (r ≡ s)) ⊎ (relation_in old q ≡ Some s) → IsPairingOf table q
@@ -69,7 +63,7 @@ AreRelations-put table old new p r all within right updates = record {
 
 -- the same, of a table
 pub IsWhole-put : (nodes : List Node) (table : List Typ) (old new : List (Pairing × Relation)) (p : Pairing) (r : Relation) → types_of nodes ≡ table → IsWhole nodes old → IsPairingOf table p
-    → IsRelationOf table p r → ((q : Pairing) → relation_in new q ≡ cond (is_at (pairing_ord.ghosts.cmp p) q) (Some r) (relation_in old q)) → IsWhole nodes new
+    → IsRelationOf table p r → ((q : Pairing) → relation_in new q ≡ cond (pairing_eq.eq-value.it p q) (Some r) (relation_in old q)) → IsWhole nodes new
 IsWhole-put nodes table old new p r view whole within right updates = record {
   table = whole.table;
   right = AreRelations-put (types_of nodes) old new p r whole.right (subst (λ t. IsPairingOf t p) (sym view) within) (subst (λ t. IsRelationOf t p r) (sym view) right) updates;

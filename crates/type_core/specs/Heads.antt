@@ -1,5 +1,5 @@
 -- Two types by number, and what their outermost forms tell of their meet.
-use Rattle.std.specs.Prelude.{◌≡◌, ◌≢◌, ◌<◌, List, Option, None, Some}
+use Rattle.std.specs.Prelude.{◌≡◌, ◌≢◌, List, Option, None, Some}
 use Rattle.type_core.specs.declared.former.Former.{Former}
 use Rattle.type_core.specs.declared.heads.Heads.{Heads}
 use Rattle.type_core.specs.declared.heads.Heads.TheVariants.{Met, Clash, Parts}
@@ -21,8 +21,6 @@ pub record HaveParts (table : List Typ) (p : Pairing) (f : Former) (first second
   pub right : type_at table p.right ≡ Pair f (type_at table first.right) (type_at table second.right)
   pub first_within : IsPairingOf table first
   pub second_within : IsPairingOf table second
-  pub first_before : first.left.0 < p.left.0
-  pub second_before : second.left.0 < p.left.0
   pub differ : p.left ≢ p.right
 
 abbrev pub TellOf : List Typ → Pairing → Heads → Type 0

@@ -2,9 +2,9 @@ pub mod Heads
 pub mod Meets
 pub mod Nodes
 pub mod Pairings
-pub mod Pieces
 pub mod Relations
 pub mod Typ
 pub mod TypeTable
 pub mod TypCode
-pub mod Noted
+pub mod Turns
+pub mod TypeTexts

@@ -1,12 +1,11 @@
 -- What was found of pairs of types, as a table keeps it.
 use Rattle.std.specs.Prelude.{◌≡◌, true, false, List, Option, Some}
-use Rattle.std.specs.BTreeMap.{is_at}
 use Rattle.std.specs.Map.{lookup}
 use Rattle.type_core.specs.declared.heads.Pairing.{Pairing}
 use Rattle.type_core.specs.declared.node.Node.{Node}
 use Rattle.type_core.specs.declared.relations.Relation.{Relation}
 use Rattle.type_core.specs.declared.relations.Relation.TheVariants.{Apart, Consistent, Meets}
-use Rattle.type_core.specs.contracts.heads.PairingOrd.TheImpl as pairing_ord
+use Rattle.type_core.specs.contracts.heads.PairingPartialEq.TheImpl as pairing_eq
 use Rattle.type_core.specs.Typ.{Typ}
 use Rattle.type_core.specs.TypeTable.{IsTypeOf, type_at}
 use Rattle.type_core.specs.Heads.{IsPairingOf, meet_of}
@@ -15,7 +14,7 @@ use Rattle.type_core.specs.Nodes.{types_of, IsTable}
 
 -- what is kept of a pairing
 abbrev pub relation_in : List (Pairing × Relation) → Pairing → Option Relation
-relation_in relations p = lookup (is_at (pairing_ord.ghosts.cmp p)) relations
+relation_in relations p = lookup (pairing_eq.eq-value.it p) relations
 
 -- the relation is that of the two types
 abbrev pub IsRelationOf : List Typ → Pairing → Relation → Type 0

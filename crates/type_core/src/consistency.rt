@@ -1,57 +1,42 @@
-ghost use Rattle.std.specs.Prelude.{◌≡◌, [], None, IsOk, IfOk, IfSome, IfNone, OnOk};
+ghost use Rattle.std.specs.Prelude.{◌≡◌, false, IsOk, IfOk};
 ghost use Rattle.type_core.specs.Typ.{is_consistent, IsAtom};
 ghost use Rattle.type_core.specs.TypeTable.{IsTypeOf, type_at};
 ghost use Rattle.type_core.specs.Heads.{IsPairingOf};
-ghost use Rattle.type_core.specs.Noted.{noted_in};
-ghost use Rattle.type_core.specs.Pairings.{is_consistent_pairing, AreAnswers, VerdictOf};
+ghost use Rattle.type_core.specs.Pairings.{is_consistent_pairing, VerdictOf, AreTasks};
 
 use crate::heads::{Heads, Pairing};
 use crate::no_memory::NoMemory;
-use crate::noted::{Noted, find, note, noted_at};
-use crate::relations::{KEEP_EVERY, consistency};
+use crate::relations::Relation;
 use crate::table::TypeTable;
 use crate::type_id::TypeId;
-use indexmap::IndexMap;
 use std::alloc::Global;
 
-// Whether two types are consistent, as far as it has come.
+// What is known of two types before their parts are asked.
 #[derive(Clone, Copy)]
 pub(crate) enum Verdict {
-    // It is known whether they are.
+    // Whether they are consistent.
     Known(bool),
-    // It waits for that of these parts.
-    Waits(Pairing),
+    // They are where the pairings of their first and of their second parts both are.
+    Parts(Pairing, Pairing),
+}
+
+// What is still to be done to tell whether two types are consistent.
+#[derive(Clone, Copy)]
+pub(crate) enum Task {
+    Ask(Pairing),
+    // To keep what was found of these once all that was asked after them is answered.
+    Keep(Pairing),
 }
 
 impl TypeTable {
-    /// Whether two types are consistent. Memory is needed only where both are made of parts and differ.
-    pub fn consistent(&self, alloc: Global, a: TypeId, b: TypeId) -> Result<bool, NoMemory>
-        requires left { IsTypeOf self.now a }
-        requires right { IsTypeOf self.now b }
-        ensures consistent { IfOk result (λ answer. answer ≡ is_consistent (type_at self.now a) (type_at self.now b)) }
-        ensures sure_where_same { a ≡ b → IsOk result }
-        ensures sure_without_parts { IsAtom (type_at self.now a) → IsAtom (type_at self.now b) → IsOk result }
-    {
-        let pairing = Pairing { left: a, right: b };
-        match self.heads(pairing) {
-            Heads::Met(_) => Ok(true),
-            Heads::Clash => Ok(false),
-            Heads::Parts(..) => match self.known_consistency(pairing) {
-                Some(answer) => Ok(answer),
-                None => {
-                    let mut answers = IndexMap::with_hasher(alloc, self.seed());
-                    self.settle(alloc, pairing, &mut answers)
-                }
-            },
-        }
-    }
-
-    /// Whether two types are consistent, as `consistent` says. The table keeps what it found of these two and of some of their
-    /// parts, so that it need not go over them all again.
+    /// Whether two types are consistent. The table keeps what it found of these two and of some of their parts, so that it need not
+    /// go over them all again. Memory is needed only where both are made of parts and differ.
     pub fn relate(&mut self, alloc: Global, a: TypeId, b: TypeId) -> Result<bool, NoMemory>
         requires left { IsTypeOf self.old a }
         requires right { IsTypeOf self.old b }
         ensures consistent { IfOk result (λ answer. answer ≡ is_consistent (type_at self.old a) (type_at self.old b)) }
+        ensures sure_where_same { a ≡ b → IsOk result }
+        ensures sure_without_parts { IsAtom (type_at self.old a) → IsAtom (type_at self.old b) → IsOk result }
         ensures unchanged { self.new ≡ self.old }
     {
         let pairing = Pairing { left: a, right: b };
@@ -62,100 +47,78 @@ impl TypeTable {
         }
     }
 
-    // Whether two types are consistent, which is kept.
-    fn relate_parts(&mut self, alloc: Global, pairing: Pairing) -> Result<bool, NoMemory>
+    // The same, of two types of which it may have been found before.
+    pub(crate) fn relate_parts(&mut self, alloc: Global, pairing: Pairing) -> Result<bool, NoMemory>
         requires { IsPairingOf self.old pairing }
         ensures consistent { IfOk result (λ answer. answer ≡ is_consistent_pairing self.old pairing) }
         ensures unchanged { self.new ≡ self.old }
     {
-        if let Some(answer) = self.known_consistency(pairing) {
-            return Ok(answer);
+        match self.known_consistency(pairing) {
+            Some(answer) => Ok(answer),
+            None => self.settle(alloc, pairing),
         }
-        let mut answers = IndexMap::with_hasher(alloc, self.seed());
-        let consistent = self.settle(alloc, pairing, &mut answers)?;
-        self.keep_answers(&answers)?;
-        Ok(consistent)
     }
 
-    // Keeps what was found of some of these pairings, the last among them.
-    fn keep_answers(&mut self, answers: &Noted<bool>) -> Result<(), NoMemory>
-        requires { AreAnswers self.old answers.now.entries }
+    // Asks all parts of two types, as far as nothing is known of them.
+    fn settle(&mut self, alloc: Global, pairing: Pairing) -> Result<bool, NoMemory>
+        requires { IsPairingOf self.old pairing }
+        ensures consistent { IfOk result (λ answer. answer ≡ is_consistent_pairing self.old pairing) }
         ensures unchanged { self.new ≡ self.old }
     {
-        for place in 0..answers.len() {
-            if place % KEEP_EVERY == 0 || place + 1 == answers.len() {
-                let (pairing, answer) = noted_at(answers, place);
-                self.keep(pairing, consistency(answer))?;
+        let mut tasks = Vec::new(alloc);
+        tasks.push(Task::Keep(pairing))?;
+        tasks.push(Task::Ask(pairing))?;
+        while let Some(task) = tasks.pop() {
+            match task {
+                Task::Keep(kept) => self.keep(kept, Relation::Consistent)?,
+                Task::Ask(asked) => match self.verdict(asked) {
+                    Verdict::Known(true) => {}
+                    Verdict::Known(false) => {
+                        self.keep_apart(tasks.as_slice())?;
+                        return Ok(false);
+                    }
+                    Verdict::Parts(first, second) => {
+                        if self.is_landmark(asked.left) {
+                            tasks.push(Task::Keep(asked))?;
+                        }
+                        tasks.push(Task::Ask(second))?;
+                        tasks.push(Task::Ask(first))?;
+                    }
+                },
+            }
+        }
+        Ok(true)
+    }
+
+    // Keeps what waited for two types that are not consistent: all these are not.
+    fn keep_apart(&mut self, tasks: &[Task]) -> Result<(), NoMemory>
+        requires { AreTasks self.old tasks.now false }
+        ensures unchanged { self.new ≡ self.old }
+    {
+        for task in tasks {
+            if let Task::Keep(kept) = task {
+                self.keep(*kept, Relation::Apart)?;
             }
         }
         Ok(())
     }
 
-    // Whether two types are consistent: each pairing of parts is answered once, and waits until those of its own parts are.
-    fn settle(
-        &self,
-        alloc: Global,
-        pairing: Pairing,
-        answers: &mut Noted<bool>,
-    ) -> Result<bool, NoMemory>
-        requires within { IsPairingOf self.now pairing }
-        requires none { answers.old.entries ≡ [] }
-        ensures consistent { IfOk result (λ answer. answer ≡ is_consistent_pairing self.now pairing) }
-        ensures answers { OnOk result (AreAnswers self.now answers.new.entries) }
-    {
-        let mut waiting = Vec::new(alloc);
-        let mut current = pairing;
-        loop {
-            match self.verdict(answers, current) {
-                Verdict::Waits(part) => {
-                    waiting.push(current)?;
-                    current = part;
-                }
-                Verdict::Known(answer) => {
-                    note(answers, current, answer)?;
-                    let Some(next) = waiting.pop() else {
-                        return Ok(answer);
-                    };
-                    current = next;
-                }
-            }
-        }
-    }
-
-    // Whether two types are consistent, or of which parts that has to be known first.
-    fn verdict(&self, answers: &Noted<bool>, pairing: Pairing) -> Verdict
-        requires within { IsPairingOf self.now pairing }
-        requires answers { AreAnswers self.now answers.now.entries }
-        ensures { VerdictOf self.now answers.now.entries pairing result }
+    // What is known of two types at once, or was found before.
+    fn verdict(&self, pairing: Pairing) -> Verdict
+        requires { IsPairingOf self.now pairing }
+        ensures { VerdictOf self.now pairing result }
     {
         match self.heads(pairing) {
             Heads::Met(_) => Verdict::Known(true),
             Heads::Clash => Verdict::Known(false),
-            Heads::Parts(_, first, second) => match self.answer(answers, first) {
-                None => Verdict::Waits(first),
-                Some(false) => Verdict::Known(false),
-                Some(true) => match self.answer(answers, second) {
-                    None => Verdict::Waits(second),
-                    Some(answer) => Verdict::Known(answer),
-                },
-            },
-        }
-    }
-
-    // What is known of a pairing: at once, from this walk, or from an earlier one.
-    fn answer(&self, answers: &Noted<bool>, pairing: Pairing) -> Option<bool>
-        requires within { IsPairingOf self.now pairing }
-        requires answers { AreAnswers self.now answers.now.entries }
-        ensures right { IfSome result (λ answer. answer ≡ is_consistent_pairing self.now pairing) }
-        ensures none { IfNone result (noted_in answers.now.entries pairing ≡ None) }
-    {
-        match self.heads(pairing) {
-            Heads::Met(_) => Some(true),
-            Heads::Clash => Some(false),
-            Heads::Parts(..) => match find(answers, pairing) {
-                Some(answer) => Some(answer),
-                None => self.known_consistency(pairing),
-            },
+            Heads::Parts(_, first, second) => {
+                if self.is_landmark(pairing.left) {
+                    if let Some(answer) = self.known_consistency(pairing) {
+                        return Verdict::Known(answer);
+                    }
+                }
+                Verdict::Parts(first, second)
+            }
         }
     }
 }

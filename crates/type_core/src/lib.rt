@@ -6,15 +6,15 @@
 mod consistency;
 mod former;
 mod heads;
+mod landmarks;
 mod laws;
 mod meeting;
 mod no_memory;
 mod node;
-mod noted;
 mod relations;
 mod table;
-mod text;
 mod type_id;
+mod type_printer;
 
 pub use former::Former;
 pub use laws::{
@@ -25,3 +25,4 @@ pub use laws::{
 pub use no_memory::NoMemory;
 pub use table::TypeTable;
 pub use type_id::TypeId;
+pub use type_printer::TypePrinter;

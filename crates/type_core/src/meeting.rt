@@ -1,27 +1,41 @@
-ghost use Rattle.std.specs.Prelude.{◌≡◌, ◌<◌, ◌^◌, true, length, is_some, None, Some, Ok, IfOk, IfSome, IfNone, OnOk};
+ghost use Rattle.std.specs.Prelude.{◌≡◌, true, is_some, None, Some, Ok, IfOk, IfSome};
 ghost use Rattle.std.specs.Option.{option_map};
 ghost use Rattle.type_core.specs.Typ as typ;
 ghost use Rattle.type_core.specs.TypeTable.{IsTypeOf, type_at, KeepsTypes};
-ghost use Rattle.type_core.specs.Heads.{IsPairingOf, meet_of};
+ghost use Rattle.type_core.specs.Heads.{IsPairingOf, meet_of, TellOf};
 ghost use Rattle.type_core.specs.Pairings.{is_consistent_pairing};
-ghost use Rattle.type_core.specs.Meets.{AreMeets, IsMeetOf, StepOf};
-ghost use Rattle.type_core.specs.Noted.{noted_in};
 
+use crate::former::Former;
 use crate::heads::{Heads, Pairing};
 use crate::no_memory::NoMemory;
-use crate::noted::{Noted, find, note};
-use crate::relations::{KEEP_EVERY, Relation};
+use crate::relations::Relation;
 use crate::table::TypeTable;
 use crate::type_id::TypeId;
-use indexmap::IndexMap;
 use std::alloc::Global;
+
+// Two types of one form that wait for the meets of their parts.
+#[derive(Clone, Copy)]
+pub(crate) struct Waiting {
+    pub(crate) pairing: Pairing,
+    pub(crate) former: Former,
+    pub(crate) part: Part,
+}
+
+// The part whose meet is waited for.
+#[derive(Clone, Copy)]
+pub(crate) enum Part {
+    // The first; these are the second parts.
+    First(Pairing),
+    // The second; this is the meet of the first.
+    Second(TypeId),
+}
 
 // How far the meet of two types has come.
 #[derive(Clone, Copy)]
-enum Step {
+pub(crate) enum Step {
     // It is this type.
     Done(TypeId),
-    // It waits for the meet of these parts.
+    // It is that of these types, which is to be found.
     Waits(Pairing),
 }
 
@@ -42,7 +56,7 @@ impl TypeTable {
             Heads::Met(m) => Ok(Some(m)),
             Heads::Clash => Ok(None),
             Heads::Parts(..) => {
-                if !self.relate(alloc, a, b)? {
+                if !self.relate_parts(alloc, pairing)? {
                     return Ok(None);
                 }
                 Ok(Some(self.kept_meet(alloc, pairing)?))
@@ -60,11 +74,15 @@ impl TypeTable {
     {
         match self.known_meet(pairing) {
             Some(m) => Ok(m),
-            None => self.meet_of_consistent(alloc, pairing),
+            None => {
+                let m = self.meet_of_consistent(alloc, pairing)?;
+                self.keep(pairing, Relation::Meets(m))?;
+                Ok(m)
+            }
         }
     }
 
-    // The meet of two consistent types: each pairing of parts is met once, and waits until those of its own parts are.
+    // The meet of two consistent types: both wait until their parts are met, and so on down to what is known.
     fn meet_of_consistent(&mut self, alloc: Global, pairing: Pairing) -> Result<TypeId, NoMemory>
         requires within { IsPairingOf self.old pairing }
         requires consistent { is_consistent_pairing self.old pairing ≡ true }
@@ -72,63 +90,86 @@ impl TypeTable {
         ensures number { IfOk result (IsTypeOf self.new) }
         ensures kept { KeepsTypes self.old self.new }
     {
-        let mut met = IndexMap::with_hasher(alloc, self.seed());
         let mut waiting = Vec::new(alloc);
-        let mut current = pairing;
+        let mut step = Step::Waits(pairing);
         loop {
-            match self.meet_step(&met, current)? {
-                Step::Waits(part) => {
-                    waiting.push(current)?;
-                    current = part;
-                }
-                Step::Done(m) => {
-                    let Some(next) = waiting.pop() else {
-                        self.keep(current, Relation::Meets(m))?;
-                        return Ok(m);
+            match step {
+                Step::Waits(part) => match self.heads_or_meet(part) {
+                    Heads::Met(meet) => step = Step::Done(meet),
+                    Heads::Clash => unreachable!(),
+                    Heads::Parts(former, first, second) => {
+                        waiting.push(Waiting {
+                            pairing: part,
+                            former,
+                            part: Part::First(second),
+                        })?;
+                        step = Step::Waits(first);
+                    }
+                },
+                Step::Done(meet) => {
+                    let Some(last) = waiting.pop() else {
+                        return Ok(meet);
                     };
-                    note(&mut met, current, m)?;
-                    current = next;
+                    match last.part {
+                        Part::First(second) => {
+                            waiting.push(Waiting {
+                                pairing: last.pairing,
+                                former: last.former,
+                                part: Part::Second(meet),
+                            })?;
+                            step = Step::Waits(second);
+                        }
+                        Part::Second(first_meet) => {
+                            let both = self.meet_of_parts(
+                                last.pairing,
+                                last.former,
+                                first_meet,
+                                meet,
+                            )?;
+                            step = Step::Done(both);
+                        }
+                    }
                 }
             }
         }
     }
 
-    // Meets two types whose parts have been met, or says which parts have not. Some of the meets are kept.
-    fn meet_step(&mut self, met: &Noted<TypeId>, pairing: Pairing) -> Result<Step, NoMemory>
+    // The meet of two types of one form from those of their parts.
+    fn meet_of_parts(
+        &mut self,
+        pairing: Pairing,
+        former: Former,
+        first: TypeId,
+        second: TypeId,
+    ) -> Result<TypeId, NoMemory>
         requires within { IsPairingOf self.old pairing }
-        requires consistent { is_consistent_pairing self.old pairing ≡ true }
-        requires meets { AreMeets self.old met.now.entries }
-        ensures step { IfOk result (StepOf self.old self.new met.now.entries pairing) }
+        requires first { IsTypeOf self.old first }
+        requires second { IsTypeOf self.old second }
+        requires meet { meet_of self.old pairing ≡ Some (typ.Pair former (type_at self.old first) (type_at self.old second)) }
+        ensures meet { IfOk result (λ m. meet_of self.old pairing ≡ Some (type_at self.new m)) }
+        ensures number { IfOk result (IsTypeOf self.new) }
         ensures kept { KeepsTypes self.old self.new }
     {
-        match self.heads(pairing) {
-            Heads::Met(m) => Ok(Step::Done(m)),
-            Heads::Clash => unreachable!(),
-            Heads::Parts(former, first, second) => {
-                let Some(first_meet) = self.meet_before(met, first) else {
-                    return Ok(Step::Waits(first));
-                };
-                let Some(second_meet) = self.meet_before(met, second) else {
-                    return Ok(Step::Waits(second));
-                };
-                let meet = self.pair(former, first_meet, second_meet)?;
-                if met.len() % KEEP_EVERY == 0 {
-                    self.keep(pairing, Relation::Meets(meet))?;
-                }
-                Ok(Step::Done(meet))
-            }
+        let meet = self.pair(former, first, second)?;
+        if self.is_landmark(pairing.left) {
+            self.keep(pairing, Relation::Meets(meet))?;
         }
+        Ok(meet)
     }
 
-    // The meet of two types, where this walk or an earlier one found it.
-    fn meet_before(&self, met: &Noted<TypeId>, pairing: Pairing) -> Option<TypeId>
-        requires { AreMeets self.now met.now.entries }
-        ensures meet { IfSome result (IsMeetOf self.now pairing) }
-        ensures none { IfNone result (noted_in met.now.entries pairing ≡ None) }
+    // What the outermost forms of two types tell of their meet, or the meet itself where it was found before.
+    fn heads_or_meet(&self, pairing: Pairing) -> Heads
+        requires { IsPairingOf self.now pairing }
+        ensures { TellOf self.now pairing result }
     {
-        match find(met, pairing) {
-            Some(meet) => Some(meet),
-            None => self.known_meet(pairing),
+        let heads = self.heads(pairing);
+        if let Heads::Parts(..) = heads {
+            if self.is_landmark(pairing.left) {
+                if let Some(m) = self.known_meet(pairing) {
+                    return Heads::Met(m);
+                }
+            }
         }
+        heads
     }
 }

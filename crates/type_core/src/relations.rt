@@ -1,4 +1,4 @@
-ghost use Rattle.std.specs.Prelude.{◌≡◌, true, false, IfSome};
+ghost use Rattle.std.specs.Prelude.{◌≡◌, IfSome};
 ghost use Rattle.type_core.specs.Heads.{IsPairingOf};
 ghost use Rattle.type_core.specs.Pairings.{is_consistent_pairing};
 ghost use Rattle.type_core.specs.Meets.{IsMeetOf};
@@ -18,23 +18,6 @@ pub(crate) enum Relation {
     Consistent,
     // This is their meet.
     Meets(TypeId),
-}
-
-// Of so many pairings that a walk goes over one is kept, beside that which it was asked for. A text may ask for two long types from each
-// of their parts on, and to keep each pairing would then take the square of its length in memory. A later walk ends where one was kept,
-// so all walks together go over at most so many times as many pairings as there are.
-pub(crate) const KEEP_EVERY: usize = 16;
-
-// What it is to be consistent or not.
-pub(crate) fn consistency(is_consistent: bool) -> Relation
-    ensures consistent { is_consistent ≡ true → result ≡ Relation.Consistent }
-    ensures apart { is_consistent ≡ false → result ≡ Relation.Apart }
-{
-    if is_consistent {
-        Relation::Consistent
-    } else {
-        Relation::Apart
-    }
 }
 
 impl TypeTable {

@@ -6,14 +6,14 @@ ghost use Rattle.type_core.specs.Nodes.{type_of_node, node_at, PartsAreBelow, St
 
 use crate::former::Former;
 use crate::heads::Pairing;
+use crate::landmarks::{Weight, add_weight};
 use crate::no_memory::NoMemory;
 use crate::node::Node;
 use crate::relations::Relation;
 use crate::type_id::TypeId;
-use indexmap::IndexSet;
+use indexmap::{IndexMap, IndexSet};
 use seeded_hash::HashSeed;
 use std::alloc::Global;
-use std::collections::BTreeMap;
 use std::marker::Model;
 
 // The places of the base types in every table.
@@ -27,8 +27,10 @@ const BOOLEAN: u32 = 2;
 #[derive(Drop)]
 pub struct TypeTable {
     nodes: IndexSet<Node, HashSeed>,
-    // What was found of pairs of types. Ordered, so that nobody makes it slow by the types that they choose.
-    pub(crate) relations: BTreeMap<Pairing, Relation>,
+    // What was found of pairs of types.
+    pub(crate) relations: IndexMap<Pairing, Relation, HashSeed>,
+    // The weights of the types, by their numbers.
+    pub(crate) weights: Vec<Weight>,
 }
 
 impl Model for TypeTable {
@@ -84,14 +86,17 @@ impl TypeTable {
         TypeTable::with_seed(alloc, HashSeed::FIXED)
     }
 
-    /// A table of the unknown type and the base types, which finds types by their hash under a seed.
+    /// A table of the unknown type and the base types, which finds types and pairs of them by their hash under a seed.
     pub fn with_seed(alloc: Global, seed: HashSeed) -> Result<TypeTable, NoMemory>
         ensures types { IfOk result (λ table. table ≡ base_types) }
     {
         let nodes = base_nodes(alloc, seed)?;
+        let mut weights = Vec::new(alloc);
+        weights.resize(nodes.len(), Weight::NONE)?;
         Ok(TypeTable {
             nodes,
-            relations: BTreeMap::new(alloc),
+            relations: IndexMap::with_hasher(alloc, seed),
+            weights,
         })
     }
 
@@ -236,7 +241,9 @@ impl TypeTable {
         ensures kept { KeepsTypes self.old self.new }
         ensures unchanged { OnErr result (self.new ≡ self.old) }
     {
+        self.weights.reserve(1)?;
         let place = place_of(&mut self.nodes, Node::Pair(former, first, second))?;
+        add_weight(&mut self.weights, self.nodes.len(), first, second);
         Ok(TypeId(place))
     }
 }

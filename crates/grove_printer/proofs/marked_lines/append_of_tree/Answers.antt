@@ -1,4 +1,4 @@
-use Rattle.std.proofs.Common.{rules, ◌≡◌, ◌++◌, [], sym, ap, subst, ◌∙◌, append-nil}
+use Rattle.std.proofs.Common.{rules, ◌≡◌, ◌++◌, [], sym, ap, subst, ◌∙◌, append-nil, refl}
 use Rattle.std.specs.Iterator.Adapters.{zip_first, zip_second}
 use Rattle.std.specs.Slice.Iter.{iter_rest}
 use Rattle.std.proofs.lemmas.Slice.Zip.{either_empty_from_Zip}
@@ -21,6 +21,7 @@ loop-node-init c =
       written = ap (λ ms. c.args.out.now.items ++ tree_marked_lines (meant_nodes c.args.types.now ms)) left;
       front = ([], sym (append-nil c.args.out.now.items));
       numbers = subst (AreMarkedNodesOf c.args.types.now) (sym left) c.requires;
+      same_types = refl;
     }
 
 pub returns-in_err-append_line-clause-in_part : goal.returns-in_err-append_line-clause-in_part

@@ -11,7 +11,8 @@ abbrev pub invariant-loop-node : goal.invariant-loop-node
 invariant-loop-node l =
     let left = marked_nodes (iter_rest (zip_first l.node-iterator)) (iter_rest (zip_second l.node-iterator)) in
     record {
-      written : l.out.items ++ tree_marked_lines (meant_nodes l.types left) ≡ l.initial.out.items ++ tree_marked_lines (meant_nodes l.types l.tree);
+      written : l.out.items ++ tree_marked_lines (meant_nodes l.fn.types left) ≡ l.initial.out.items ++ tree_marked_lines (meant_nodes l.fn.types l.tree);
       front : Extends l.initial.out.items l.out.items;
-      numbers : AreMarkedNodesOf l.types left;
+      numbers : AreMarkedNodesOf l.fn.types left;
+      same_types : l.types ≡ l.fn.types;
     }

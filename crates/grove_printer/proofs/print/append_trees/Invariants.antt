@@ -6,7 +6,8 @@ use Rattle.grove_printer.proofs.print.append_trees.Given as goal
 
 abbrev pub invariant-loop-tree : goal.invariant-loop-tree
 invariant-loop-tree l = record {
-  written : l.out.items ++ trees_text (map (meant_nodes l.types) (drop l.tree-index l.trees)) ≡ l.initial.out.items ++ trees_text (map (meant_nodes l.types) l.trees);
+  written : l.out.items ++ trees_text (map (meant_nodes l.fn.types) (drop l.tree-index l.trees)) ≡ l.initial.out.items ++ trees_text (map (meant_nodes l.fn.types) l.trees);
   front : Extends l.initial.out.items l.out.items;
-  numbers : AreMarkedListsOf l.types (drop l.tree-index l.trees);
+  numbers : AreMarkedListsOf l.fn.types (drop l.tree-index l.trees);
+  same_types : l.types ≡ l.fn.types;
 }

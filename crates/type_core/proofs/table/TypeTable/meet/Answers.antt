@@ -14,4 +14,4 @@ returns-in-Clash-clause-defined c =
 
 pub returns-then-not-branch-clause-meet : goal.returns-then-not-branch-clause-meet
 returns-then-not-branch-clause-meet c =
-    sym (meet-inconsistent (type_at c.args.self.now c.args.a) (type_at c.args.self.now c.args.b) (sym c.in_ok-relate-in-Parts.ensures.consistent ∙ c.if-not-branch.true))
+    sym (meet-inconsistent (type_at c.args.self.now c.args.a) (type_at c.args.self.now c.args.b) (sym c.in_ok-relate_parts-in-Parts.ensures.consistent ∙ c.if-not-branch.true))

@@ -1,51 +1,54 @@
-use Rattle.std.proofs.Common.{subst, sym}
-use Rattle.type_core.specs.Meets.{StepOf}
-use Rattle.type_core.specs.TypeTable.{KeepsTypes}
+use Rattle.std.proofs.Common.{sym, subst, ◌∙◌}
+use Rattle.type_core.specs.declared.meeting.Step.TheVariants.{Waits}
 use Rattle.type_core.proofs.NodeLemmas.{KeepsTypes-trans}
-use Rattle.type_core.proofs.PathLemmas.{IsPath-current}
-use Rattle.type_core.proofs.MeetLemmas.{IsPending, IsMeeting, IsMeeting-waits, IsMeeting-done}
+use Rattle.type_core.proofs.MeetLemmas.{IsMeeting, IsPairingOf-kept, is_consistent-kept, not_apart, met_smaller, IsMeeting-parts, parts_smaller, last_within, IsMeeting-first, first_smaller, first_within, last_meet, IsMeeting-second, second_smaller}
 use Rattle.type_core.proofs.table.TypeTable.meet_of_consistent.Goals as goal
 
-pub meet_step-requires-clause-within : goal.meet_step-requires-clause-within
-meet_step-requires-clause-within c =
-    (IsPath-current (IsPending c.loop-waiting.self c.loop-waiting.met.entries) c.loop-waiting.waiting.items c.loop-waiting.current c.loop-waiting.invariant.meeting.path).within
+pub loop-step-smaller-in-Met : goal.loop-step-smaller-in-Met
+loop-step-smaller-in-Met c = met_smaller _ _ _ _ c.loop-step.invariant.meeting _ c.in-Waits.is c.in-Met.meet
 
-pub meet_step-requires-clause-consistent : goal.meet_step-requires-clause-consistent
-meet_step-requires-clause-consistent c =
-    (IsPath-current (IsPending c.loop-waiting.self c.loop-waiting.met.entries) c.loop-waiting.waiting.items c.loop-waiting.current c.loop-waiting.invariant.meeting.path).consistent
+pub unreachable-requires : goal.unreachable-requires
+unreachable-requires c =
+    not_apart _ _ _ _ c.loop-step.invariant.meeting _ c.in-Waits.is (is_consistent-kept _ _ c.loop-step.invariant.kept c.args.pairing c.requires.within ∙ c.requires.consistent) c.in-Clash.ensures
 
-pub returns-in_err-part-clause-kept : goal.returns-in_err-part-clause-kept
-returns-in_err-part-clause-kept c =
-    KeepsTypes-trans c.args.self.now c.loop-waiting.self c.meet_step.new.self c.loop-waiting.invariant.meeting.kept c.meet_step.ensures.kept
+pub loop-step-smaller-in-Parts : goal.loop-step-smaller-in-Parts
+loop-step-smaller-in-Parts c =
+    parts_smaller _ _ _ _ c.loop-step.invariant.meeting _ c.in-Waits.is _ _ _ c.in-Parts.ensures _ c.in_ok-push-in-Parts.ensures.items
 
-pub loop-waiting-preserved-in-Waits : goal.loop-waiting-preserved-in-Waits
-loop-waiting-preserved-in-Waits c =
-    let loop = c.loop-waiting in
-    let step = subst (StepOf loop.self c.meet_step.new.self loop.met.entries loop.current) c.in-Waits.is c.in_ok-part.ensures.step in
-    record {
-      meeting = subst (λ waiting. IsMeeting c.args.self.now c.args.pairing c.meet_step.new.self loop.met.entries waiting c.in-Waits.part) (sym c.in_ok-push-in-Waits.ensures.items)
-          (IsMeeting-waits c.args.self.now c.args.pairing loop.self c.meet_step.new.self loop.met.entries loop.waiting.items loop.current loop.invariant.meeting c.meet_step.ensures.kept c.in-Waits.part step);
-      small = loop.invariant.small;
-    }
+pub loop-step-preserved-in-Parts : goal.loop-step-preserved-in-Parts
+loop-step-preserved-in-Parts c = record {
+  kept = c.loop-step.invariant.kept;
+  meeting = subst (λ waiting. IsMeeting c.loop-step.self c.args.pairing waiting (Waits c.in-Parts.first)) (sym c.in_ok-push-in-Parts.ensures.items)
+      (IsMeeting-parts _ _ _ _ c.loop-step.invariant.meeting _ c.in-Waits.is _ _ _ c.in-Parts.ensures);
+}
 
-pub returns-in_default-clause-kept : goal.returns-in_default-clause-kept
-returns-in_default-clause-kept c =
-    subst (KeepsTypes c.args.self.now) (sym c.keep.ensures.unchanged) (KeepsTypes-trans c.args.self.now c.loop-waiting.self c.meet_step.new.self c.loop-waiting.invariant.meeting.kept c.meet_step.ensures.kept)
+pub loop-step-smaller-in-First : goal.loop-step-smaller-in-First
+loop-step-smaller-in-First c =
+    first_smaller _ _ _ _ c.loop-step.invariant.meeting _ c.in-Done.is _ _ c.in-Some.ensures.items _ c.in-First.is _ c.in_ok-push-in-First.ensures.items
 
-pub note-requires : goal.note-requires
-note-requires c =
-    (IsPath-current (IsPending c.loop-waiting.self c.loop-waiting.met.entries) c.loop-waiting.waiting.items c.loop-waiting.current c.loop-waiting.invariant.meeting.path).unmet
+pub loop-step-preserved-in-First : goal.loop-step-preserved-in-First
+loop-step-preserved-in-First c = record {
+  kept = c.loop-step.invariant.kept;
+  meeting = subst (λ waiting. IsMeeting c.loop-step.self c.args.pairing waiting (Waits c.in-First.second)) (sym c.in_ok-push-in-First.ensures.items)
+      (IsMeeting-first _ _ _ _ c.loop-step.invariant.meeting _ c.in-Done.is _ _ c.in-Some.ensures.items _ c.in-First.is);
+}
 
-pub returns-in_err-note-in-Done-clause-kept : goal.returns-in_err-note-in-Done-clause-kept
-returns-in_err-note-in-Done-clause-kept c =
-    KeepsTypes-trans c.args.self.now c.loop-waiting.self c.meet_step.new.self c.loop-waiting.invariant.meeting.kept c.meet_step.ensures.kept
+pub meet_of_parts-requires-clause-within : goal.meet_of_parts-requires-clause-within
+meet_of_parts-requires-clause-within c = last_within _ _ _ _ c.loop-step.invariant.meeting _ c.in-Done.is _ _ c.in-Some.ensures.items
 
-pub loop-waiting-preserved : goal.loop-waiting-preserved
-loop-waiting-preserved c =
-    let loop = c.loop-waiting in
-    let step = subst (StepOf loop.self c.meet_step.new.self loop.met.entries loop.current) c.in-Done.is c.in_ok-part.ensures.step in
-    record {
-      meeting = IsMeeting-done c.args.self.now c.args.pairing loop.self c.meet_step.new.self loop.met.entries loop.waiting.items loop.current loop.invariant.meeting c.meet_step.ensures.kept
-          c.in-Done.m c.note.new.noted.entries c.pop.new.self.items c.in-Some.next step c.in_ok-note-in-Done.ensures.noted c.in-Some.ensures.items;
-      small = c.in_ok-note-in-Done.ensures.small;
-    }
+pub meet_of_parts-requires-clause-first : goal.meet_of_parts-requires-clause-first
+meet_of_parts-requires-clause-first c = first_within _ _ _ _ c.loop-step.invariant.meeting _ c.in-Done.is _ _ c.in-Some.ensures.items _ c.in-Second.is
+
+pub meet_of_parts-requires-clause-meet : goal.meet_of_parts-requires-clause-meet
+meet_of_parts-requires-clause-meet c = last_meet _ _ _ _ c.loop-step.invariant.meeting _ c.in-Done.is _ _ c.in-Some.ensures.items _ c.in-Second.is
+
+pub loop-step-smaller : goal.loop-step-smaller
+loop-step-smaller c =
+    second_smaller _ _ _ _ c.loop-step.invariant.meeting _ c.in-Done.is _ _ c.in-Some.ensures.items _ c.in-Second.is _ c.meet_of_parts.ensures.kept c.in_ok-both-in-Second.both
+
+pub loop-step-preserved : goal.loop-step-preserved
+loop-step-preserved c = record {
+  kept = KeepsTypes-trans c.args.self.now c.loop-step.self c.meet_of_parts.new.self c.loop-step.invariant.kept c.meet_of_parts.ensures.kept;
+  meeting = IsMeeting-second _ _ _ _ c.loop-step.invariant.meeting _ c.in-Done.is _ _ c.in-Some.ensures.items _ c.in-Second.is _ c.meet_of_parts.ensures.kept c.in_ok-both-in-Second.both
+      (IsPairingOf-kept _ _ c.loop-step.invariant.kept c.args.pairing c.requires.within) c.in_ok-both-in-Second.ensures.number c.in_ok-both-in-Second.ensures.meet;
+}

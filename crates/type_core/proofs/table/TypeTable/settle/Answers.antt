@@ -1,36 +1,52 @@
-use Rattle.std.proofs.Common.{sym, subst}
-use Rattle.type_core.proofs.PathLemmas.{IsPath-current}
-use Rattle.type_core.proofs.AnswerLemmas.{IsOpen, IsSettling, IsSettling-waits, IsSettling-known, answers_more}
+use Rattle.std.proofs.Common.{◌≡◌, inl, inr, ◌++◌, ◌∷◌, [], true, false, sym, ap, subst, ◌∙◌}
+use Rattle.type_core.specs.declared.consistency.Task.TheVariants.{Ask}
+use Rattle.type_core.specs.Pairings.{is_consistent_pairing, AreTasks}
+use Rattle.type_core.proofs.SettleLemmas.{IsSettling, keep_fits, asked_within, IsSettling-kept, IsSettling-known, IsSettling-parts, outcome-false, tasks_size-pop}
 use Rattle.type_core.proofs.table.TypeTable.settle.Goals as goal
+use Rattle.type_core.proofs.table.TypeTable.settle.Goals.{then-is_landmark+in_ok-push-in-Parts, else-is_landmark}
 
-pub verdict-requires-clause-within : goal.verdict-requires-clause-within
-verdict-requires-clause-within c =
-    (IsPath-current (IsOpen c.args.self.now c.loop-part.answers.entries) c.loop-part.waiting.items c.loop-part.current c.loop-part.invariant.settling.path).within
+pub keep-requires-clause-within : goal.keep-requires-clause-within
+keep-requires-clause-within c = (keep_fits _ _ _ _ _ c.in-Some.ensures.items c.loop-task.invariant.settling _ c.in-Keep.is).0
 
-pub loop-part-preserved-in-Waits : goal.loop-part-preserved-in-Waits
-loop-part-preserved-in-Waits c =
-    let loop = c.loop-part in
+pub keep-requires-clause-relation : goal.keep-requires-clause-relation
+keep-requires-clause-relation c = (keep_fits _ _ _ _ _ c.in-Some.ensures.items c.loop-task.invariant.settling _ c.in-Keep.is).1
+
+pub loop-task-preserved-in-Continue-branch-3 : goal.loop-task-preserved-in-Continue-branch-3
+loop-task-preserved-in-Continue-branch-3 c =
+    let unchanged = c.in_ok-keep-in-Keep.ensures.unchanged in
     record {
-      settling = subst (λ waiting. IsSettling c.args.self.now c.args.pairing loop.answers.entries waiting c.in-Waits.part) (sym c.in_ok-push-in-Waits.ensures.items)
-          (IsSettling-waits c.args.self.now c.args.pairing loop.answers.entries loop.waiting.items loop.current loop.invariant.settling c.in-Waits.part c.in-Waits.ensures);
-      small = loop.invariant.small;
+      same = unchanged ∙ c.loop-task.invariant.same;
+      settling = subst (λ table. IsSettling table c.args.pairing c.pop.new.self.items true) (sym unchanged)
+          (IsSettling-kept _ _ _ _ _ c.in-Some.ensures.items c.loop-task.invariant.settling _ c.in-Keep.is);
     }
 
-pub note-requires : goal.note-requires
-note-requires c =
-    (IsPath-current (IsOpen c.args.self.now c.loop-part.answers.entries) c.loop-part.waiting.items c.loop-part.current c.loop-part.invariant.settling.path).unknown
+pub verdict-requires : goal.verdict-requires
+verdict-requires c = asked_within _ _ _ _ _ c.in-Some.ensures.items c.loop-task.invariant.settling _ c.in-Ask.is
 
-pub returns-in_default-clause-answers : goal.returns-in_default-clause-answers
-returns-in_default-clause-answers c =
-    let loop = c.loop-part in
-    answers_more c.args.self.now c.args.pairing loop.answers.entries loop.waiting.items loop.current loop.invariant.settling c.in-Known.answer _ c.in-Known.ensures
-    c.in_ok-note-in-Known.ensures.last
+pub loop-task-smaller-in-Known-true : goal.loop-task-smaller-in-Known-true
+loop-task-smaller-in-Known-true c = tasks_size-pop _ _ _ _ c.in-Some.ensures.items
 
-pub loop-part-preserved : goal.loop-part-preserved
-loop-part-preserved c =
-    let loop = c.loop-part in
-    record {
-      settling = IsSettling-known c.args.self.now c.args.pairing loop.answers.entries loop.waiting.items loop.current loop.invariant.settling c.in-Known.answer c.note.new.noted.entries
-          c.pop.new.self.items c.in-Some.next c.in-Known.ensures c.in_ok-note-in-Known.ensures.noted c.in_ok-note-in-Known.ensures.last c.in-Some.ensures.items;
-      small = c.in_ok-note-in-Known.ensures.small;
-    }
+pub loop-task-preserved-in-Known-true : goal.loop-task-preserved-in-Known-true
+loop-task-preserved-in-Known-true c = record {
+  same = c.loop-task.invariant.same;
+  settling = IsSettling-known _ _ _ _ _ c.in-Some.ensures.items c.loop-task.invariant.settling _ c.in-Ask.is true (sym c.in-Known-true.field-0-test ∙ c.in-Known-true.ensures);
+}
+
+pub keep_apart-requires : goal.keep_apart-requires
+keep_apart-requires c =
+    subst (λ tasks. AreTasks c.loop-task.self tasks false) (sym c.as_slice.ensures.value)
+    (IsSettling-known _ _ _ _ _ c.in-Some.ensures.items c.loop-task.invariant.settling _ c.in-Ask.is false (sym c.in-Known-false.field-0-test ∙ c.in-Known-false.ensures)).each
+
+pub returns-in-Known-false-clause-consistent : goal.returns-in-Known-false-clause-consistent
+returns-in-Known-false-clause-consistent c =
+    let settling = IsSettling-known _ _ _ _ _ c.in-Some.ensures.items c.loop-task.invariant.settling _ c.in-Ask.is false (sym c.in-Known-false.field-0-test ∙ c.in-Known-false.ensures) in
+    sym (subst (λ table. is_consistent_pairing table c.args.pairing ≡ false) c.loop-task.invariant.same (settling.root_found ∙ outcome-false c.loop-task.self c.pop.new.self.items))
+
+pub loop-task-preserved : goal.loop-task-preserved
+loop-task-preserved c = record {
+  same = c.loop-task.invariant.same;
+  settling = subst (λ tasks. IsSettling c.loop-task.self c.args.pairing tasks true)
+      (sym (c.in_ok-push-in-Parts-3.ensures.items ∙ ap (λ ts. ts ++ Ask c.in-Parts.first ∷ []) c.in_ok-push-in-Parts-2.ensures.items))
+      (IsSettling-parts _ _ _ _ _ c.in-Some.ensures.items c.loop-task.invariant.settling _ c.in-Ask.is _ _ c.in-Parts.ensures _ (
+      elim c.if-is_landmark.branch [ then-is_landmark+in_ok-push-in-Parts w ↦ inr (ap (λ v. v.items) w.tasks-is ∙ w.in_ok-push-in-Parts.ensures.items) | else-is_landmark w ↦ inl (ap (λ v. v.items) w.tasks-is) ]));
+}

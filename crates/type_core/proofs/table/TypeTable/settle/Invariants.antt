@@ -1,13 +1,12 @@
-use Rattle.std.proofs.Common.{◌+◌, ◌-◌, ◌*◌, ◌^◌, ◌<◌, length}
-use Rattle.type_core.proofs.AnswerLemmas.{IsSettling}
+use Rattle.std.proofs.Common.{◌≡◌, true}
+use Rattle.type_core.proofs.SettleLemmas.{IsSettling, tasks_size}
 use Rattle.type_core.proofs.table.TypeTable.settle.Given as goal
 
-abbrev pub invariant-loop-part : goal.invariant-loop-part
-invariant-loop-part l = record {
-  settling : IsSettling l.self l.fn.pairing l.answers.entries l.waiting.items l.current;
-  small : length l.answers.entries < 2 ^ 63;
+abbrev pub invariant-loop-task : goal.invariant-loop-task
+invariant-loop-task l = record {
+  same : l.self ≡ l.fn.self;
+  settling : IsSettling l.self l.fn.pairing l.tasks.items true;
 }
 
--- a step answers one more pairing, or goes on to a lesser left number
-abbrev pub decreases-loop-part : goal.decreases-loop-part
-decreases-loop-part l = (2 ^ 63 - length l.answers.entries) * 2 ^ 64 + l.current.left.0
+abbrev pub decreases-loop-task : goal.decreases-loop-task
+decreases-loop-task l = tasks_size l.self l.tasks.items
