@@ -1,6 +1,7 @@
 ghost use Rattle.std.specs.Prelude.{IfOk};
 ghost use Rattle.type_core.specs.TypeTable.{IsTypeOf, KeepsTypes};
 
+use std::alloc::Global;
 use std::test::Fail;
 use type_core::{NoMemory, TypeId, TypePrinter, TypeTable};
 
@@ -106,24 +107,43 @@ fn shared_parts_are_met_once(rt: HostRuntime) -> Result<(), Fail> {
     Ok(())
 }
 
-// Types with so many pairs have landmarks among their parts.
+// The meet of the functions of so many steps from two types. Types of some hundred steps have landmarks among their parts.
+fn meet_of_chains(
+    alloc: Global,
+    table: &mut TypeTable,
+    from: TypeId,
+    other: TypeId,
+    times: u32,
+) -> Result<Option<TypeId>, NoMemory>
+    requires from { IsTypeOf table.old from }
+    requires other { IsTypeOf table.old other }
+{
+    let t = chain(table, from, times)?;
+    let u = chain(table, other, times)?;
+    table.meet(alloc, t, u)
+}
+
 #[test]
 fn long_types_are_met_from_each_of_their_ends_on(rt: HostRuntime) -> Result<(), Fail> {
     let mut table = TypeTable::new(rt.alloc())?;
-    let num = table.num();
-    let t = chain(&mut table, num, 300)?;
-    let unknown = table.unknown();
-    let u = chain(&mut table, unknown, 300)?;
-    let boolean = table.boolean();
-    let v = chain(&mut table, boolean, 300)?;
-    assert!(rt; table.relate(rt.alloc(), t, v)? == false);
-    assert!(rt; table.meet(rt.alloc(), u, t)? == Some(t));
-    let longer_t = table.arrow(t, num)?;
-    let longer_u = table.arrow(u, num)?;
-    let longer_v = table.arrow(v, num)?;
-    assert!(rt; table.meet(rt.alloc(), longer_u, longer_t)? == Some(longer_t));
-    assert!(rt; table.meet(rt.alloc(), longer_u, longer_v)? == Some(longer_v));
-    assert!(rt; table.meet(rt.alloc(), longer_t, longer_v)? == None);
+    for times in 300..302 {
+        let num = table.num();
+        let t = chain(&mut table, num, times)?;
+        let num = table.num();
+        let unknown = table.unknown();
+        assert!(rt; meet_of_chains(rt.alloc(), &mut table, unknown, num, times)? == Some(t));
+    }
+    Ok(())
+}
+
+#[test]
+fn long_types_that_differ_at_their_ends_have_no_meet(rt: HostRuntime) -> Result<(), Fail> {
+    let mut table = TypeTable::new(rt.alloc())?;
+    for times in 300..302 {
+        let num = table.num();
+        let boolean = table.boolean();
+        assert!(rt; meet_of_chains(rt.alloc(), &mut table, num, boolean, times)? == None);
+    }
     Ok(())
 }
 

@@ -10,4 +10,4 @@ mod short;
 pub use no_memory::NoMemory;
 pub use number::{put_number, read_number, take_number, write_number};
 pub use separated::{split_at_first, split_at_next};
-pub use short::{put_short, write_short};
+pub use short::write_short;

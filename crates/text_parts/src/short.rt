@@ -12,8 +12,8 @@ pub fn write_short(text: &[u8], out: &mut Vec<u8>) -> Result<(), NoMemory>
     Ok(())
 }
 
-/// The same where there is room for it.
-pub fn put_short(text: &[u8], out: &mut Vec<u8>)
+// The same where there is room for it.
+pub(crate) fn put_short(text: &[u8], out: &mut Vec<u8>)
     requires room { vec_len out.old + length text.now ≤ vec_capacity out.old }
     ensures written { out.new.items ≡ out.old.items ++ text.now }
     ensures len { vec_len out.new ≡ vec_len out.old + length text.now }

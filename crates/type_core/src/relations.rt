@@ -14,7 +14,7 @@ use crate::type_id::TypeId;
 pub(crate) enum Relation {
     // They are not consistent.
     Apart,
-    // They are consistent, and nobody has asked for their meet.
+    // They are consistent, and their meet was not found yet.
     Consistent,
     // This is their meet.
     Meets(TypeId),
