@@ -1,4 +1,5 @@
 pub mod Canonical
+pub mod Copied
 pub mod Groups
 pub mod Moved
 pub mod NamedLines

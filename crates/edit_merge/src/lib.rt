@@ -3,6 +3,7 @@
 //! only where edges share a name are their lines read a second time. `merge` stands on this crate.
 #![tactic(auto)]
 
+mod edit_line;
 mod merge;
 mod named_line;
 mod naming;
