@@ -9,13 +9,20 @@ use Rattle.edit_merge.specs.declared.edit_line.EditLine.{EditLine}
 use Rattle.edit_merge.specs.declared.named_line.NamedLine.{NamedLine}
 use Rattle.edit_merge.specs.Named.{Stands, StandAll}
 
+abbrev pub edit_of : EditLine → Edit
+edit_of read = read.edit
+
 -- the edits, in turn
 abbrev pub edits_of : List EditLine → List Edit
-edits_of lines = map (λ (read : EditLine). read.edit) lines
+edits_of lines = map edit_of lines
 
--- each line stands for the edit beside it
+-- the line stands for the edit beside it
+abbrev pub IsSpelled : Version → List ℕ → EditLine → Type 0
+IsSpelled version text read = Stands version text read.line (edit_of read)
+
+-- each line does
 abbrev pub AreSpelled : Version → List ℕ → List EditLine → Type 0
-AreSpelled version text lines = All (λ (read : EditLine). Stands version text read.line read.edit) lines
+AreSpelled version text lines = All (IsSpelled version text) lines
 
 -- lines were read in turn, each beside its edit
 pub record AreRead (version : Version) (text : List ℕ) (lines : List NamedLine) (read : List EditLine) : Type 0 where

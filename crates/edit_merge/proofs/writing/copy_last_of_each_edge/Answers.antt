@@ -1,5 +1,6 @@
 use Rattle.std.proofs.Common.{◌+◌, subst, sym}
-use Rattle.edit_merge.proofs.Copied.{AreCopiedTo, AreSpelled-later, stands_at, copied_to_first, copied_more, copied_no_more, copied_all}
+use Rattle.edit_merge.proofs.Copied.{AreCopiedTo, copied_more, copied_no_more, copied_all}
+use Rattle.edit_merge.proofs.EditLines.{AreSpelled-later, stands_at}
 use Rattle.edit_merge.proofs.writing.copy_last_of_each_edge.Goals as goal
 use Rattle.edit_merge.proofs.writing.copy_last_of_each_edge.Goals.{then-not-begins_with_edge+in_ok-copy_line, else-not-begins_with_edge}
 

@@ -1,5 +1,5 @@
 use Rattle.std.proofs.Common.{refl, arith}
-use Rattle.edit_merge.proofs.Copied.{read_more}
+use Rattle.edit_merge.proofs.EditLines.{read_more}
 use Rattle.edit_merge.proofs.Standing.{DoStand-at}
 use Rattle.edit_merge.proofs.writing.read_group.Goals as goal
 

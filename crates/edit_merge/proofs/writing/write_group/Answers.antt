@@ -1,7 +1,8 @@
 use Rattle.std.proofs.lemmas.Result.{on_ok_weaker}
 use Rattle.std.proofs.Common.{sym, subst}
 use Rattle.edit_merge.specs.EditLine.{AreSpelled, AreCopied}
-use Rattle.edit_merge.proofs.Copied.{AreSpelled-moved, written_by_copies}
+use Rattle.edit_merge.proofs.Copied.{written_by_copies}
+use Rattle.edit_merge.proofs.EditLines.{AreSpelled-moved}
 use Rattle.edit_merge.proofs.Groups.{written_by_one}
 use Rattle.edit_merge.proofs.writing.write_group.Goals as goal
 
