@@ -35,22 +35,22 @@ abbrev pub IsChain : List NamedLine → Type 0
 IsChain [] = Unit {0}
 IsChain (line ∷ lines) = IsChainAfter line.name lines
 
-not_after : (o p : Ordering) → is_lt (ordering_then o p) ≡ false → is_gt (ordering_reverse o) ≡ false
+pub not_after : (o p : Ordering) → is_lt (ordering_then o p) ≡ false → is_gt (ordering_reverse o) ≡ false
 not_after Less p h = absurd cc
 not_after Equal p h = refl
 not_after Greater p h = refl
 
-sorted_tail : (x : NamedLine) (xs : List NamedLine) → IsSorted line_impl.ghosts.cmp (x ∷ xs) → IsSorted line_impl.ghosts.cmp xs
-sorted_tail x xs up k d low high =
+pub sorted_tail : {X : Type 0} (cmp : X → X → Ordering) (x : X) (xs : List X) → IsSorted cmp (x ∷ xs) → IsSorted cmp xs
+sorted_tail cmp x xs up k d low high =
     let next : suc k + 1 ≡ suc (k + 1) = omega arith in
-    subst (λ (n : ℕ). is_lt (line_impl.ghosts.cmp (get_or (x ∷ xs) n d) (get_or xs k d)) ≡ false) next (up (suc k) d (omega arith) (omega arith))
+    subst (λ (n : ℕ). is_lt (cmp (get_or (x ∷ xs) n d) (get_or xs k d)) ≡ false) next (up (suc k) d (omega arith) (omega arith))
 
 chain_after : (x : NamedLine) (xs : List NamedLine) → IsSorted line_impl.ghosts.cmp (x ∷ xs) → IsChainAfter x.name xs
 chain_after x [] up = tt
 chain_after x (y ∷ ys) up =
     let first : is_lt (ordering_then (name_cmp y.name x.name) (ordering_then (nat_cmp y.start x.start) (nat_cmp y.end x.end))) ≡ false = up zero x (omega arith) (omega arith) in
     let in_order : is_gt (name_cmp x.name y.name) ≡ false = ap is_gt (name_cmp_total.antisymm x.name y.name) ∙ not_after (name_cmp y.name x.name) _ first in
-    (in_order, chain_after y ys (sorted_tail x (y ∷ ys) up))
+    (in_order, chain_after y ys (sorted_tail line_impl.ghosts.cmp x (y ∷ ys) up))
 
 pub chain_from_sorted : (xs : List NamedLine) → IsSorted line_impl.ghosts.cmp xs → IsChain xs
 chain_from_sorted [] up = tt
@@ -152,7 +152,7 @@ comes_before name xs ys before named =
     (λ x lt. All-weaker (λ y. (edit_edge y).name ≡ name) (λ y. edge_cmp (edit_edge x) (edit_edge y) ≡ Less) ys
     (λ y is. edges_in_order (edit_edge x) (edit_edge y) (ap (name_cmp (edit_edge x).name) is ∙ lt)) named) before
 
-text_of-append : (xs ys : List Edit) → text_of (xs ++ ys) ≡ text_of xs ++ text_of ys
+pub text_of-append : (xs ys : List Edit) → text_of (xs ++ ys) ≡ text_of xs ++ text_of ys
 text_of-append xs ys = flat_map-append line_of xs ys
 
 module _ (version : Version) (text : List ℕ) where

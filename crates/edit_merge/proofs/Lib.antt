@@ -1,4 +1,6 @@
 pub mod Canonical
+pub mod Copied
+pub mod EditLines
 pub mod Groups
 pub mod Moved
 pub mod NamedLines

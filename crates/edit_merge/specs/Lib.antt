@@ -1,2 +1,3 @@
+pub mod EditLine
 pub mod Merged
 pub mod Named

@@ -30,18 +30,6 @@ impl<T: Drop> From<AllocFailed<T>> for NoMemory {
     }
 }
 
-impl From<grove_edits::NoMemory> for NoMemory {
-    fn from(_error: grove_edits::NoMemory) -> NoMemory {
-        NoMemory
-    }
-}
-
-impl From<edit_text::NoMemory> for NoMemory {
-    fn from(_error: edit_text::NoMemory) -> NoMemory {
-        NoMemory
-    }
-}
-
 impl From<NoMemory> for TextFault {
     ghost from_gives = { λ _ fault. fault ≡ NoMemory };
 

@@ -3,15 +3,18 @@ ghost use Rattle.std.specs.List.Sorted.{IsSorted};
 ghost use Rattle.grove_sorts.specs.declared.version.Version.{Version};
 ghost use Rattle.grove_edits.specs.declared.edit.Edit.{Edit};
 ghost use Rattle.grove_edits.specs.Edit.{edit_edge, edit_kind};
+ghost use Rattle.grove_edits.specs.Graph.{begins_with};
 ghost use Rattle.grove_edits.specs.declared.edit.EditKind.TheVariants.{Delete};
 ghost use Rattle.edit_text.specs.Line.{form, spaced, edge_parts};
 ghost use Rattle.edit_text.specs.Text.{line_of};
-ghost use Rattle.edit_merge.specs.Named.{Stands, StandAll, DoesStand, DoStand, StandsForAll, IsWritten, group_length};
+ghost use Rattle.edit_merge.specs.EditLine.{AreCopied, AreRead, AreSpelled, edits_of};
+ghost use Rattle.edit_merge.specs.Named.{Stands, DoesStand, DoStand, StandsForAll, IsWritten, group_length};
 
+use crate::edit_line::EditLine;
 use crate::named_line::NamedLine;
 use crate::no_memory::NoMemory;
-use edit_text::{read_line, write_edits};
-use grove_edits::{Edit, EditList};
+use edit_text::read_line;
+use grove_edits::Edit;
 use grove_names::Name;
 use grove_sorts::Version;
 use std::alloc::Global;
@@ -63,8 +66,9 @@ fn write_group(
     match line_to_copy(text, group) {
         Some(line) => copy_line(text, line, out),
         None => {
-            let edits = read_group(alloc, version, text, group)?.into_canonical();
-            Ok(write_edits(edits.as_slice(), out)?)
+            let mut lines = read_group(alloc, version, text, group)?;
+            lines.sort_unstable();
+            copy_last_of_each_edge(text, &lines, out)
         }
     }
 }
@@ -127,15 +131,16 @@ fn read_group(
     version: Version,
     text: &[u8],
     group: &[NamedLine],
-) -> Result<EditList, NoMemory>
+) -> Result<Vec<EditLine>, NoMemory>
     requires { DoStand version text.now group.now }
-    ensures { IfOk result (StandAll version text.now group.now) }
+    ensures { IfOk result (λ lines. AreRead version text.now group.now lines.items) }
 {
-    let mut edits = EditList::new(alloc);
+    let mut lines = Vec::with_capacity(alloc, group.len())?;
     for line in group {
-        edits.push(read_again(version, text, *line))?;
+        let edit = read_again(version, text, *line);
+        lines.push_reserved(EditLine { edit, line: *line });
     }
-    Ok(edits)
+    Ok(lines)
 }
 
 fn read_again(version: Version, text: &[u8], line: NamedLine) -> Edit
@@ -145,6 +150,36 @@ fn read_again(version: Version, text: &[u8], line: NamedLine) -> Edit
     match read_line(version, line_at(text, line)) {
         Ok(edit) => edit,
         Err(_) => unreachable!(),
+    }
+}
+
+// Copies the last line of each edge. In sorted lines that is the line of a deletion, if there is one.
+fn copy_last_of_each_edge(
+    text: &[u8],
+    lines: &[EditLine],
+    out: &mut Vec<u8>,
+) -> Result<(), NoMemory>
+    requires sorted { IsSorted ⟦<EditLine as Ord>⟧.cmp lines.now }
+    requires spelled { (version : Version) × AreSpelled version text.now lines.now }
+    ensures { OnOk result (AreCopied lines.now out.old.items out.new.items) }
+{
+    for i in 0..lines.len() {
+        let line = lines[i].line;
+        if !begins_with_edge(text, &lines[i + 1..], line) {
+            copy_line(text, line, out)?;
+        }
+    }
+    Ok(())
+}
+
+// Whether the first of the lines is of the same edge as this one.
+fn begins_with_edge(text: &[u8], lines: &[EditLine], line: NamedLine) -> bool
+    requires { (version : Version) × DoesStand version text.now line × AreSpelled version text.now lines.now }
+    ensures { (version : Version) (edit : Edit) → Stands version text.now line edit → AreSpelled version text.now lines.now → result ≡ begins_with (edit_edge edit) (edits_of lines.now) }
+{
+    match lines {
+        [] => false,
+        [first, ..] => are_of_one_edge(text, line, first.line),
     }
 }
 
