@@ -32,78 +32,176 @@ fn chain(table: &mut TypeTable, from: TypeId, times: u32) -> Result<TypeId, NoMe
     Ok(t)
 }
 
-#[test]
-fn text_goes_down_to_the_levels(rt: HostRuntime) -> Result<(), Fail> {
-    let mut table = TypeTable::new(rt.alloc())?;
+// Prints a type down to so many levels.
+fn print_type(
+    alloc: Global,
+    table: &TypeTable,
+    t: TypeId,
+    levels: u8,
+    text: &mut Vec<u8>,
+) -> Result<(), Fail>
+    requires { IsTypeOf table.now t }
+{
+    TypePrinter::new(alloc, table).write_type(t, levels, text)?;
+    Ok(())
+}
+
+fn print_chain(alloc: Global, text: &mut Vec<u8>) -> Result<(), Fail> {
+    let mut table = TypeTable::new(alloc)?;
     let num = table.num();
     let t = chain(&mut table, num, 9)?;
+    print_type(alloc, &table, t, 8, text)
+}
+
+#[test]
+fn text_goes_down_to_the_levels(rt: HostRuntime) -> Result<(), Fail> {
     let mut text = Vec::new(rt.alloc());
-    TypePrinter::new(rt.alloc(), &table).write_type(t, 8, &mut text)?;
+    print_chain(rt.alloc(), &mut text)?;
     let wanted = b"((((((((..->num)->num)->num)->num)->num)->num)->num)->num)";
     assert!(rt; text.as_slice() == wanted.as_slice());
     Ok(())
 }
 
+// The sum of a pair and a number.
+fn sum_of_pair(table: &mut TypeTable) -> Result<TypeId, NoMemory>
+    ensures { IfOk result (IsTypeOf table.new) }
+{
+    let pair = table.product(table.unknown(), table.boolean())?;
+    let num = table.num();
+    table.sum(pair, num)
+}
+
+// Prints a type down to two levels and to none, by one printer.
+fn print_twice(
+    alloc: Global,
+    table: &TypeTable,
+    t: TypeId,
+    text: &mut Vec<u8>,
+) -> Result<(), Fail>
+    requires { IsTypeOf table.now t }
+{
+    let mut printer = TypePrinter::new(alloc, table);
+    printer.write_type(t, 2, text)?;
+    printer.write_type(t, 0, text)?;
+    Ok(())
+}
+
+fn print_sum_of_pair(alloc: Global, text: &mut Vec<u8>) -> Result<(), Fail> {
+    let mut table = TypeTable::new(alloc)?;
+    let t = sum_of_pair(&mut table)?;
+    print_twice(alloc, &table, t, text)
+}
+
 #[test]
 fn text_names_each_form(rt: HostRuntime) -> Result<(), Fail> {
-    let mut table = TypeTable::new(rt.alloc())?;
-    let unknown = table.unknown();
-    let boolean = table.boolean();
-    let pair = table.product(unknown, boolean)?;
-    let num = table.num();
-    let t = table.sum(pair, num)?;
     let mut text = Vec::new(rt.alloc());
-    let mut printer = TypePrinter::new(rt.alloc(), &table);
-    printer.write_type(t, 2, &mut text)?;
-    printer.write_type(t, 0, &mut text)?;
+    print_sum_of_pair(rt.alloc(), &mut text)?;
     assert!(rt; text.as_slice() == b"((?*bool)+num)..".as_slice());
     Ok(())
+}
+
+// The type of functions of numbers, made twice.
+fn arrows(table: &mut TypeTable) -> Result<[TypeId; 2], NoMemory> {
+    let num = table.num();
+    let first = table.arrow(num, num)?;
+    let second = table.arrow(num, num)?;
+    Ok([first, second])
 }
 
 #[test]
 fn a_type_has_one_number(rt: HostRuntime) -> Result<(), Fail> {
     let mut table = TypeTable::new(rt.alloc())?;
-    let num = table.num();
-    let first = table.arrow(num, num)?;
-    assert!(rt; table.arrow(num, num)? == first);
+    let [first, second] = arrows(&mut table)?;
+    assert!(rt; second == first);
     let unknown = table.unknown();
     assert!(rt; unknown != table.num());
     Ok(())
 }
 
+// The meet of a function from numbers and a function to truth values.
+fn meet_of_functions(alloc: Global, table: &mut TypeTable) -> Result<TypeId, Fail>
+    ensures { IfOk result (IsTypeOf table.new) }
+{
+    let left = table.arrow(table.num(), table.unknown())?;
+    let right = table.arrow(table.unknown(), table.boolean())?;
+    match table.meet(alloc, left, right)? {
+        Some(m) => Ok(m),
+        None => Err(Fail::from("no meet")),
+    }
+}
+
+fn print_meet_of_functions(alloc: Global, text: &mut Vec<u8>) -> Result<(), Fail> {
+    let mut table = TypeTable::new(alloc)?;
+    let m = meet_of_functions(alloc, &mut table)?;
+    print_type(alloc, &table, m, 8, text)
+}
+
 #[test]
 fn the_meet_has_what_either_knows(rt: HostRuntime) -> Result<(), Fail> {
-    let mut table = TypeTable::new(rt.alloc())?;
-    let unknown = table.unknown();
-    let num = table.num();
-    let left = table.arrow(num, unknown)?;
-    let unknown = table.unknown();
-    let boolean = table.boolean();
-    let right = table.arrow(unknown, boolean)?;
-    let Some(m) = table.meet(rt.alloc(), left, right)? else {
-        return Err(Fail::from("no meet"));
-    };
     let mut text = Vec::new(rt.alloc());
-    TypePrinter::new(rt.alloc(), &table).write_type(m, 8, &mut text)?;
+    print_meet_of_functions(rt.alloc(), &mut text)?;
     assert!(rt; text.as_slice() == b"(num->bool)".as_slice());
     Ok(())
+}
+
+// What is found of three types, in the order in which it is found.
+#[derive(Clone, Copy)]
+struct Found {
+    meet: Option<TypeId>,
+    no_meet: Option<TypeId>,
+    related: bool,
+    // What was found before is found again.
+    related_again: bool,
+    meet_again: Option<TypeId>,
+}
+
+// What is found of a type, of another that it has a meet with, and of a third that has one with that alone.
+fn find_all(
+    alloc: Global,
+    table: &mut TypeTable,
+    t: TypeId,
+    u: TypeId,
+    v: TypeId,
+) -> Result<Found, NoMemory>
+    requires t { IsTypeOf table.old t }
+    requires u { IsTypeOf table.old u }
+    requires v { IsTypeOf table.old v }
+{
+    let meet = table.meet(alloc, t, u)?;
+    let no_meet = table.meet(alloc, t, v)?;
+    let related = table.relate(alloc, u, v)?;
+    let related_again = table.relate(alloc, t, v)?;
+    let meet_again = table.meet(alloc, t, u)?;
+    Ok(Found {
+        meet,
+        no_meet,
+        related,
+        related_again,
+        meet_again,
+    })
+}
+
+// The product of numbers that is doubled forty times, and what is found of it, of the unknown type and of truth values doubled as often.
+fn find_in_doubled(alloc: Global, table: &mut TypeTable) -> Result<(TypeId, Found), NoMemory> {
+    let num = table.num();
+    let t = doubled(table, num, 40)?;
+    let unknown = table.unknown();
+    let u = doubled(table, unknown, 40)?;
+    let boolean = table.boolean();
+    let v = doubled(table, boolean, 40)?;
+    let found = find_all(alloc, table, t, u, v)?;
+    Ok((t, found))
 }
 
 #[test]
 fn shared_parts_are_met_once(rt: HostRuntime) -> Result<(), Fail> {
     let mut table = TypeTable::new(rt.alloc())?;
-    let num = table.num();
-    let t = doubled(&mut table, num, 40)?;
-    let unknown = table.unknown();
-    let u = doubled(&mut table, unknown, 40)?;
-    assert!(rt; table.meet(rt.alloc(), t, u)? == Some(t));
-    let boolean = table.boolean();
-    let v = doubled(&mut table, boolean, 40)?;
-    assert!(rt; table.meet(rt.alloc(), t, v)? == None);
-    assert!(rt; table.relate(rt.alloc(), u, v)? == true);
-    // What was found before is found again.
-    assert!(rt; table.relate(rt.alloc(), t, v)? == false);
-    assert!(rt; table.meet(rt.alloc(), t, u)? == Some(t));
+    let (t, found) = find_in_doubled(rt.alloc(), &mut table)?;
+    assert!(rt; found.meet == Some(t));
+    assert!(rt; found.no_meet == None);
+    assert!(rt; found.related == true);
+    assert!(rt; found.related_again == false);
+    assert!(rt; found.meet_again == Some(t));
     Ok(())
 }
 
@@ -147,17 +245,30 @@ fn long_types_that_differ_at_their_ends_have_no_meet(rt: HostRuntime) -> Result<
     Ok(())
 }
 
+// The parts that a type is matched by.
+type Parts = Option<(TypeId, TypeId)>;
+
+// The parts of a function from numbers to truth values, as a function and as a pair.
+fn parts_of_arrow(table: &mut TypeTable) -> Result<[Parts; 2], NoMemory> {
+    let arrow = table.arrow(table.num(), table.boolean())?;
+    Ok([table.matched_arrow(arrow), table.matched_product(arrow)])
+}
+
+// The parts of a sum of truth values and numbers, and those of the unknown type as a sum.
+fn parts_of_sums(table: &mut TypeTable) -> Result<[Parts; 2], NoMemory> {
+    let sum = table.sum(table.boolean(), table.num())?;
+    Ok([table.matched_sum(sum), table.matched_sum(table.unknown())])
+}
+
 #[test]
 fn matched_forms_give_the_parts(rt: HostRuntime) -> Result<(), Fail> {
     let mut table = TypeTable::new(rt.alloc())?;
-    let num = table.num();
-    let boolean = table.boolean();
-    let arrow = table.arrow(num, boolean)?;
-    let sum = table.sum(boolean, num)?;
-    let unknown = table.unknown();
-    assert!(rt; table.matched_arrow(arrow) == Some((num, boolean)));
-    assert!(rt; table.matched_product(arrow) == None);
-    assert!(rt; table.matched_sum(sum) == Some((boolean, num)));
-    assert!(rt; table.matched_sum(unknown) == Some((unknown, unknown)));
+    let (num, boolean, unknown) = (table.num(), table.boolean(), table.unknown());
+    let [arrow, product] = parts_of_arrow(&mut table)?;
+    assert!(rt; arrow == Some((num, boolean)));
+    assert!(rt; product == None);
+    let [sum, of_unknown] = parts_of_sums(&mut table)?;
+    assert!(rt; sum == Some((boolean, num)));
+    assert!(rt; of_unknown == Some((unknown, unknown)));
     Ok(())
 }
