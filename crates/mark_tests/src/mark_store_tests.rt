@@ -1,14 +1,18 @@
-use ctx_table::CtxTable;
+use ctx_table::{CtxId, CtxTable};
 use grove_edits::Vertex;
 use mark_step::Mark;
 use mark_store::{MarkStore, Record};
+use std::alloc::Global;
 use std::test::Fail;
+
+fn empty_context(alloc: Global) -> Result<CtxId, Fail> {
+    Ok(CtxTable::new(alloc)?.empty())
+}
 
 #[test]
 fn a_record_is_put_and_taken_away(rt: HostRuntime) -> Result<(), Fail> {
-    let ctxs = CtxTable::new(rt.alloc())?;
     let record = Record {
-        ctx: ctxs.empty(),
+        ctx: empty_context(rt.alloc())?,
         mode: None,
         typ: None,
         mark: Mark::None,
