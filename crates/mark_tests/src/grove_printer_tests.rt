@@ -102,8 +102,8 @@ fn print_tree_of(
     Ok(())
 }
 
-// Prints the lines of that tree that have a mark.
-fn print_marked_lines_of_tree(
+// Prints a heading, that tree, and its lines that have a mark.
+fn print_tree_by_itself(
     alloc: Global,
     nodes: &[LentNode; 2],
     types: &TypeTable,
@@ -113,6 +113,8 @@ fn print_marked_lines_of_tree(
     requires { IsAddedOf types.now added }
 {
     let tree = tree_of(alloc, nodes, added)?;
+    print_heading(Section::NoParent, 1, text)?;
+    print_tree(&tree, types, text)?;
     print_marked_lines_of(&tree, types, text)?;
     Ok(())
 }
@@ -150,8 +152,8 @@ cycle 0
     Ok(())
 }
 
-// Prints a heading, the tree of the root and a hole that is free, and its lines that have a mark.
-fn print_tree_by_itself(alloc: Global, text: &mut Vec<u8>) -> Result<(), Fail> {
+// Prints the tree of the root and a hole that is free by itself.
+fn print_free(alloc: Global, text: &mut Vec<u8>) -> Result<(), Fail> {
     let types = TypeTable::new(alloc)?;
     let head = Vertex::ROOT;
     let nodes = [
@@ -163,15 +165,13 @@ fn print_tree_by_itself(alloc: Global, text: &mut Vec<u8>) -> Result<(), Fail> {
         typ: Some(types.unknown()),
         mark: Mark::Free,
     };
-    print_heading(Section::NoParent, 1, text)?;
-    print_tree_of(alloc, &nodes, &types, free, text)?;
-    print_marked_lines_of_tree(alloc, &nodes, &types, free, text)
+    print_tree_by_itself(alloc, &nodes, &types, free, text)
 }
 
 #[test]
 fn a_tree_is_printed_by_itself(rt: HostRuntime) -> Result<(), Fail> {
     let mut text = Vec::new(rt.alloc());
-    print_tree_by_itself(rt.alloc(), &mut text)?;
+    print_free(rt.alloc(), &mut text)?;
     assert!(rt;
         text.as_slice()
             == b"none 1
