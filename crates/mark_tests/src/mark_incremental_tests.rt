@@ -182,6 +182,17 @@ fn told_after(alloc: Global, lines: &[&str], line: &str) -> Result<Told, Fail> {
     live.told(line)
 }
 
+// What is told while an edit is applied, and once it is taken back.
+fn told_around(live: &mut Live, edit: &Edit, line: &str) -> Result<(Told, Told), Fail>
+    requires indexed { AreIndexed live.old.store live.old.children live.old.parents }
+    requires stand { StandFor (state_in live.old.store) live.old.marks }
+{
+    let applied = applied_counting::<Brand>(live, edit, Blank::new(1))?;
+    let told = live.told(line)?;
+    live.take_back(edit, &applied);
+    Ok((told, live.told(line)?))
+}
+
 // What is told while the edit of one more line is applied, and once that is taken back.
 fn told_with(
     alloc: Global,
@@ -189,28 +200,40 @@ fn told_with(
     edited: &str,
     line: &str,
 ) -> Result<(Told, Told), Fail> {
-    let mut live = after(alloc, lines)?;
     let edit = edit(edited)?;
-    let applied = applied_counting::<Brand>(&mut live, &edit, Blank::new(1))?;
-    let told = live.told(line)?;
-    live.take_back(&edit, &applied);
-    Ok((told, live.told(line)?))
+    let mut live = after(alloc, lines)?;
+    told_around(&mut live, &edit, line)
 }
 
-// What is told once all edits of further lines are applied, or none for want of memory, and whether they are.
+fn edits_of(alloc: Global, lines: &[&str]) -> Result<Vec<Edit>, Fail> {
+    let mut edits = Vec::new(alloc);
+    for line in lines {
+        edits.push(edit(line)?)?;
+    }
+    Ok(edits)
+}
+
+// What is told once these edits are applied, or none for want of memory, and whether they are.
+fn told_once_applied(
+    alloc: Global,
+    lines: &[&str],
+    edits: &[Edit],
+    line: &str,
+) -> Result<(bool, Told), Fail> {
+    let mut live = after(alloc, lines)?;
+    let applied = all_counting::<Brand>(&mut live, edits, Blank::new(1));
+    Ok((applied, live.told(line)?))
+}
+
+// The same for the edits of further lines.
 fn told_after_all(
     alloc: Global,
     lines: &[&str],
     further: &[&str],
     line: &str,
 ) -> Result<(bool, Told), Fail> {
-    let mut live = after(alloc, lines)?;
-    let mut edits = Vec::new(alloc);
-    for text in further {
-        edits.push(edit(text)?)?;
-    }
-    let applied = all_counting::<Brand>(&mut live, &edits, Blank::new(1));
-    Ok((applied, live.told(line)?))
+    let edits = edits_of(alloc, further)?;
+    told_once_applied(alloc, lines, &edits, line)
 }
 
 const FUNCTION: [&str; 4] = [
