@@ -102,20 +102,19 @@ fn function_of_truth_values<'t>(
 fn function_against_numbers(
     alloc: Global,
     types: &mut TypeTable,
-    ctxs: &mut CtxTable,
 ) -> Result<(TypeId, Settled, Mode, Option<TypeId>), Fail> {
+    let x = read_ident(Version::Two, b"x")?;
     let num = types.num();
     let numbers = types.arrow(num, num)?;
-    let x = read_ident(Version::Two, b"x")?;
-    let (given, body) = function_of_truth_values(alloc, types, ctxs, &Ctor::Lam, &x, numbers)?;
+    let mut ctxs = CtxTable::new(alloc)?;
+    let (given, body) = function_of_truth_values(alloc, types, &mut ctxs, &Ctor::Lam, &x, numbers)?;
     Ok((numbers, given, body.mode, ctxs.look_up(body.ctx, &x)))
 }
 
 #[test]
 fn a_function_ascribes_another_type(rt: HostRuntime) -> Result<(), Fail> {
     let mut types = TypeTable::new(rt.alloc())?;
-    let mut ctxs = CtxTable::new(rt.alloc())?;
-    let (numbers, given, wanted, x) = function_against_numbers(rt.alloc(), &mut types, &mut ctxs)?;
+    let (numbers, given, wanted, x) = function_against_numbers(rt.alloc(), &mut types)?;
     assert!(rt;
         given
             == Settled {
@@ -129,8 +128,9 @@ fn a_function_ascribes_another_type(rt: HostRuntime) -> Result<(), Fail> {
 }
 
 // What a variable that stands for a truth value shows where a number is wanted.
-fn variable(alloc: Global, types: &mut TypeTable, ctxs: &mut CtxTable) -> Result<Settled, Fail> {
+fn variable(alloc: Global, types: &mut TypeTable) -> Result<Settled, Fail> {
     let x = read_ident(Version::Two, b"x")?;
+    let mut ctxs = CtxTable::new(alloc)?;
     let unbound = Binder {
         name: None,
         typ: types.unknown(),
@@ -143,14 +143,13 @@ fn variable(alloc: Global, types: &mut TypeTable, ctxs: &mut CtxTable) -> Result
         second: unbound,
         done: [None; WIDEST],
     };
-    Ok(settle(alloc, types, ctxs, &node)?)
+    Ok(settle(alloc, types, &ctxs, &node)?)
 }
 
 #[test]
 fn a_variable_has_another_type(rt: HostRuntime) -> Result<(), Fail> {
     let mut types = TypeTable::new(rt.alloc())?;
-    let mut ctxs = CtxTable::new(rt.alloc())?;
-    let given = variable(rt.alloc(), &mut types, &mut ctxs)?;
+    let given = variable(rt.alloc(), &mut types)?;
     assert!(rt;
         given
             == Settled {
@@ -280,11 +279,11 @@ fn right_body<'t>(
 fn right_body_of_names(
     alloc: Global,
     types: &mut TypeTable,
-    ctxs: &mut CtxTable,
 ) -> Result<(Mode, Option<TypeId>, Option<TypeId>), Fail> {
     let x = read_ident(Version::Two, b"x")?;
     let y = read_ident(Version::Two, b"y")?;
-    let body = right_body(alloc, types, ctxs, &Ctor::Case, &x, &y)?;
+    let mut ctxs = CtxTable::new(alloc)?;
+    let body = right_body(alloc, types, &mut ctxs, &Ctor::Case, &x, &y)?;
     Ok((
         body.mode,
         ctxs.look_up(body.ctx, &y),
@@ -295,8 +294,7 @@ fn right_body_of_names(
 #[test]
 fn the_right_body_of_a_case_has_the_right_part(rt: HostRuntime) -> Result<(), Fail> {
     let mut types = TypeTable::new(rt.alloc())?;
-    let mut ctxs = CtxTable::new(rt.alloc())?;
-    let (wanted, y, x) = right_body_of_names(rt.alloc(), &mut types, &mut ctxs)?;
+    let (wanted, y, x) = right_body_of_names(rt.alloc(), &mut types)?;
     assert!(rt; wanted == Mode::Syn);
     assert!(rt; y == Some(types.boolean()));
     assert!(rt; x == None);

@@ -2,6 +2,7 @@ ghost use Rattle.std.specs.Prelude.{◌≡◌, IfOk};
 ghost use Rattle.grove_terms.specs.declared.node.What.TheVariants as whats;
 ghost use Rattle.grove_terms.specs.Nodes.{child_node, head_node};
 ghost use Rattle.grove_terms.specs.Lent.{node_of, nodes_of};
+ghost use Rattle.grove_terms.specs.Sorted.{IsSortedTree};
 
 use ctx_table::CtxTable;
 use grove_edits::{Edge, Vertex};
@@ -91,31 +92,39 @@ fn tree_of<'g>(alloc: Global, nodes: &[LentNode<'g>]) -> Result<Tree<'g>, NoMemo
     Ok(tree)
 }
 
+fn is_typed_by(alloc: Global, tree: &Tree, types: &mut TypeTable) -> Result<bool, Fail>
+    requires sorted { IsSortedTree tree.now }
+{
+    let mut ctxs = CtxTable::new(alloc)?;
+    Ok(is_typed(alloc, tree, types, &mut ctxs)?)
+}
+
+fn is_tree_typed(alloc: Global, tree: &Tree) -> Result<bool, Fail>
+    requires sorted { IsSortedTree tree.now }
+{
+    let mut types = TypeTable::new(alloc)?;
+    is_typed_by(alloc, tree, &mut types)
+}
+
 #[test]
 fn a_sum_of_numbers_is_typed(rt: HostRuntime) -> Result<(), Fail> {
-    let mut types = TypeTable::new(rt.alloc())?;
-    let mut ctxs = CtxTable::new(rt.alloc())?;
     let (sum, left, right) = (SUM, LEFT, RIGHT);
     let tree = tree_of(rt.alloc(), &[head(&sum), child(1, &left), child(1, &right)])?;
-    assert!(rt; is_typed(rt.alloc(), &tree, &mut types, &mut ctxs)? == true);
+    assert!(rt; is_tree_typed(rt.alloc(), &tree)? == true);
     Ok(())
 }
 
 #[test]
 fn a_sum_with_a_free_variable_is_not_typed(rt: HostRuntime) -> Result<(), Fail> {
-    let mut types = TypeTable::new(rt.alloc())?;
-    let mut ctxs = CtxTable::new(rt.alloc())?;
     let (sum, left, mut free) = (SUM, LEFT, RIGHT);
     free.target.ctor = Ctor::Var(read_ident(Version::Two, b"x")?);
     let tree = tree_of(rt.alloc(), &[head(&sum), child(1, &left), child(1, &free)])?;
-    assert!(rt; is_typed(rt.alloc(), &tree, &mut types, &mut ctxs)? == false);
+    assert!(rt; is_tree_typed(rt.alloc(), &tree)? == false);
     Ok(())
 }
 
 #[test]
 fn a_conflict_of_numbers_is_typed(rt: HostRuntime) -> Result<(), Fail> {
-    let mut types = TypeTable::new(rt.alloc())?;
-    let mut ctxs = CtxTable::new(rt.alloc())?;
     let (sum, left, also_left, right) = (SUM, LEFT, ALSO_LEFT, RIGHT);
     let conflict = LentNode::conflict(1, Position::Left, Sort::Exp, 2);
     let nodes = [
@@ -126,6 +135,6 @@ fn a_conflict_of_numbers_is_typed(rt: HostRuntime) -> Result<(), Fail> {
         child(1, &right),
     ];
     let tree = tree_of(rt.alloc(), &nodes)?;
-    assert!(rt; is_typed(rt.alloc(), &tree, &mut types, &mut ctxs)? == true);
+    assert!(rt; is_tree_typed(rt.alloc(), &tree)? == true);
     Ok(())
 }

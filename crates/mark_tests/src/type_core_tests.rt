@@ -248,26 +248,25 @@ fn long_types_that_differ_at_their_ends_have_no_meet(rt: HostRuntime) -> Result<
 // The parts that a type is matched by.
 type Parts = Option<(TypeId, TypeId)>;
 
-// The parts of a function from numbers to truth values, as a function and as a pair.
-fn parts_of_arrow(table: &mut TypeTable) -> Result<[Parts; 2], NoMemory> {
+// The parts of a function from numbers to truth values, as a function and as a pair, and of a sum of truth values and numbers and of the unknown type, as sums.
+fn matched_parts(table: &mut TypeTable) -> Result<[Parts; 4], NoMemory> {
     let arrow = table.arrow(table.num(), table.boolean())?;
-    Ok([table.matched_arrow(arrow), table.matched_product(arrow)])
-}
-
-// The parts of a sum of truth values and numbers, and those of the unknown type as a sum.
-fn parts_of_sums(table: &mut TypeTable) -> Result<[Parts; 2], NoMemory> {
     let sum = table.sum(table.boolean(), table.num())?;
-    Ok([table.matched_sum(sum), table.matched_sum(table.unknown())])
+    Ok([
+        table.matched_arrow(arrow),
+        table.matched_product(arrow),
+        table.matched_sum(sum),
+        table.matched_sum(table.unknown()),
+    ])
 }
 
 #[test]
 fn matched_forms_give_the_parts(rt: HostRuntime) -> Result<(), Fail> {
     let mut table = TypeTable::new(rt.alloc())?;
     let (num, boolean, unknown) = (table.num(), table.boolean(), table.unknown());
-    let [arrow, product] = parts_of_arrow(&mut table)?;
+    let [arrow, product, sum, of_unknown] = matched_parts(&mut table)?;
     assert!(rt; arrow == Some((num, boolean)));
     assert!(rt; product == None);
-    let [sum, of_unknown] = parts_of_sums(&mut table)?;
     assert!(rt; sum == Some((boolean, num)));
     assert!(rt; of_unknown == Some((unknown, unknown)));
     Ok(())
