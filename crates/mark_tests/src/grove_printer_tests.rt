@@ -276,11 +276,7 @@ fn graph_of(alloc: Global, edge: Edge) -> Result<GraphTable, Fail>
 }
 
 // Prints the tree of these nodes, where any type is had of the second.
-fn print_unknown(
-    alloc: Global,
-    nodes: &[LentNode; 2],
-    text: &mut Vec<u8>,
-) -> Result<(), Fail> {
+fn print_unknown(alloc: Global, nodes: &[LentNode; 2], text: &mut Vec<u8>) -> Result<(), Fail> {
     let types = TypeTable::new(alloc)?;
     let added = Added {
         mode: Some(Mode::Syn),

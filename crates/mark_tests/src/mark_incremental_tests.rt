@@ -53,11 +53,12 @@ fn empty(alloc: Global) -> Result<Live, Fail>
     ensures indexed { IfOk result (λ live. AreIndexed live.store live.children live.parents) }
     ensures stand { IfOk result (λ live. StandFor (state_in live.store) live.marks) }
 {
+    let marks = Marks::new(alloc)?;
     Ok(Live {
         store: GraphStore::new(alloc),
         children: ChildIndex::new(alloc),
         parents: ParentIndex::new(alloc),
-        marks: Marks::new(alloc)?,
+        marks,
     })
 }
 
@@ -213,27 +214,29 @@ fn edits_of(alloc: Global, lines: &[&str]) -> Result<Vec<Edit>, Fail> {
     Ok(edits)
 }
 
-// What is told once these edits are applied, or none for want of memory, and whether they are.
+// What is told once all edits of further lines are applied, or none for want of memory, and whether they are.
 fn told_once_applied(
     alloc: Global,
-    lines: &[&str],
-    edits: &[Edit],
+    live: &mut Live,
+    further: &[&str],
     line: &str,
-) -> Result<(bool, Told), Fail> {
-    let mut live = after(alloc, lines)?;
-    let applied = all_counting::<Brand>(&mut live, edits, Blank::new(1));
+) -> Result<(bool, Told), Fail>
+    requires indexed { AreIndexed live.old.store live.old.children live.old.parents }
+    requires stand { StandFor (state_in live.old.store) live.old.marks }
+{
+    let edits = edits_of(alloc, further)?;
+    let applied = all_counting::<Brand>(live, &edits, Blank::new(1));
     Ok((applied, live.told(line)?))
 }
 
-// The same for the edits of further lines.
 fn told_after_all(
     alloc: Global,
     lines: &[&str],
     further: &[&str],
     line: &str,
 ) -> Result<(bool, Told), Fail> {
-    let edits = edits_of(alloc, further)?;
-    told_once_applied(alloc, lines, &edits, line)
+    let mut live = after(alloc, lines)?;
+    told_once_applied(alloc, &mut live, further, line)
 }
 
 const FUNCTION: [&str; 4] = [

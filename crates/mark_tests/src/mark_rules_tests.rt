@@ -114,19 +114,12 @@ fn mark<'t>(
     let first = first_of(&marked)?;
     Ok((
         first,
-        [
-            marked.none.len(),
-            marked.multi.len(),
-            marked.cycle.len(),
-        ],
+        [marked.none.len(), marked.multi.len(), marked.cycle.len()],
     ))
 }
 
 // The same where the grove is that of a number alone.
-fn mark_seven(
-    alloc: Global,
-    types: &mut TypeTable,
-) -> Result<(Node, Added, [usize; 3]), Fail> {
+fn mark_seven(alloc: Global, types: &mut TypeTable) -> Result<(Node, Added, [usize; 3]), Fail> {
     let vertex = SEVEN;
     let tree = tree_of(alloc, LentNode::head(&vertex))?;
     let grove = grove_of(alloc, tree)?;

@@ -72,12 +72,7 @@ fn sum_of_pair(table: &mut TypeTable) -> Result<TypeId, NoMemory>
 }
 
 // Prints a type down to two levels and to none, by one printer.
-fn print_twice(
-    alloc: Global,
-    table: &TypeTable,
-    t: TypeId,
-    text: &mut Vec<u8>,
-) -> Result<(), Fail>
+fn print_twice(alloc: Global, table: &TypeTable, t: TypeId, text: &mut Vec<u8>) -> Result<(), Fail>
     requires { IsTypeOf table.now t }
 {
     let mut printer = TypePrinter::new(alloc, table);
