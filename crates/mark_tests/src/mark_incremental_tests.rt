@@ -19,7 +19,7 @@ use std::test::Fail;
 use type_core::{TypeId, TypeTable};
 use walks::Steps;
 
-// A graph with its indexes and its marks.
+// A graph with its indexes and its marks. What has one drops it by a call, so that the parts are let go in one place.
 #[derive(Drop)]
 struct Live {
     store: GraphStore,
@@ -180,7 +180,9 @@ fn all_counting<L: Ledger>(live: &mut Live, edits: &[Edit], blank: Blank) -> boo
 
 fn told_after(alloc: Global, lines: &[&str], line: &str) -> Result<Told, Fail> {
     let live = after(alloc, lines)?;
-    live.told(line)
+    let told = live.told(line);
+    drop(live);
+    told
 }
 
 // What is told while an edit is applied, and once it is taken back.
@@ -203,7 +205,9 @@ fn told_with(
 ) -> Result<(Told, Told), Fail> {
     let edit = edit(edited)?;
     let mut live = after(alloc, lines)?;
-    told_around(&mut live, &edit, line)
+    let told = told_around(&mut live, &edit, line);
+    drop(live);
+    told
 }
 
 fn edits_of(alloc: Global, lines: &[&str]) -> Result<Vec<Edit>, Fail> {
@@ -236,7 +240,9 @@ fn told_after_all(
     line: &str,
 ) -> Result<(bool, Told), Fail> {
     let mut live = after(alloc, lines)?;
-    told_once_applied(alloc, &mut live, further, line)
+    let told = told_once_applied(alloc, &mut live, further, line);
+    drop(live);
+    told
 }
 
 const FUNCTION: [&str; 4] = [
