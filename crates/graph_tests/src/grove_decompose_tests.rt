@@ -92,18 +92,10 @@ fn listed_of_sum(
 {
     let sum = vertex(1, Ctor::Plus);
     let seven = vertex(3, Ctor::Num(7));
-    insert(
-        edge(4, sum, Position::Left, seven),
-        store,
-        children,
-        parents,
-    )?;
-    insert(
-        edge(5, sum, Position::Right, seven),
-        store,
-        children,
-        parents,
-    )?;
+    let left = edge(4, sum, Position::Left, seven);
+    insert(left, store, children, parents)?;
+    let right = edge(5, sum, Position::Right, seven);
+    insert(right, store, children, parents)?;
     Ok(listed(alloc, store, children, parents)?)
 }
 

@@ -361,10 +361,15 @@ fn steps_of_two_edges() -> [(Option<EditKind>, Edge); 2] {
     ]
 }
 
+fn check_told<R: Abort>(rt: &R, alloc: Global) -> Result<(), NoMemory> {
+    let graph = graph_of(alloc, &steps_of_two_edges())?;
+    check_children(rt, &graph);
+    Ok(())
+}
+
 #[test]
 fn edges_are_told_one_by_one(rt: HostRuntime) -> Result<(), Fail> {
-    let graph = graph_of(rt.alloc(), &steps_of_two_edges())?;
-    check_children(&rt, &graph);
+    check_told(&rt, rt.alloc())?;
     Ok(())
 }
 
