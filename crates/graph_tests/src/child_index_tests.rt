@@ -1,4 +1,5 @@
-ghost use Rattle.std.specs.Prelude.{◌≡◌, ◌<◌};
+ghost use Rattle.std.specs.Prelude.{◌≡◌, ◌<◌, []};
+ghost use Rattle.edge_index.specs.Lists.{live};
 
 use child_index::*;
 use grove_edits::{Edge, Vertex};
@@ -59,12 +60,19 @@ fn check_children<R: Abort>(rt: &R, index: &ChildIndex, children: &[Edge]) {
     check_left::<Brand, R>(rt, Blank::new(1), index, children)
 }
 
-#[test]
-fn two_edges_with_the_same_ends_are_kept(rt: HostRuntime) -> Result<(), Fail> {
-    let mut index = ChildIndex::new(rt.alloc());
+// Adds two edges from one place of an index in which nothing stands.
+fn check_both<R: Abort>(rt: &R, index: &mut ChildIndex) -> Result<(), Fail>
+    requires { live index.old ≡ [] }
+{
     index.reserve_for(&[LEFT, LEFT_AGAIN])?;
     index.add(&LEFT_AGAIN);
     index.add(&LEFT);
-    check_children(&rt, &index, &[LEFT, LEFT_AGAIN]);
+    check_children(rt, index, &[LEFT, LEFT_AGAIN]);
     Ok(())
+}
+
+#[test]
+fn two_edges_with_the_same_ends_are_kept(rt: HostRuntime) -> Result<(), Fail> {
+    let mut index = ChildIndex::new(rt.alloc());
+    check_both(&rt, &mut index)
 }

@@ -5,6 +5,7 @@ ghost use Rattle.edge_lists.specs.Lists.{numbers_at, places_at, HasVertex};
 use edge_lists::*;
 use edge_numbers::EdgeNumbers;
 use grove_edits::Edge;
+use std::process::Abort;
 use std::test::Fail;
 
 // Puts the first edge at the vertex.
@@ -19,20 +20,31 @@ fn put_first(lists: &mut EdgeLists<ByPosition>, edge: usize, edges: &EdgeNumbers
     lists.put(0, edge, edges);
 }
 
-#[test]
-fn an_edge_is_listed_by_its_number(rt: HostRuntime) -> Result<(), Fail> {
-    let mut edges = EdgeNumbers::new(rt.alloc());
+// Enters an edge, and lists it at a first vertex.
+fn check_first<R: Abort>(
+    rt: &R,
+    edges: &mut EdgeNumbers,
+    lists: &mut EdgeLists<ByPosition>,
+) -> Result<(), Fail>
+    requires { lists.old ≡ [] }
+{
     let edge = Edge::default();
     let source = edges.enter_vertex(&edge.source)?;
     let target = edges.enter_vertex(&edge.target)?;
     let number = edges.enter(&edge, source, target)?;
     assert!(rt; number == 0);
-    let mut lists = EdgeLists::<ByPosition>::new(rt.alloc());
     lists.add_vertex()?;
     lists.promise(0)?;
-    put_first(&mut lists, number, &edges);
+    put_first(lists, number, edges);
     assert!(rt; lists.at(0) == [0].as_slice());
     Ok(())
+}
+
+#[test]
+fn an_edge_is_listed_by_its_number(rt: HostRuntime) -> Result<(), Fail> {
+    let mut edges = EdgeNumbers::new(rt.alloc());
+    let mut lists = EdgeLists::<ByPosition>::new(rt.alloc());
+    check_first(&rt, &mut edges, &mut lists)
 }
 
 #[test]

@@ -5,6 +5,7 @@ use grove_names::Name;
 use grove_sorts::{Ctor, IdentFault, Position, Version, read_ident};
 use seeded_hash::HashSeed;
 use std::alloc::Global;
+use std::process::Abort;
 use std::test::Fail;
 
 fn vertex(counter: u64, ctor: Ctor) -> Vertex {
@@ -86,21 +87,25 @@ fn vertices_have_numbers_and_an_order(rt: HostRuntime) -> Result<(), Fail> {
     Ok(())
 }
 
-#[test]
-fn live_edges_are_told_by_number(rt: HostRuntime) -> Result<(), Fail> {
-    let table = sum(rt.alloc())?;
+fn check_sum<R: Abort>(rt: &R, table: &GraphTable, out: &mut Vec<usize>) -> Result<(), Fail> {
     assert!(rt; table.number_count() == 5);
     // The sum, and the 7.
     let (plus, seven) = (1, 2);
-    let mut out = Vec::new(rt.alloc());
     out.push(7)?;
-    table.children(plus, Position::Left, &mut out)?;
+    table.children(plus, Position::Left, out)?;
     assert!(rt; out.as_slice() == [1, 2].as_slice());
     assert!(rt; table.parents(plus) == Parents::One(0));
     assert!(rt; table.parents(seven) == Parents::More(1, 4));
     assert!(rt; table.source(1) == plus);
     assert!(rt; table.target(1) == seven);
     Ok(())
+}
+
+#[test]
+fn live_edges_are_told_by_number(rt: HostRuntime) -> Result<(), Fail> {
+    let table = sum(rt.alloc())?;
+    let mut out = Vec::new(rt.alloc());
+    check_sum(&rt, &table, &mut out)
 }
 
 // Appends the insertion of an edge from the root.
@@ -137,20 +142,24 @@ fn vertices_of_one_name_are_in_vertex_order(rt: HostRuntime) -> Result<(), Fail>
     Ok(())
 }
 
+fn check_namesakes<R: Abort>(rt: &R, table: &GraphTable, out: &mut Vec<usize>) -> Result<(), Fail> {
+    assert!(rt; table.number_count() == 4);
+    let root = 0;
+    table.children(root, Position::Main, out)?;
+    assert!(rt; out.as_slice() == [0, 1, 2].as_slice());
+    for index in out.as_slice() {
+        assert!(rt; table.edge(*index).edge().source == Vertex::ROOT);
+    }
+    table.children(root, Position::Left, out)?;
+    assert!(rt; out.is_empty());
+    Ok(())
+}
+
 #[test]
 fn children_are_in_edge_order(rt: HostRuntime) -> Result<(), Fail> {
     let table = namesakes(rt.alloc())?;
-    assert!(rt; table.number_count() == 4);
-    let root = 0;
     let mut out = Vec::new(rt.alloc());
-    table.children(root, Position::Main, &mut out)?;
-    assert!(rt; out.as_slice() == [0, 1, 2].as_slice());
-    for index in &out {
-        assert!(rt; table.edge(*index).edge().source == Vertex::ROOT);
-    }
-    table.children(root, Position::Left, &mut out)?;
-    assert!(rt; out.is_empty());
-    Ok(())
+    check_namesakes(&rt, &table, &mut out)
 }
 
 fn variable(text: &[u8]) -> Result<Vertex, IdentFault> {
@@ -177,16 +186,18 @@ fn variables(alloc: Global) -> Result<GraphTable, Fail> {
     graph_of(alloc, &list)
 }
 
-#[test]
-fn a_vertex_has_one_number_wherever_it_stands(rt: HostRuntime) -> Result<(), Fail> {
-    let table = variables(rt.alloc())?;
+fn check_variables<R: Abort>(
+    rt: &R,
+    table: &GraphTable,
+    left: &mut Vec<usize>,
+    body: &mut Vec<usize>,
+) -> Result<(), Fail> {
     assert!(rt; table.number_count() == 5);
     let plus = 1;
     assert!(rt; table.vertex(plus).lent().vertex() == vertex(1, Ctor::Plus));
-    let mut left = Vec::new(rt.alloc());
-    table.children(plus, Position::Left, &mut left)?;
+    table.children(plus, Position::Left, left)?;
     assert!(rt; left.as_slice() == [1, 2, 3, 5].as_slice());
-    for index in &left {
+    for index in left.as_slice() {
         let target = table.target(*index);
         assert!(rt; table.source(*index) == plus);
         assert!(rt; is_same_lent(&table.vertex(target).lent(), &table.edge(*index).target()));
@@ -196,11 +207,18 @@ fn a_vertex_has_one_number_wherever_it_stands(rt: HostRuntime) -> Result<(), Fai
     assert!(rt; table.target(1) != table.target(2));
     // The function is a source before it is a target, and the sum a target before it is a source.
     let lam = table.target(5);
-    let mut body = Vec::new(rt.alloc());
-    table.children(lam, Position::Body, &mut body)?;
+    table.children(lam, Position::Body, body)?;
     assert!(rt; body.as_slice() == [4].as_slice());
     assert!(rt; table.target(4) == plus);
     Ok(())
+}
+
+#[test]
+fn a_vertex_has_one_number_wherever_it_stands(rt: HostRuntime) -> Result<(), Fail> {
+    let table = variables(rt.alloc())?;
+    let mut left = Vec::new(rt.alloc());
+    let mut body = Vec::new(rt.alloc());
+    check_variables(&rt, &table, &mut left, &mut body)
 }
 
 // Four edges to vertices of one name. The last literal has the same lower half as the first.
@@ -224,18 +242,26 @@ fn edits_of_following_names(alloc: Global) -> Result<EditList, Fail> {
     Ok(list)
 }
 
-#[test]
-fn names_that_follow_each_other_have_numbers_of_their_own(rt: HostRuntime) -> Result<(), Fail> {
-    let list = edits_of_following_names(rt.alloc())?;
-    let table = graph_of(rt.alloc(), &list)?;
+fn following_names(alloc: Global) -> Result<GraphTable, Fail> {
+    let list = edits_of_following_names(alloc)?;
+    graph_of(alloc, &list)
+}
+
+fn check_following<R: Abort>(rt: &R, table: &GraphTable, out: &mut Vec<usize>) -> Result<(), Fail> {
     assert!(rt; table.number_count() == 161);
     let root = 0;
-    let mut out = Vec::new(rt.alloc());
-    table.children(root, Position::Main, &mut out)?;
+    table.children(root, Position::Main, out)?;
     assert!(rt; out.len() == 160);
-    for index in &out {
+    for index in out.as_slice() {
         let target = table.target(*index);
         assert!(rt; is_same_lent(&table.vertex(target).lent(), &table.edge(*index).target()));
     }
     Ok(())
+}
+
+#[test]
+fn names_that_follow_each_other_have_numbers_of_their_own(rt: HostRuntime) -> Result<(), Fail> {
+    let table = following_names(rt.alloc())?;
+    let mut out = Vec::new(rt.alloc());
+    check_following(&rt, &table, &mut out)
 }

@@ -17,7 +17,7 @@ use grove_decompose::*;
 use grove_edits::{Edge, Edit, EditList, Vertex};
 use grove_names::Name;
 use grove_sorts::{Ctor, Position};
-use grove_terms::{Tree, What};
+use grove_terms::What;
 use parent_index::ParentIndex;
 use seeded_hash::HashSeed;
 use std::alloc::Global;
@@ -64,44 +64,122 @@ fn insert(
     Ok(())
 }
 
-#[test]
-fn a_shared_part_heads_its_own_tree(rt: HostRuntime) -> Result<(), Fail> {
-    let alloc = rt.alloc();
+// How many trees each list of the grove has, and what the third node in the second tree of the first list is.
+fn listed(
+    alloc: Global,
+    store: &GraphStore,
+    children: &ChildIndex,
+    parents: &ParentIndex,
+) -> Result<([usize; 3], Option<What>), NoMemory>
+    requires children { AreLive (state_in store.now) (live_edges children.now) }
+    requires parents { AreLive (state_in store.now) (live_edges parents.now) }
+{
+    let grove = decompose(alloc, store, children, parents)?;
+    let counts = [grove.none.len(), grove.multi.len(), grove.cycle.len()];
+    let node = grove.none.get(1).and_then(|tree| tree.get(2));
+    Ok((counts, node.map(|node| node.what)))
+}
+
+// The same once a sum has one vertex on both of its sides.
+fn listed_of_sum(
+    alloc: Global,
+    store: &mut GraphStore,
+    children: &mut ChildIndex,
+    parents: &mut ParentIndex,
+) -> Result<([usize; 3], Option<What>), Fail>
+    requires children { AreLive (state_in store.old) (live_edges children.old) }
+    requires parents { AreLive (state_in store.old) (live_edges parents.old) }
+{
     let sum = vertex(1, Ctor::Plus);
     let seven = vertex(3, Ctor::Num(7));
+    let left = edge(4, sum, Position::Left, seven);
+    insert(left, store, children, parents)?;
+    let right = edge(5, sum, Position::Right, seven);
+    insert(right, store, children, parents)?;
+    Ok(listed(alloc, store, children, parents)?)
+}
+
+fn listed_of_new_sum(alloc: Global) -> Result<([usize; 3], Option<What>), Fail> {
     let mut store = GraphStore::new(alloc);
     let mut children = ChildIndex::new(alloc);
     let mut parents = ParentIndex::new(alloc);
-    let left = edge(4, sum, Position::Left, seven);
-    insert(left, &mut store, &mut children, &mut parents)?;
-    let right = edge(5, sum, Position::Right, seven);
-    insert(right, &mut store, &mut children, &mut parents)?;
-    let grove = decompose(alloc, &store, &children, &parents)?;
+    listed_of_sum(alloc, &mut store, &mut children, &mut parents)
+}
+
+#[test]
+fn a_shared_part_heads_its_own_tree(rt: HostRuntime) -> Result<(), Fail> {
+    let ([none, multi, cycle], whole) = listed_of_new_sum(rt.alloc())?;
     // The root, and the sum.
-    assert!(rt; grove.none.len() == 2);
-    assert!(rt; grove.multi.len() == 1);
-    assert!(rt; grove.cycle.len() == 0);
-    let whole = grove.none.get(1).and_then(|tree| tree.get(2));
-    assert!(rt; whole.map(|node| node.what) == Some(What::MultiRef(seven)));
+    assert!(rt; none == 2);
+    assert!(rt; multi == 1);
+    assert!(rt; cycle == 0);
+    let seven = vertex(3, Ctor::Num(7));
+    assert!(rt; whole == Some(What::MultiRef(seven)));
     Ok(())
 }
 
-// The tree of the first of some vertices.
-fn first_tree<'g>(
+// How many nodes the tree of the first of some vertices has, and what its third node is.
+fn first_tree(
     alloc: Global,
-    table: &'g GraphTable,
+    table: &GraphTable,
     roots: &[u32],
     seen: &mut Seen,
-) -> Result<Tree<'g>, NoMemory>
+) -> Result<(usize, Option<What>), NoMemory>
     requires numbers { AllByRecursion (IsNumber table.now) roots.now }
     requires outer { AllByRecursion (λ v. class (live table.now) v ≢ Inner) (vertices_of table.now roots.now) }
     requires seen { OnlyInner table.now seen.old }
     ensures seen { OnlyInner table.now seen.new }
 {
-    match roots {
-        [] => Ok(Tree::new(alloc)),
-        [root, ..] => tree_by_number(alloc, table, *root, seen),
-    }
+    let [root, ..] = roots else {
+        return Ok((0, None));
+    };
+    let tree = tree_by_number(alloc, table, *root, seen)?;
+    Ok((tree.len(), tree.get(2).map(|node| node.what)))
+}
+
+// How many vertices without a parent there are, and how many nodes the tree of the first vertex with several parents has.
+fn shared_tree(
+    alloc: Global,
+    table: &GraphTable,
+    seen: &mut Seen,
+) -> Result<(usize, usize), NoMemory>
+    requires { OnlyInner table.now seen.old }
+    ensures { OnlyInner table.now seen.new }
+{
+    let heads = heads_of(alloc, table)?;
+    let (nodes, _) = first_tree(alloc, table, &heads.multi, seen)?;
+    Ok((heads.none.len(), nodes))
+}
+
+fn cycle_tree(
+    alloc: Global,
+    table: &GraphTable,
+    seen: &mut Seen,
+) -> Result<(usize, Option<What>), NoMemory>
+    requires { OnlyInner table.now seen.old }
+{
+    let cycles = cycle_heads(alloc, table, seen)?;
+    first_tree(alloc, table, &cycles, seen)
+}
+
+fn trees_with(
+    alloc: Global,
+    table: &GraphTable,
+    seen: &mut Seen,
+) -> Result<((usize, usize), (usize, Option<What>)), NoMemory>
+    requires { OnlyInner table.now seen.old }
+{
+    let shared = shared_tree(alloc, table, seen)?;
+    let around = cycle_tree(alloc, table, seen)?;
+    Ok((shared, around))
+}
+
+fn trees_of(
+    alloc: Global,
+    table: &GraphTable,
+) -> Result<((usize, usize), (usize, Option<What>)), NoMemory> {
+    let mut seen = Seen::none_of(alloc, table)?;
+    trees_with(alloc, table, &mut seen)
 }
 
 // A sum of two numbers that are one vertex, and a cycle of two vertices.
@@ -125,18 +203,12 @@ fn sample(alloc: Global) -> Result<GraphTable, Fail> {
 
 #[test]
 fn a_cycle_and_a_shared_part_by_number(rt: HostRuntime) -> Result<(), Fail> {
-    let alloc = rt.alloc();
-    let table = sample(alloc)?;
-    let mut seen = Seen::none_of(alloc, &table)?;
-    let heads = heads_of(alloc, &table)?;
-    assert!(rt; heads.none.len() == 2);
-    let shared = first_tree(alloc, &table, &heads.multi, &mut seen)?;
-    assert!(rt; shared.len() == 1);
-    let cycles = cycle_heads(alloc, &table, &seen)?;
-    let around = first_tree(alloc, &table, &cycles, &mut seen)?;
-    assert!(rt; around.len() == 3);
+    let table = sample(rt.alloc())?;
+    let ((none, shared), (around, last)) = trees_of(rt.alloc(), &table)?;
+    assert!(rt; none == 2);
+    assert!(rt; shared == 1);
+    assert!(rt; around == 3);
     let fst = vertex(3, Ctor::Fst);
-    let last = around.get(2).map(|node| node.what);
     assert!(rt; last == Some(What::CycleRef(fst)));
     Ok(())
 }

@@ -32,24 +32,29 @@ fn tree_with<'g>(
     Ok(tree)
 }
 
-// A grove in which each list of trees has one with a child.
-fn grove_with<'g>(
+fn push_tree<'g>(
     alloc: Global,
+    trees: &mut TreeList<'g>,
+    root: &'g Vertex,
+    child: Option<&'g Edge>,
+) -> Result<(), NoMemory> {
+    let tree = tree_with(alloc, root, child)?;
+    trees.push(tree)
+}
+
+// Gives each list of trees one with a child.
+fn fill<'g>(
+    alloc: Global,
+    grove: &mut Grove<'g>,
     root: &'g Vertex,
     first: &'g Edge,
     second: &'g Edge,
     third: &'g Edge,
-) -> Result<Grove<'g>, NoMemory> {
-    let mut grove = Grove {
-        none: TreeList::new(alloc),
-        multi: TreeList::new(alloc),
-        cycle: TreeList::new(alloc),
-    };
-    grove.cycle.push(tree_with(alloc, root, Some(third))?)?;
-    grove.none.push(tree_with(alloc, root, Some(first))?)?;
-    grove.none.push(tree_with(alloc, root, None)?)?;
-    grove.multi.push(tree_with(alloc, root, Some(second))?)?;
-    Ok(grove)
+) -> Result<(), NoMemory> {
+    push_tree(alloc, &mut grove.cycle, root, Some(third))?;
+    push_tree(alloc, &mut grove.none, root, Some(first))?;
+    push_tree(alloc, &mut grove.none, root, None)?;
+    push_tree(alloc, &mut grove.multi, root, Some(second))
 }
 
 fn edges_of(
@@ -59,7 +64,12 @@ fn edges_of(
     second: &Edge,
     third: &Edge,
 ) -> Result<EdgeList, NoMemory> {
-    let grove = grove_with(alloc, root, first, second, third)?;
+    let mut grove = Grove {
+        none: TreeList::new(alloc),
+        multi: TreeList::new(alloc),
+        cycle: TreeList::new(alloc),
+    };
+    fill(alloc, &mut grove, root, first, second, third)?;
     edges(alloc, &grove)
 }
 

@@ -86,11 +86,17 @@ fn states_put_back(graph: &mut LiveGraph) -> Result<(State, State), NoMemory> {
     Ok((deleted, graph.state(&edge(1, 5))))
 }
 
+fn rises_and_states(
+    graph: &mut LiveGraph,
+) -> Result<([Option<Change>; 3], (State, State)), NoMemory> {
+    let changes = rises(graph)?;
+    let states = states_put_back(graph)?;
+    Ok((changes, states))
+}
+
 fn rises_of_new(alloc: Global) -> Result<([Option<Change>; 3], (State, State)), NoMemory> {
     let mut graph = LiveGraph::new(alloc);
-    let changes = rises(&mut graph)?;
-    let states = states_put_back(&mut graph)?;
-    Ok((changes, states))
+    rises_and_states(&mut graph)
 }
 
 #[test]
@@ -111,22 +117,26 @@ fn rises_by_number(graph: &mut LiveGraph) -> Result<[(Change, State); 3], NoMemo
     Ok([first, other, again])
 }
 
-// The same in a new graph, and the numbers there of the second edge and of one that no edit named.
+// The same, and the numbers then of the second edge and of one that no edit named.
 fn numbered(
+    graph: &mut LiveGraph,
+) -> Result<([(Change, State); 3], Option<usize>, Option<usize>), NoMemory> {
+    let changes = rises_by_number(graph)?;
+    let second = graph.number(&edge(1, 6));
+    let none = graph.number(&edge(2, 5));
+    Ok((changes, second, none))
+}
+
+fn numbered_of_new(
     alloc: Global,
 ) -> Result<([(Change, State); 3], Option<usize>, Option<usize>), NoMemory> {
     let mut graph = LiveGraph::new(alloc);
-    let changes = rises_by_number(&mut graph)?;
-    Ok((
-        changes,
-        graph.number(&edge(1, 6)),
-        graph.number(&edge(2, 5)),
-    ))
+    numbered(&mut graph)
 }
 
 #[test]
 fn an_edge_rises_by_its_number(rt: HostRuntime) -> Result<(), Fail> {
-    let (changes, second, none) = numbered(rt.alloc())?;
+    let (changes, second, none) = numbered_of_new(rt.alloc())?;
     let raised = Change::Raised { old: State::Absent };
     let wanted = [
         (raised, State::Live),
@@ -266,11 +276,15 @@ fn steps_of_one_author() -> [(Option<EditKind>, Edge); 3] {
 }
 
 // The greatest counters before and after the first of these edges is put back.
+fn greatest_around(graph: &mut LiveGraph) -> Result<((u64, u64), (u64, u64)), NoMemory> {
+    let before = greatest_in(graph);
+    put_back(graph, &edge(3, 5), State::Absent)?;
+    Ok((before, greatest_in(graph)))
+}
+
 fn greatest_counters(alloc: Global) -> Result<((u64, u64), (u64, u64)), NoMemory> {
     let mut graph = graph_of(alloc, &steps_of_one_author())?;
-    let before = greatest_in(&graph);
-    put_back(&mut graph, &edge(3, 5), State::Absent)?;
-    Ok((before, greatest_in(&graph)))
+    greatest_around(&mut graph)
 }
 
 #[test]
@@ -347,10 +361,15 @@ fn steps_of_two_edges() -> [(Option<EditKind>, Edge); 2] {
     ]
 }
 
+fn check_told<R: Abort>(rt: &R, alloc: Global) -> Result<(), NoMemory> {
+    let graph = graph_of(alloc, &steps_of_two_edges())?;
+    check_children(rt, &graph);
+    Ok(())
+}
+
 #[test]
 fn edges_are_told_one_by_one(rt: HostRuntime) -> Result<(), Fail> {
-    let graph = graph_of(rt.alloc(), &steps_of_two_edges())?;
-    check_children(&rt, &graph);
+    check_told(&rt, rt.alloc())?;
     Ok(())
 }
 
