@@ -15,11 +15,11 @@ use Rattle.grove_edits.specs.declared.vertex.Vertex.{Vertex}
 use Rattle.grove_edits.specs.declared.edge.Edge.{Edge}
 use Rattle.grove_edits.specs.Vertex.{vertex_cmp}
 use Rattle.grove_edits.proofs.Orders.{cmp_is_vertex_cmp}
-use Rattle.walks.specs.Live.{children_of}
+use Rattle.walks.specs.Live.{children_of, is_from}
 use Rattle.edge_index.specs.Lists.{Indexed, room_at, with_key}
 use Rattle.child_index.specs.declared.origin.Origin.{Origin}
 use Rattle.child_index.specs.contracts.origin.OriginOrd.TheImpl as impl
-use Rattle.child_index.specs.Origin.{origin_cmp, room_at_origin, is_from}
+use Rattle.child_index.specs.Origin.{origin_cmp, room_at_origin}
 
 abbrev pub origin_at : Vertex → Position → Origin
 origin_at v p = record { vertex = v; position = p }

@@ -19,9 +19,9 @@ use Rattle.grove_edits.specs.Graph.{is_same_edge}
 use Rattle.grove_edits.proofs.Orders.{edge_cmp_exact, one_edge, same_edge_laws}
 use Rattle.walks.specs.Live.{IsInEdgeOrder, holds_edge}
 use Rattle.edge_index.specs.Lists.{with_key, stands_among, keys_of_edges}
-use Rattle.edge_index.specs.Ordered.{put_before, with_edge, without_edge}
+use Rattle.walks.specs.Ordered.{put_before, with_edge, without_edge}
 use Rattle.edge_index.specs.ByKey.{ListsByKey, edges_of, edges_at, all_edges, IsByKey}
-use Rattle.edge_index.proofs.Ordered.{holds-with_edge, holds-filter, in_order-with_edge, in_order-filter, same_lists}
+use Rattle.walks.proofs.Ordered.{holds-with_edge, holds-filter, in_order-with_edge, in_order-filter, same_lists}
 use Rattle.edge_index.proofs.Lookups.{edges_at-with_key, in_order-all_edges}
 
 or-true : (b : Bool) → (b || true) ≡ true

@@ -15,13 +15,13 @@ use Rattle.std.proofs.lemmas.Map.Keys.{IsDistinct-tail}
 use Rattle.grove_edits.specs.declared.edge.Edge.{Edge}
 use Rattle.grove_edits.specs.Graph.{is_same_edge}
 use Rattle.walks.specs.Live.{IsInEdgeOrder, holds_edge}
-use Rattle.edge_index.specs.Ordered.{with_edge, without_edge}
+use Rattle.walks.specs.Ordered.{with_edge, without_edge}
 use Rattle.smallvec.specs.SmallVec.{SmallVec}
 use Rattle.edge_index.specs.Lists.{room_at, with_key}
 use Rattle.edge_index.specs.ByKey.{ListsByKey, room_in, edges_of, room_of, edges_at, all_edges, all_rooms, indexed, IsByKey}
 use Rattle.edge_index.proofs.Ties.{IsPut}
 use Rattle.grove_edits.proofs.Orders.{one_edge}
-use Rattle.edge_index.proofs.Ordered.{holds-with_edge, holds-with_edges, holds-filter, in_order-with_edge, in_order-with_edges, in_order-filter, same_lists}
+use Rattle.walks.proofs.Ordered.{holds-with_edge, holds-with_edges, holds-filter, in_order-with_edge, in_order-with_edges, in_order-filter, same_lists}
 use Rattle.grove_sorts.proofs.Orders.{equal_from_test}
 
 pub in_order-all_edges : {K : Type 0} (lists : ListsByKey K) → IsInEdgeOrder (all_edges lists)

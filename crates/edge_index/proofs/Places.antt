@@ -11,9 +11,9 @@ use Rattle.grove_edits.specs.Edge.{edge_cmp}
 use Rattle.grove_edits.specs.Graph.{is_same_edge}
 use Rattle.grove_edits.proofs.Orders.{edge_cmp_total, edge_cmp_exact, same_edge_laws}
 use Rattle.walks.specs.Live.{IsInEdgeOrder, holds_edge}
-use Rattle.edge_index.specs.Ordered.{put_before, with_edge, without_edge}
+use Rattle.walks.specs.Ordered.{put_before, with_edge, without_edge}
 use Rattle.edge_index.specs.Places.{place, place_by}
-use Rattle.edge_index.proofs.Ordered.{not_held_before, without_none, not_same_from_greater, all_after}
+use Rattle.walks.proofs.Ordered.{not_held_before, without_none, not_same_from_greater, all_after}
 
 less_from_test : (o : Ordering) → is_lt o ≡ true → o ≡ Less
 less_from_test Less is = refl

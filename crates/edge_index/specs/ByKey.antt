@@ -9,7 +9,7 @@ use Rattle.smallvec.specs.SmallVec.{SmallVec, small_vec_len}
 use Rattle.grove_edits.specs.declared.edge.Edge.{Edge}
 use Rattle.walks.specs.Live.{IsInEdgeOrder, holds_edge}
 use Rattle.edge_index.specs.Lists.{Indexed, keys_of_edges}
-use Rattle.edge_index.specs.Ordered.{with_edge}
+use Rattle.walks.specs.Ordered.{with_edges}
 
 abbrev pub ListsByKey : Type 0 → Type 0
 ListsByKey K = List (K × SmallVec Edge)
@@ -29,10 +29,6 @@ room_of (Some list) = room_in list
 -- the edges that are kept at a key
 abbrev pub edges_at : {K : Type 0} → (K → K → Ordering) → ListsByKey K → K → List Edge
 edges_at cmp lists k = edges_of (lookup (is_at (cmp k)) lists)
-
-abbrev pub with_edges : List Edge → List Edge → List Edge
-with_edges [] xs = xs
-with_edges (e ∷ es) xs = with_edge e (with_edges es xs)
 
 -- the edges of all lists, in edge order
 abbrev pub all_edges : {K : Type 0} → ListsByKey K → List Edge

@@ -1,4 +1,3 @@
 pub mod Lists
-pub mod Ordered
 pub mod ByKey
 pub mod Places

@@ -2,7 +2,7 @@ ghost use Rattle.std.specs.Prelude.{◌≡◌, ◌+◌, ◌<◌, ◌≤◌, [], 
 ghost use Rattle.std.specs.Ordering.{is_eq};
 ghost use Rattle.walks.specs.Live.{IsInEdgeOrder, holds_edge};
 ghost use Rattle.edge_index.specs.Lists.{live, room_at, number_at, with_key, keys_of_edges};
-ghost use Rattle.edge_index.specs.Ordered.{with_edge, without_edge};
+ghost use Rattle.walks.specs.Ordered.{with_edge, without_edge};
 
 use crate::in_order::{EdgesInOrder, make_room, put, take_out};
 use crate::no_memory::NoMemory;

@@ -2,7 +2,7 @@ ghost use Rattle.std.specs.Prelude.{◌≡◌, ◌+◌, ◌<◌, ◌≤◌, true
 ghost use Rattle.walks.specs.Live.{IsInEdgeOrder, holds_edge};
 ghost use Rattle.grove_edits.specs.Edge.{edge_cmp};
 ghost use Rattle.edge_index.specs.ByKey.{room_in};
-ghost use Rattle.edge_index.specs.Ordered.{with_edge, without_edge};
+ghost use Rattle.walks.specs.Ordered.{with_edge, without_edge};
 ghost use Rattle.edge_index.specs.Places.{place};
 
 use crate::no_memory::NoMemory;

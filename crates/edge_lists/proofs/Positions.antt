@@ -13,7 +13,7 @@ use Rattle.grove_sorts.proofs.Orders.{position_cmp_total, equal_from_test}
 use Rattle.grove_edits.specs.declared.edge.Edge.{Edge}
 use Rattle.grove_edits.specs.Edge.{edge_cmp}
 use Rattle.walks.specs.Live.{IsInEdgeOrder}
-use Rattle.edge_lists.specs.Ordered.{put_before, with_edge}
+use Rattle.walks.specs.Ordered.{put_before, with_edge}
 use Rattle.edge_lists.specs.Lists.{with_position}
 use Rattle.edge_lists.specs.Order.{IsInOrder, position_first, with_edge_by}
 use Rattle.edge_lists.specs.Places.{is_up_to}

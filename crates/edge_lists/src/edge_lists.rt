@@ -2,7 +2,7 @@ ghost use Rattle.std.specs.Prelude.{◌≡◌, ℕ, ◌+◌, ◌<◌, ◌≤◌,
 ghost use Rattle.grove_sorts.specs.declared.position.Position.{Position};
 ghost use Rattle.grove_sorts.specs.Position.{is_same_position};
 ghost use Rattle.walks.specs.Live.{IsInEdgeOrder, holds_edge};
-ghost use Rattle.edge_lists.specs.Ordered.{with_edge, without_edge};
+ghost use Rattle.walks.specs.Ordered.{with_edge, without_edge};
 ghost use Rattle.edge_numbers.specs.Numbered.{edge_at, IsEdgeNumber};
 ghost use Rattle.edge_lists.specs.Lists.{nothing_listed, numbers_at, places_at, edges_at, HasVertex, HasFreePlace, KeepsOthers, AreEdgeNumbers, holds_number, without_number, with_position, numbers_with_position};
 ghost use Rattle.edge_lists.specs.Order.{IsInOrder, position_first, with_edge_by, by_edge, with_number};

@@ -1,18 +1,14 @@
 -- The vertices and edges of a graph by their numbers. A number is an index in a list in which nothing stands twice.
-use Rattle.std.specs.Prelude.{◌≡◌, ℕ, ◌<◌, true, List, [], ◌∷◌, ◌++◌, Option, length, map, unwrap_or, IsSome, slice_index_or, if◌then◌else◌}
+use Rattle.std.specs.Prelude.{◌≡◌, ℕ, ◌<◌, true, List, [], ◌∷◌, ◌++◌, length, map, slice_index_or, if◌then◌else◌}
 use Rattle.std.specs.List.{list_any}
-use Rattle.std.specs.Map.{lookup}
 use Rattle.edge_lattice.specs.declared.state.State.{State}
 use Rattle.edge_lattice.specs.declared.state.State.TheVariants.{Absent}
 use Rattle.grove_sorts.specs.declared.position.Position.TheVariants.{Main}
 use Rattle.grove_edits.specs.declared.vertex.Vertex.{Vertex}
 use Rattle.grove_edits.specs.declared.edge.Edge.{Edge}
 use Rattle.grove_edits.specs.Vertex.{root, stands_in}
-use Rattle.grove_edits.specs.Graph.{Graph, is_same_edge}
-
--- edges, each with its state
-abbrev pub Entries : Type 0
-Entries = List (Edge × State)
+use Rattle.grove_edits.specs.Graph.{is_same_edge}
+use Rattle.walks.specs.States.{Entries}
 
 -- the vertices and the edges in the order of their numbers
 pub record Numbered : Type 0 where
@@ -24,26 +20,6 @@ edges_of entries = map (λ entry. entry.0) entries
 
 abbrev pub states_of : Entries → List State
 states_of entries = map (λ entry. entry.1) entries
-
--- ---- the graph of the entries
-
-abbrev pub entry_at : Entries → Edge → Option State
-entry_at entries e = lookup (is_same_edge e) entries
-
--- the state of an edge, which is Absent where it has no entry
-abbrev pub state_in : Entries → Graph
-state_in entries e = unwrap_or (entry_at entries e) Absent
-
--- an edge has room where it has an entry, whatever its state
-abbrev pub HasRoom : Entries → Edge → Type 0
-HasRoom entries e = IsSome (entry_at entries e)
-
-abbrev pub KeepsRoom : Entries → Entries → Type 0
-KeepsRoom before after = (e : Edge) → HasRoom before e → HasRoom after e
-
--- a graph with another state of one edge
-abbrev pub with_state : Edge → State → Graph → Graph
-with_state edge state g e = if is_same_edge edge e then state else g e
 
 -- ---- numbers
 

@@ -6,7 +6,8 @@ ghost use Rattle.grove_edits.specs.declared.edge.Edge.{Edge};
 ghost use Rattle.grove_edits.specs.Edge.{edge_cmp};
 ghost use Rattle.grove_edits.specs.Graph.{is_same_edge};
 ghost use Rattle.grove_edits.specs.Vertex.{is_same_vertex};
-ghost use Rattle.edge_numbers.specs.Numbered.{edges_of, states_of, state_in, with_state, edge_at, state_at, vertex_at, with_vertex, with_entry, IsEdgeNumber, IsVertexNumber, IsNumberOfEdge, IsNumberOfVertex, HasEndsIn, BeginsWith, HasRoom, KeepsRoom, KeepsNumbers};
+ghost use Rattle.edge_numbers.specs.Numbered.{edges_of, states_of, edge_at, state_at, vertex_at, with_vertex, with_entry, IsEdgeNumber, IsVertexNumber, IsNumberOfEdge, IsNumberOfVertex, HasEndsIn, BeginsWith, KeepsNumbers};
+ghost use Rattle.walks.specs.States.{state_in, with_state, HasRoom, KeepsRoom};
 ghost use Rattle.edge_numbers.specs.Narrow.{edge_of, entries_of, HasEnds, IsNumbered};
 
 use crate::ends::{enter_vertex, find_ends};

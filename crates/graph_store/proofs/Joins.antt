@@ -14,9 +14,9 @@ use Rattle.grove_edits.specs.Edge.{edge_cmp}
 use Rattle.grove_edits.specs.declared.edit.Edit.{Edit}
 use Rattle.grove_edits.specs.Edit.{edit_edge, edit_kind}
 use Rattle.grove_edits.specs.Graph.{Graph, is_same_edge, IsSame, graph, graph_join, state_of}
-use Rattle.grove_edits.proofs.Orders.{edge_cmp_total, cmp_is_edge_cmp}
-use Rattle.graph_store.specs.Store.{Entries, entry_at, state_in, HasRoom, KeepsRoom, only, with_state}
-use Rattle.grove_edits.proofs.Orders.{same_edge_laws, one_edge}
+use Rattle.grove_edits.proofs.Orders.{edge_cmp_total, cmp_is_edge_cmp, same_edge_laws, one_edge}
+use Rattle.graph_store.specs.Store.{only}
+use Rattle.walks.specs.States.{Entries, entry_at, state_in, HasRoom, KeepsRoom, with_state}
 
 -- ---- one state
 

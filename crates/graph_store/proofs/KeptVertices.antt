@@ -9,7 +9,7 @@ use Rattle.grove_edits.proofs.Orders.{vertex_cmp_exact, cmp_is_vertex_cmp}
 use Rattle.grove_edits.proofs.Vertices.{same_vertex_itself}
 use Rattle.walks.specs.Whole.{IsVertexOf}
 use Rattle.graph_store.specs.Counts.{count_at, count_of, IsCounted}
-use Rattle.graph_store.specs.Store.{Entries, state_in}
+use Rattle.walks.specs.States.{Entries, state_in}
 use Rattle.graph_store.proofs.Counts.{get_vertex}
 use Rattle.graph_store.proofs.VertexOrder.{vertex_is_counted}
 

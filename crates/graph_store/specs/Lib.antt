@@ -1,6 +1,5 @@
 pub mod Room
 pub mod Store
-pub mod Change
 pub mod Listed
 pub mod Raised
 pub mod Least

@@ -1,20 +1,13 @@
 -- Which edges of a graph have a name.
-use Rattle.std.specs.Prelude.{◌≡◌, ◌≢◌, Bool, true, false, Option, Some, None, IsTrue}
+use Rattle.std.specs.Prelude.{◌≡◌, ◌≢◌, Option, Some, None, IsTrue}
 use Rattle.std.specs.declared.cmp.Ordering.TheVariants.{Less}
 use Rattle.std.specs.declared.ops.Bound.{Bound}
 use Rattle.std.specs.BTreeMap.Range.{is_from_start}
-use Rattle.edge_lattice.specs.declared.state.State.{State}
-use Rattle.edge_lattice.specs.declared.state.State.TheVariants.{Absent, Live, Deleted}
+use Rattle.edge_lattice.specs.declared.state.State.TheVariants.{Absent}
 use Rattle.grove_names.specs.declared.name.Name.{Name}
 use Rattle.grove_edits.specs.declared.edge.Edge.{Edge}
 use Rattle.grove_edits.specs.Edge.{edge_cmp}
-use Rattle.graph_store.specs.Store.{Entries, state_in}
-
--- a state of an edge that an edit named
-abbrev pub is_present : State → Bool
-is_present Absent = false
-is_present Live = true
-is_present Deleted = true
+use Rattle.walks.specs.States.{Entries, state_in}
 
 abbrev pub IsAfter : Option Edge → Edge → Type 0
 IsAfter None e = Unit {0}

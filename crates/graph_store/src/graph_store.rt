@@ -9,27 +9,27 @@ ghost use Rattle.grove_edits.specs.Vertex.{root};
 ghost use Rattle.grove_edits.specs.Edit.{edit_edge, edit_kind};
 ghost use Rattle.grove_edits.specs.Graph.{IsSame, IsCanonical, graph, graph_join, is_same_edge, state_of};
 ghost use Rattle.walks.specs.Whole.{AreVertices, IsVertexOf};
-ghost use Rattle.graph_store.specs.Change.{IsChange};
-ghost use Rattle.graph_store.specs.Greatest.{IsGreatest, IsNameOf};
+ghost use Rattle.walks.specs.Change.{IsChange};
+ghost use Rattle.walks.specs.Names.{IsGreatest, IsNameOf};
 ghost use Rattle.graph_store.specs.Least.{IsLeast};
-ghost use Rattle.graph_store.specs.Listed.{IsEditOf};
+ghost use Rattle.walks.specs.States.{IsEditOf, state_in, HasRoom, KeepsRoom, with_state, well_formed};
 ghost use Rattle.graph_store.specs.Named.{IsNamed};
-ghost use Rattle.graph_store.specs.Vertices.{AreLeastTwo, IsVertexNamed};
-ghost use Rattle.graph_store.specs.Store.{state_in, HasRoom, KeepsRoom, only, with_state, well_formed};
+ghost use Rattle.walks.specs.Named.{AreLeastTwo, IsVertexNamed};
+ghost use Rattle.graph_store.specs.Store.{only};
 
-use crate::change::Change;
 use crate::ends::{make_room_at_ends, recount};
 use crate::greatest::{greatest_of_edges, greatest_of_vertices};
 use crate::named::{bound_after, first_named};
 use crate::no_memory::NoMemory;
 use crate::room_map::RoomMap;
-use crate::vertices::{Named, first_counted, first_vertex};
+use crate::vertices::{first_counted, first_vertex};
 use edge_lattice::{State, join, leq};
 use grove_edits::{Edge, Edit, EditKind, EditList, Vertex, is_same_vertex};
 use grove_names::Name;
 use std::alloc::Global;
 use std::marker::Model;
 use std::ops::Bound;
+use walks::{Change, Named, asked_by};
 
 /// A live graph: the state of each edge. Contracts see its entries, of which those with the state Absent are room.
 #[derive(Debug, Drop)]
@@ -50,7 +50,7 @@ struct Root {
 }
 
 impl Model for GraphStore {
-    ghost use Rattle.graph_store.specs.Store.{Entries};
+    ghost use Rattle.walks.specs.States.{Entries};
     ghost use Rattle.graph_store.specs.Counts.{IsCounted};
 
     ghost Value = { Entries };
@@ -264,16 +264,6 @@ fn join_state(states: &mut RoomMap<Edge, State>, edge: &Edge, asked: State) -> S
     let old = *state;
     *state = join(old, asked);
     old
-}
-
-// What an edit asks its edge to be at least.
-fn asked_by(kind: EditKind) -> State
-    ensures { result ≡ state_of kind }
-{
-    match kind {
-        EditKind::Insert => State::Live,
-        EditKind::Delete => State::Deleted,
-    }
 }
 
 // The edit that asks a state of an edge, where there is one. A store takes edges too, so whether they are well formed is tested here.

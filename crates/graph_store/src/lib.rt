@@ -3,7 +3,6 @@
 //! Replicas stand on this crate, and the indexes of a graph beside it.
 #![tactic(auto)]
 
-mod change;
 mod ends;
 mod graph_store;
 mod greatest;
@@ -13,10 +12,9 @@ mod no_memory;
 mod room_map;
 mod vertices;
 
-pub use change::Change;
 pub use graph_store::GraphStore;
 pub use laws::{
     an_edge_with_a_state_has_room, graphs_of_edits_are_well_formed, raising_makes_the_graph,
 };
 pub use no_memory::NoMemory;
-pub use vertices::Named;
+pub use walks::{Change, Named};

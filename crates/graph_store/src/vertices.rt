@@ -11,15 +11,6 @@ use grove_sorts::Ctor;
 use std::cmp::Ordering;
 use std::ops::Bound;
 
-/// The vertices of a graph that have one name: the least two of them.
-#[derive(Clone, Copy, Debug, PartialEq, Eq)]
-pub enum Named {
-    Zero,
-    One(Vertex),
-    /// In vertex order.
-    More(Vertex, Vertex),
-}
-
 // The least vertex that has this name and is counted, from the bound on.
 pub(crate) fn first_counted(
     ends: &RoomMap<Vertex, u64>,

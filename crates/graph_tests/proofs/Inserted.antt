@@ -13,8 +13,8 @@ use Rattle.grove_edits.specs.Graph.{Graph, graph, graph_join, state_of, is_same_
 use Rattle.grove_edits.proofs.Orders.{one_edge}
 use Rattle.walks.specs.Live.{holds_edge}
 use Rattle.walks.specs.Whole.{AreLive}
-use Rattle.edge_index.specs.Ordered.{with_edge}
-use Rattle.edge_index.proofs.Ordered.{holds-with_edge, in_order-with_edge}
+use Rattle.walks.specs.Ordered.{with_edge}
+use Rattle.walks.proofs.Ordered.{holds-with_edge, in_order-with_edge}
 
 abbrev after : Bool → State → State
 after here s = state_join s (state_join (cond here Live Absent) Absent)

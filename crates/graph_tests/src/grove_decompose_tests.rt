@@ -4,7 +4,7 @@ ghost use Rattle.walks.specs.declared.class.Class.TheVariants.{Inner};
 ghost use Rattle.walks.specs.Class.{class};
 ghost use Rattle.walks.specs.Whole.{AreLive};
 ghost use Rattle.edge_index.specs.Lists.{live as live_edges};
-ghost use Rattle.graph_store.specs.Store.{state_in};
+ghost use Rattle.walks.specs.States.{state_in};
 ghost use Rattle.graph_table.specs.Table.{live, IsNumber};
 ghost use Rattle.grove_decompose.specs.Trees.{OnlyInner, vertices_of};
 
@@ -22,6 +22,7 @@ use parent_index::ParentIndex;
 use seeded_hash::HashSeed;
 use std::alloc::Global;
 use std::test::Fail;
+use whole_groves::decompose;
 
 fn vertex(counter: u64, ctor: Ctor) -> Vertex {
     Vertex {
@@ -70,7 +71,7 @@ fn listed(
     store: &GraphStore,
     children: &ChildIndex,
     parents: &ParentIndex,
-) -> Result<([usize; 3], Option<What>), NoMemory>
+) -> Result<([usize; 3], Option<What>), whole_groves::NoMemory>
     requires children { AreLive (state_in store.now) (live_edges children.now) }
     requires parents { AreLive (state_in store.now) (live_edges parents.now) }
 {

@@ -4,6 +4,7 @@ use grove_sorts::{Ctor, Position};
 use grove_terms::*;
 use std::alloc::Global;
 use std::test::Fail;
+use whole_groves::{EdgeList, edges};
 
 // An edge from the root, whose target has no children.
 fn to_number(counter: u64) -> Edge {
@@ -63,7 +64,7 @@ fn edges_of(
     first: &Edge,
     second: &Edge,
     third: &Edge,
-) -> Result<EdgeList, NoMemory> {
+) -> Result<EdgeList, whole_groves::NoMemory> {
     let mut grove = Grove {
         none: TreeList::new(alloc),
         multi: TreeList::new(alloc),

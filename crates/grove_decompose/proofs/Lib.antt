@@ -10,7 +10,6 @@ pub mod Noted
 pub mod ByNumber
 pub mod SortedHeads
 pub mod Vectors
-pub mod Held
 pub mod Marks
 pub mod Walking
 pub mod Rounds

@@ -10,9 +10,9 @@ use Rattle.walks.specs.Walk.{above}
 use Rattle.walks.specs.Class.{is_cycle_root}
 use Rattle.walks.proofs.Up.{up, next_above, up-shift, walk_len}
 use Rattle.walks.proofs.Returns.{some_same}
-use Rattle.unicycle_roots.specs.Met.{is_on_cycle, leads_to}
-use Rattle.unicycle_roots.proofs.Cycles.{up_through, back_from_cycle}
-use Rattle.unicycle_roots.proofs.Around.{IsAround, around_first, around_next, root_from_around, above_from_around, around_ends}
+use Rattle.walks.specs.Cycle.{is_on_cycle, leads_to}
+use Rattle.walks.proofs.Cycles.{up_through, back_from_cycle}
+use Rattle.walks.proofs.Around.{IsAround, around_first, around_next, root_from_around, above_from_around, around_ends}
 use Rattle.graph_table.specs.Table.{Table, live, vertex_at, IsNumber}
 use Rattle.grove_decompose.proofs.Marks.{numbers_apart}
 use Rattle.grove_decompose.proofs.Walking.{vertex_read}

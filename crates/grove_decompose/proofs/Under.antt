@@ -11,7 +11,7 @@ use Rattle.walks.specs.Live.{holds_edge, parents_of}
 use Rattle.walks.specs.Walk.{only_source, above}
 use Rattle.walks.specs.Class.{is_cycle_root, class_by, class}
 use Rattle.walks.proofs.Up.{up, next_above, up-shift}
-use Rattle.unicycle_roots.proofs.Cycles.{no_root_below_none, one_root}
+use Rattle.walks.proofs.Cycles.{no_root_below_none, one_root}
 use Rattle.grove_terms.specs.declared.node.What.TheVariants as whats
 use Rattle.grove_terms.proofs.InLive.{stands_among, target_has_parent}
 use Rattle.grove_decompose.specs.Tasks.{what_by, are_several, is_shared, IsUnder}

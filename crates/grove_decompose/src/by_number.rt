@@ -1,8 +1,8 @@
 ghost use Rattle.std.specs.Prelude.{◌≡◌};
 
-use crate::live_graph::LiveGraph;
 use crate::no_memory::NoMemory;
 use crate::noted_numbers::NotedNumbers;
+use crate::tree_source::TreeSource;
 use graph_table::{GraphTable, Parents};
 use grove_sorts::Position;
 use grove_terms::LentEdge;
@@ -17,7 +17,7 @@ pub(crate) struct LiveTable<'g> {
     pub(crate) table: &'g GraphTable,
 }
 
-impl<'g> LiveGraph<'g> for LiveTable<'g> {
+impl<'g> TreeSource<'g> for LiveTable<'g> {
     ghost use Rattle.graph_table.specs.Table.{live as live_edges, vertex_at as vertex_of, edge_at as edge_of, IsNumber, IsIndex};
     ghost use Rattle.grove_decompose.specs.Trees.{OnlyInner};
 

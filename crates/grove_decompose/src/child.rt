@@ -8,15 +8,15 @@ ghost use Rattle.grove_terms.specs.Lent.{edge_of, what_as};
 ghost use Rattle.grove_terms.specs.Nodes.{child_node};
 ghost use Rattle.grove_decompose.specs.Tasks.{what_by, child_rest, task_at, IsFound, IsUnder};
 
-use crate::live_graph::LiveGraph;
 use crate::no_memory::NoMemory;
 use crate::place::push_lent_places;
 use crate::task::Task;
+use crate::tree_source::TreeSource;
 use edit_table::{LentVertex, is_same_lent};
 use grove_terms::{LentEdge, LentNode, Role, Tree};
 
 // What a child is: under a root only the root itself heads a tree with one parent.
-fn role_of<'g, G: LiveGraph<'g>>(
+fn role_of<'g, G: TreeSource<'g>>(
     edge: &LentEdge<'g>,
     target: &G::Spot,
     root: &LentVertex,
@@ -41,7 +41,7 @@ fn role_of<'g, G: LiveGraph<'g>>(
 }
 
 /// Lists a child, and adds a task for each of its positions where it is no reference. It tells the vertex in that case.
-pub(crate) fn list_child<'g, G: LiveGraph<'g>>(
+pub(crate) fn list_child<'g, G: TreeSource<'g>>(
     link: &G::Link,
     depth: u64,
     root: &LentVertex,

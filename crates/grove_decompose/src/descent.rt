@@ -2,36 +2,25 @@ ghost use Rattle.std.specs.Prelude.{◌≡◌, ◌≢◌, ◌++◌, ◌∷◌, �
 ghost use Rattle.std.specs.List.{AllByRecursion};
 ghost use Rattle.walks.specs.declared.class.Class.TheVariants.{Inner};
 ghost use Rattle.walks.specs.Class.{class};
-ghost use Rattle.walks.specs.Whole.{IsVertexOf};
-ghost use Rattle.graph_store.specs.Store.{state_in};
-ghost use Rattle.edge_index.specs.Lists.{live};
 ghost use Rattle.edit_table.specs.Lent.{lent_vertex};
 ghost use Rattle.grove_terms.specs.Lent.{node_of};
 ghost use Rattle.grove_terms.specs.Nodes.{head_node};
-ghost use Rattle.grove_terms.specs.Grove.{IsTreeOf, AreTreesOf};
+ghost use Rattle.grove_terms.specs.Grove.{IsTreeOf};
 ghost use Rattle.grove_decompose.specs.Tasks.{IsFound, IsSound, step_nodes, step_tasks, task_at};
 
 use crate::child::list_child;
-use crate::live_graph::LiveGraph;
-use crate::live_indexes::{LiveIndexes, NoNotes};
 use crate::no_memory::NoMemory;
 use crate::place::{list_place, push_lent_places};
 use crate::room::Room;
 use crate::task::Task;
-use child_index::ChildIndex;
+use crate::tree_source::TreeSource;
 use edit_table::LentVertex;
-use graph_store::GraphStore;
-use grove_edits::{Edge, Vertex};
-use grove_terms::{LentNode, Tree, TreeList};
-use parent_index::ParentIndex;
+use grove_terms::{LentNode, Tree};
 use std::alloc::Global;
-use std::marker::PhantomData;
-use std::sync::ledger::Ledger;
-use walks::Steps;
 
 // Lists the first nodes of a part of a tree, and adds tasks for the rest of it. It tells the vertex that it lists under another one,
 // if it does. The list is for the children of a position.
-fn take<'g, G: LiveGraph<'g>>(
+fn take<'g, G: TreeSource<'g>>(
     task: &Task<G::Spot, G::Link>,
     root: &LentVertex,
     graph: &G,
@@ -66,7 +55,7 @@ fn take<'g, G: LiveGraph<'g>>(
 }
 
 /// The tree of a vertex that heads one. What stands in it under another one is noted, also where memory runs out in the midst of it.
-pub(crate) fn tree_of<'g, G: LiveGraph<'g>>(
+pub fn tree_of<'g, G: TreeSource<'g>>(
     alloc: Global,
     spot: &G::Spot,
     root: LentVertex<'g>,
@@ -104,58 +93,4 @@ pub(crate) fn tree_of<'g, G: LiveGraph<'g>>(
         }
     }
     Ok(tree)
-}
-
-fn tree_at<'g, L: Ledger>(
-    alloc: Global,
-    root: &'g Vertex,
-    children: &'g ChildIndex,
-    parents: &ParentIndex,
-    room: &mut Room<Vertex, &'g Edge>,
-    steps: &mut Steps<L>,
-) -> Result<Tree<'g>, NoMemory>
-    requires same { live children.now ≡ live parents.now }
-    requires outer { class (live parents.now) root.now ≢ Inner }
-    ensures { IfOk result (λ tree. IsTreeOf (live parents.now) root.now tree) }
-{
-    let indexes = LiveIndexes::<L> {
-        children,
-        parents,
-        ledger: PhantomData,
-    };
-    tree_of(
-        alloc,
-        root,
-        LentVertex::of(root),
-        LentNode::head(root),
-        &indexes,
-        &mut NoNotes,
-        room,
-        steps,
-    )
-}
-
-/// The trees of some vertices of a graph that head one each.
-pub(crate) fn trees_of<'g, L: Ledger>(
-    alloc: Global,
-    store: &'g GraphStore,
-    roots: &[Vertex],
-    children: &'g ChildIndex,
-    parents: &ParentIndex,
-    steps: &mut Steps<L>,
-) -> Result<TreeList<'g>, NoMemory>
-    requires same { live children.now ≡ live parents.now }
-    requires held { AllByRecursion (IsVertexOf (state_in store.now)) roots.now }
-    requires outer { AllByRecursion (λ root. class (live parents.now) root ≢ Inner) roots.now }
-    ensures trees { IfOk result (λ trees. AreTreesOf (live parents.now) roots.now trees) }
-{
-    let mut trees = TreeList::new(alloc);
-    let mut room = Room::new(alloc);
-    for root in roots {
-        // Each of them is a vertex of the graph.
-        if let Some(kept) = store.vertex(root) {
-            trees.push(tree_at(alloc, kept, children, parents, &mut room, steps)?)?;
-        }
-    }
-    Ok(trees)
 }

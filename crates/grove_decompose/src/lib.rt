@@ -1,5 +1,5 @@
-//! The grove of a graph: its trees, read off the live edges of each vertex, all of them or one by one by the numbers of a table. What
-//! shows and marks groves stands on this crate.
+//! The trees of a graph one at a time, read off the live edges of each vertex: of whatever tells its live edges, and of a table by the numbers
+//! of its vertices, with the heads of its trees. What shows and checks programs stands on this crate, and what lists whole groves.
 #![tactic(auto)]
 
 mod above;
@@ -8,11 +8,7 @@ mod candidates;
 mod child;
 mod cycle;
 mod cycles;
-mod decomposition;
 mod descent;
-mod heads;
-mod live_graph;
-mod live_indexes;
 mod met;
 mod narrow_count;
 mod no_memory;
@@ -21,9 +17,12 @@ mod place;
 mod room;
 mod seen;
 mod task;
+mod tree_source;
 mod trees;
 
-pub use decomposition::decompose;
+pub use descent::tree_of;
 pub use no_memory::NoMemory;
+pub use room::Room;
 pub use seen::Seen;
+pub use tree_source::TreeSource;
 pub use trees::{NumberedHeads, cycle_heads, heads_of, tree_by_number};

@@ -1,7 +1,7 @@
 ghost use Rattle.std.specs.Prelude.{◌≡◌, ◌<◌, ◌+◌, ◌^◌, length, option_map, replicate, slice_set, IfOk, IfSome, IsSome};
 ghost use Rattle.std.specs.List.{IsDistinct};
 ghost use Rattle.grove_edits.specs.Vertex.{is_same_vertex};
-ghost use Rattle.unicycle_roots.specs.Met.{met_by, KeepsMet, AreNumbered, HasEnded};
+ghost use Rattle.walks.specs.Met.{met_by, KeepsMet, AreNumbered, HasEnded};
 ghost use Rattle.graph_table.specs.Table.{live, vertex_at, IsNumber};
 ghost use Rattle.grove_decompose.specs.Met.{met_of, walk_at};
 

@@ -44,38 +44,8 @@ impl From<grove_edits::NoMemory> for NoMemory {
     }
 }
 
-impl From<graph_store::NoMemory> for NoMemory {
-    fn from(_error: graph_store::NoMemory) -> NoMemory {
-        NoMemory
-    }
-}
-
 impl From<graph_table::NoMemory> for NoMemory {
     fn from(_error: graph_table::NoMemory) -> NoMemory {
-        NoMemory
-    }
-}
-
-impl From<edge_index::NoMemory> for NoMemory {
-    fn from(_error: edge_index::NoMemory) -> NoMemory {
-        NoMemory
-    }
-}
-
-impl From<parent_index::NoMemory> for NoMemory {
-    fn from(_error: parent_index::NoMemory) -> NoMemory {
-        NoMemory
-    }
-}
-
-impl From<child_index::NoMemory> for NoMemory {
-    fn from(_error: child_index::NoMemory) -> NoMemory {
-        NoMemory
-    }
-}
-
-impl From<unicycle_roots::NoMemory> for NoMemory {
-    fn from(_error: unicycle_roots::NoMemory) -> NoMemory {
         NoMemory
     }
 }

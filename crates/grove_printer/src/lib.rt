@@ -1,4 +1,4 @@
-//! The print text of marked groves: a line for each node of each tree. What shows programs stands on this crate.
+//! The print text of marked trees: a line for each node, below a heading for each list of trees. What shows programs stands on this crate.
 #![tactic(auto)]
 
 mod columns;
@@ -9,7 +9,8 @@ mod no_memory;
 mod print;
 mod section;
 
-pub use marked_lines::{print_marked_lines, print_marked_lines_of};
+pub use line::whole_or_nothing;
+pub use marked_lines::{append_marked_lines_of, print_marked_lines_of};
 pub use no_memory::NoMemory;
-pub use print::{print_grove, print_heading, print_tree};
+pub use print::{append_heading, append_tree, print_heading, print_tree};
 pub use section::Section;

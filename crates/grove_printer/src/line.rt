@@ -31,7 +31,7 @@ pub(crate) fn append_line(
 }
 
 /// What was written since the buffer had a length stays where it is whole; after an error it is taken off.
-pub(crate) fn whole_or_nothing(
+pub fn whole_or_nothing(
     written: Result<(), NoMemory>,
     length: usize,
     out: &mut Vec<u8>,

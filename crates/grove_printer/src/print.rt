@@ -1,30 +1,14 @@
-ghost use Rattle.std.specs.Prelude.{◌≡◌, ◌++◌, length, map, OnOk, OnErr};
-ghost use Rattle.marking.specs.Reading.{meant_nodes, meant_grove};
-ghost use Rattle.marking.specs.Numbers.{AreMarkedNodesOf, AreMarkedListsOf, IsMarkedGroveOf};
-ghost use Rattle.grove_printer.specs.Print.{Extends, tree_text, trees_text, heading, print_text};
+ghost use Rattle.std.specs.Prelude.{◌≡◌, ◌++◌, OnOk, OnErr};
+ghost use Rattle.marking.specs.Reading.{meant_nodes};
+ghost use Rattle.marking.specs.Numbers.{AreMarkedNodesOf};
+ghost use Rattle.grove_printer.specs.Print.{Extends, tree_text, heading};
 
 use crate::line::{append_line, whole_or_nothing};
 use crate::no_memory::NoMemory;
 use crate::section::Section;
-use marking::{MarkedGrove, MarkedTree, MarkedTreeList};
+use marking::MarkedTree;
 use text_parts::{write_number, write_short};
 use type_core::{TypePrinter, TypeTable};
-
-/// Appends the print text of a marked grove: under a heading for each of its three lists a line for each node of its trees.
-pub fn print_grove(
-    marked: &MarkedGrove,
-    types: &TypeTable,
-    out: &mut Vec<u8>,
-) -> Result<(), NoMemory>
-    requires { IsMarkedGroveOf types.now marked.now }
-    ensures appended { OnOk result (out.new.items ≡ out.old.items ++ print_text (meant_grove types.now marked.now)) }
-    ensures unchanged { OnErr result (out.new.items ≡ out.old.items) }
-{
-    let start = out.len();
-    let mut printer = TypePrinter::new(*out.allocator(), types);
-    let written = append_grove(marked, &mut printer, out);
-    whole_or_nothing(written, start, out)
-}
 
 /// Appends the heading of a list of trees: which list it is, and how many trees there are.
 pub fn print_heading(section: Section, trees: usize, out: &mut Vec<u8>) -> Result<(), NoMemory>
@@ -48,40 +32,8 @@ pub fn print_tree(tree: &MarkedTree, types: &TypeTable, out: &mut Vec<u8>) -> Re
     whole_or_nothing(written, start, out)
 }
 
-// After an error each of these functions may have appended a part.
-
-fn append_grove(
-    marked: &MarkedGrove,
-    types: &mut TypePrinter,
-    out: &mut Vec<u8>,
-) -> Result<(), NoMemory>
-    requires { IsMarkedGroveOf types.old marked.now }
-    ensures appended { OnOk result (out.new.items ≡ out.old.items ++ print_text (meant_grove types.old marked.now)) }
-    ensures in_part { OnErr result (Extends out.old.items out.new.items) }
-    ensures same_types { types.new ≡ types.old }
-{
-    append_section(Section::NoParent, &marked.none, types, out)?;
-    append_section(Section::Multi, &marked.multi, types, out)?;
-    append_section(Section::Cycle, &marked.cycle, types, out)
-}
-
-fn append_section(
-    section: Section,
-    trees: &MarkedTreeList,
-    types: &mut TypePrinter,
-    out: &mut Vec<u8>,
-) -> Result<(), NoMemory>
-    requires { AreMarkedListsOf types.old trees.now }
-    ensures appended { OnOk result (out.new.items ≡ out.old.items
-        ++ (heading section (length trees.now) ++ trees_text (map (meant_nodes types.old) trees.now))) }
-    ensures in_part { OnErr result (Extends out.old.items out.new.items) }
-    ensures same_types { types.new ≡ types.old }
-{
-    append_heading(section, trees.len(), out)?;
-    append_trees(trees.as_slice(), types, out)
-}
-
-fn append_heading(section: Section, trees: usize, out: &mut Vec<u8>) -> Result<(), NoMemory>
+/// Appends the same as `print_heading`; after an error a part of it may stand.
+pub fn append_heading(section: Section, trees: usize, out: &mut Vec<u8>) -> Result<(), NoMemory>
     ensures appended { OnOk result (out.new.items ≡ out.old.items ++ heading section trees) }
     ensures in_part { OnErr result (Extends out.old.items out.new.items) }
 {
@@ -91,23 +43,8 @@ fn append_heading(section: Section, trees: usize, out: &mut Vec<u8>) -> Result<(
     Ok(())
 }
 
-fn append_trees(
-    trees: &[MarkedTree],
-    types: &mut TypePrinter,
-    out: &mut Vec<u8>,
-) -> Result<(), NoMemory>
-    requires { AreMarkedListsOf types.old trees.now }
-    ensures appended { OnOk result (out.new.items ≡ out.old.items ++ trees_text (map (meant_nodes types.old) trees.now)) }
-    ensures in_part { OnErr result (Extends out.old.items out.new.items) }
-    ensures same_types { types.new ≡ types.old }
-{
-    for tree in trees {
-        append_tree(tree, types, out)?;
-    }
-    Ok(())
-}
-
-fn append_tree(
+/// Appends the same as `print_tree`; after an error a part of it may stand.
+pub fn append_tree(
     tree: &MarkedTree,
     types: &mut TypePrinter,
     out: &mut Vec<u8>,

@@ -2,22 +2,18 @@
 //! graph, and which grove is the graph's. What decomposes graphs, and marks and prints groves, stands on this crate.
 #![tactic(auto)]
 
-mod edge_list;
 mod grove;
 mod laws;
-mod listing;
 mod no_memory;
 mod node;
 mod tree;
 mod tree_list;
 
-pub use edge_list::EdgeList;
 pub use grove::Grove;
 pub use laws::{
     a_list_is_one_tree, each_live_edge_stands_once, each_vertex_heads_one_tree,
     every_graph_has_one_grove, recomposing_gives_the_edges, trees_are_well_sorted,
 };
-pub use listing::edges;
 pub use no_memory::NoMemory;
 pub use node::{LentEdge, LentNode, LentWhat, Node, Role, What};
 pub use tree::Tree;

@@ -13,8 +13,8 @@ use Rattle.grove_edits.proofs.Vertices.{same_vertex_exact, same_vertex_itself}
 use Rattle.walks.proofs.Endings.{walk_is, walk_is_one}
 use Rattle.walks.proofs.Up.{up, next_above, walk_len}
 use Rattle.walks.proofs.Tops.{HasTop, has_top}
-use Rattle.unicycle_roots.specs.Met.{is_on_cycle, leads_to}
-use Rattle.unicycle_roots.proofs.Cycles.{Reaches, up_through, leads_from_reaches, reaches_from_leads, back_from_cycle, cycle_from_back, leads_back, returns, never_none, back_from_return}
+use Rattle.walks.specs.Cycle.{is_on_cycle, leads_to}
+use Rattle.walks.proofs.Cycles.{Reaches, up_through, leads_from_reaches, reaches_from_leads, back_from_cycle, cycle_from_back, leads_back, returns, never_none, back_from_return}
 use Rattle.kept_records.specs.Change.{HasOneMore, Changes, same, comes, goes, CyclesStay}
 use Rattle.kept_records.proofs.Truth.{clash}
 use Rattle.kept_records.proofs.Edits.{change_back, above_stays}

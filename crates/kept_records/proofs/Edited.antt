@@ -18,7 +18,7 @@ use Rattle.walks.specs.Live.{holds_edge, parents_of}
 use Rattle.grove_edits.specs.Vertex.{is_same_vertex, stands_in}
 use Rattle.walks.specs.Class.{class, class_by, is_cycle_root}
 use Rattle.walks.specs.Whole.{IsVertexOf, AreVertices, AreLive}
-use Rattle.unicycle_roots.specs.Met.{is_on_cycle, leads_to}
+use Rattle.walks.specs.Cycle.{is_on_cycle, leads_to}
 use Rattle.grove_terms.specs.Forest.{Forest, none, edges_under, StandsUnder}
 use Rattle.grove_terms.proofs.InLive.{same_edge_itself, IsFrom, under_lead}
 use Rattle.grove_terms.proofs.OneGrove.{vertices_of, vertices_are}

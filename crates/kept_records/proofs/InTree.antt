@@ -18,7 +18,7 @@ use Rattle.walks.specs.Whole.{AreLive}
 use Rattle.grove_edits.proofs.Vertices.{same_vertex_exact}
 use Rattle.walks.proofs.Endings.{walk_is}
 use Rattle.walks.proofs.Returns.{some_same}
-use Rattle.unicycle_roots.proofs.Cycles.{class_is_cycle}
+use Rattle.walks.proofs.Cycles.{class_is_cycle}
 use Rattle.grove_terms.specs.declared.node.Node.{Node}
 use Rattle.grove_terms.specs.Forest.{Forest}
 use Rattle.grove_terms.specs.Nodes.{tree_nodes}

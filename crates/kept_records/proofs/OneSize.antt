@@ -8,7 +8,7 @@ use Rattle.grove_edits.specs.Graph.{Graph, IsSame, graph}
 use Rattle.grove_edits.specs.Vertex.{stands_in}
 use Rattle.walks.specs.Class.{is_cycle_root}
 use Rattle.walks.specs.Whole.{AreLive}
-use Rattle.unicycle_roots.specs.Met.{is_on_cycle}
+use Rattle.walks.specs.Cycle.{is_on_cycle}
 use Rattle.grove_terms.specs.declared.node.Node.{Node}
 use Rattle.grove_terms.proofs.OneGrove.{vertices_of, vertices_are, one_live, one_grove, some_grove}
 use Rattle.kept_records.specs.Kept.{Records, AreKept}

@@ -16,7 +16,7 @@ use Rattle.grove_edits.specs.Vertex.{is_same_vertex}
 use Rattle.walks.specs.Walk.{only_source, above}
 use Rattle.walks.specs.Class.{class, class_by, is_cycle_root, is_same_class, of_class}
 use Rattle.walks.proofs.Up.{up, next_above, up-shift}
-use Rattle.unicycle_roots.proofs.Cycles.{no_root_below_none, one_root, class_is_cycle}
+use Rattle.walks.proofs.Cycles.{no_root_below_none, one_root, class_is_cycle}
 use Rattle.grove_terms.specs.declared.node.Node.{Node}
 use Rattle.grove_terms.specs.declared.grove.Grove.{Grove}
 use Rattle.grove_terms.specs.Forest.{Forest, none, multi_ref, cycle_ref, tree, child_edges, edges_under, AreChildren, StandsUnder}

@@ -13,7 +13,7 @@ ghost use Rattle.grove_sorts.specs.Ctor.{sort_of_ctor};
 ghost use Rattle.grove_sorts.specs.Position.{is_same_position};
 ghost use Rattle.walks.specs.Walk.{above, walk};
 ghost use Rattle.walks.specs.Whole.{AreLive, IsVertexOf};
-ghost use Rattle.unicycle_roots.specs.Met.{is_on_cycle, leads_to};
+ghost use Rattle.walks.specs.Cycle.{is_on_cycle, leads_to};
 ghost use Rattle.grove_terms.specs.declared.grove.Grove.{Grove};
 ghost use Rattle.grove_terms.specs.declared.node.Node.{Node};
 ghost use Rattle.grove_terms.specs.Forest.{Forest, none, multi_ref, cycle_ref, tree, StandsUnder, edges_under};

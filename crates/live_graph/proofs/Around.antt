@@ -12,7 +12,8 @@ use Rattle.grove_edits.specs.Vertex.{stands_in}
 use Rattle.grove_edits.specs.Graph.{is_same_edge}
 use Rattle.grove_edits.proofs.Orders.{one_edge}
 use Rattle.walks.specs.Live.{holds_edge}
-use Rattle.edge_numbers.specs.Numbered.{Numbered, Entries, edges_of, edge_at, no_edge, state_in, BeginsWith, HasEndsIn, KeepsNumbers}
+use Rattle.edge_numbers.specs.Numbered.{Numbered, edges_of, edge_at, no_edge, BeginsWith, HasEndsIn, KeepsNumbers}
+use Rattle.walks.specs.States.{Entries, state_in}
 use Rattle.edge_lists.specs.Lists.{Listed, numbers_at, AreEdgeNumbers}
 use Rattle.edge_lists.specs.Order.{IsInOrder}
 use Rattle.live_graph.specs.Live.{is_live}

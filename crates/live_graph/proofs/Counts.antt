@@ -10,10 +10,10 @@ use Rattle.grove_edits.specs.declared.vertex.Vertex.{Vertex}
 use Rattle.grove_edits.specs.declared.edge.Edge.{Edge}
 use Rattle.grove_edits.specs.Vertex.{is_same_vertex, stands_in, root}
 use Rattle.grove_edits.specs.Graph.{is_same_edge}
-use Rattle.edge_numbers.specs.Numbered.{Numbered, Entries, edges_of, edge_at, state_at, vertex_at, no_edge, with_entry, IsEdgeNumber, IsNumberOfVertex, BeginsWith, HasEndsIn}
+use Rattle.edge_numbers.specs.Numbered.{Numbered, edges_of, edge_at, state_at, vertex_at, no_edge, with_entry, IsEdgeNumber, IsNumberOfVertex, BeginsWith, HasEndsIn}
+use Rattle.walks.specs.States.{Entries, is_present}
 use Rattle.edge_lists.specs.Lists.{holds_number}
 use Rattle.numbers_by_name.specs.ByName.{Lists, numbers_of}
-use Rattle.live_graph.specs.Named.{is_present}
 use Rattle.live_graph.specs.ByName.{KeepsNames}
 use Rattle.live_graph.specs.Around.{once, is_at, total, IsStateSet}
 use Rattle.live_graph.specs.Uses.{use_weight, uses_at, AreUses, HasVertexNames}

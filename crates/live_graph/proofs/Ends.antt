@@ -13,8 +13,8 @@ use Rattle.grove_edits.specs.Graph.{is_same_edge}
 use Rattle.grove_edits.proofs.Orders.{one_edge, same_edge_laws}
 use Rattle.grove_edits.proofs.Vertices.{same_vertex_exact, same_vertex_itself}
 use Rattle.walks.specs.Whole.{AreVertices, IsVertexOf, IsInVertexOrder}
-use Rattle.edge_numbers.specs.Numbered.{Entries, edges_of, states_of, state_in, entry_at, no_edge}
-use Rattle.live_graph.specs.Named.{is_present}
+use Rattle.edge_numbers.specs.Numbered.{edges_of, states_of, no_edge}
+use Rattle.walks.specs.States.{Entries, state_in, entry_at, is_present}
 use Rattle.live_graph.specs.Ends.{has_end, IsEndIn}
 use Rattle.live_graph.proofs.Lives.{absent_apart}
 

@@ -13,7 +13,8 @@ use Rattle.grove_edits.specs.declared.edge.Edge.{Edge}
 use Rattle.grove_edits.specs.Vertex.{is_same_vertex, stands_in, root}
 use Rattle.grove_edits.specs.Edge.{edge_cmp}
 use Rattle.grove_edits.specs.Graph.{is_same_edge}
-use Rattle.edge_numbers.specs.Numbered.{Numbered, Entries, edges_of, state_in, state_at, with_entry, IsEdgeNumber, BeginsWith, HasEndsIn, IsNumberOfVertex, KeepsNumbers}
+use Rattle.edge_numbers.specs.Numbered.{Numbered, edges_of, state_at, with_entry, IsEdgeNumber, BeginsWith, HasEndsIn, IsNumberOfVertex, KeepsNumbers}
+use Rattle.walks.specs.States.{Entries, state_in}
 use Rattle.edge_numbers.proofs.Vertices.{numbered_stands}
 use Rattle.edge_lists.specs.Lists.{Listed, numbers_at, places_at}
 use Rattle.edge_lists.specs.Order.{position_first}

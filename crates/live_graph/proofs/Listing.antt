@@ -21,12 +21,12 @@ use Rattle.grove_edits.specs.Edit.{edit_kind}
 use Rattle.grove_edits.specs.Graph.{Graph, graph, state_of, is_same_edge, IsSame, IsCanonical}
 use Rattle.grove_edits.proofs.Graphs.{asked, graph-append}
 use Rattle.grove_edits.proofs.Orders.{one_edge, same_edge_laws}
-use Rattle.edge_numbers.specs.Numbered.{Numbered, edges_of, edge_at, state_at, state_in, IsNumberOfEdge}
+use Rattle.edge_numbers.specs.Numbered.{Numbered, edges_of, edge_at, state_at, IsNumberOfEdge}
+use Rattle.walks.specs.States.{state_in, IsEditOf, well_formed}
 use Rattle.edge_lists.specs.Lists.{holds_number}
 use Rattle.numbers_by_name.specs.ByName.{Lists, all_numbers, numbers_of}
 use Rattle.live_graph.specs.ByName.{HasEdgeNames}
-use Rattle.live_graph.specs.Listed.{IsEditOf, told_at}
-use Rattle.live_graph.specs.Store.{well_formed}
+use Rattle.live_graph.specs.Listed.{told_at}
 use Rattle.live_graph.proofs.Names.{number_of_present, state_there}
 
 join_nothing : (s : State) → state_join s Absent ≡ s

@@ -10,9 +10,10 @@ use Rattle.grove_edits.specs.Graph.{is_same_edge}
 use Rattle.grove_edits.proofs.Orders.{one_edge, same_edge_laws}
 use Rattle.walks.specs.Live.{IsInEdgeOrder, holds_edge}
 use Rattle.walks.specs.Whole.{AreLive}
-use Rattle.edge_lists.specs.Ordered.{with_edge}
-use Rattle.edge_lists.proofs.Ordered.{holds-with_edge, in_order-with_edge}
-use Rattle.edge_numbers.specs.Numbered.{Entries, edges_of, state_in, with_entry}
+use Rattle.walks.specs.Ordered.{with_edge}
+use Rattle.walks.proofs.Ordered.{holds-with_edge, in_order-with_edge}
+use Rattle.edge_numbers.specs.Numbered.{edges_of, with_entry}
+use Rattle.walks.specs.States.{Entries, state_in}
 use Rattle.live_graph.specs.Live.{is_live, live}
 
 pub in_order-live : (entries : Entries) → IsInEdgeOrder (live entries)

@@ -17,11 +17,11 @@ use Rattle.grove_edits.specs.declared.edge.Edge.{Edge}
 use Rattle.grove_edits.specs.Graph.{is_same_edge}
 use Rattle.grove_edits.proofs.Orders.{one_edge, same_edge_laws}
 use Rattle.walks.specs.Live.{IsInEdgeOrder, holds_edge}
-use Rattle.edge_numbers.specs.Numbered.{Numbered, entry_at, edges_of, edge_at, state_at, state_in, with_entry, no_edge, IsEdgeNumber, IsNumberOfEdge}
+use Rattle.edge_numbers.specs.Numbered.{Numbered, edges_of, edge_at, state_at, with_entry, no_edge, IsEdgeNumber, IsNumberOfEdge}
+use Rattle.walks.specs.States.{entry_at, state_in, is_present}
 use Rattle.edge_numbers.proofs.States.{state_numbered}
 use Rattle.edge_lists.specs.Lists.{holds_number}
 use Rattle.numbers_by_name.specs.ByName.{Lists, numbers_of, is_same_name}
-use Rattle.live_graph.specs.Named.{is_present}
 use Rattle.live_graph.specs.NamedEdges.{AreNamed}
 use Rattle.live_graph.specs.ByName.{is_named, is_named_edge, KeepsNames, HasEdgeNames}
 use Rattle.live_graph.proofs.Ends.{present, not_absent, and_left, and_right, or_none}

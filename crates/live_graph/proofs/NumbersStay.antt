@@ -1,7 +1,8 @@
 -- The numbers of edges where edges are entered and states are set.
 use Rattle.std.proofs.Common.{◌≡◌, ℕ, None, Some, sym, subst, ◌∙◌}
 use Rattle.grove_edits.specs.declared.edge.Edge.{Edge}
-use Rattle.edge_numbers.specs.Numbered.{Numbered, Entries, HasRoom, KeepsNumbers}
+use Rattle.edge_numbers.specs.Numbered.{Numbered, KeepsNumbers}
+use Rattle.walks.specs.States.{Entries, HasRoom}
 use Rattle.live_graph.specs.NumberOf.{IsNumberOf, KeepsNumbersOf}
 use Rattle.live_graph.proofs.Numbers.{number_of_room}
 

@@ -16,9 +16,10 @@ use Rattle.grove_edits.specs.Graph.{is_same_edge}
 use Rattle.grove_edits.proofs.Orders.{edge_cmp_exact}
 use Rattle.grove_edits.proofs.Vertices.{same_vertex_exact, same_vertex_itself, same_vertex_laws}
 use Rattle.walks.specs.Live.{targets_of, parents_of}
-use Rattle.edge_lists.specs.Ordered.{with_edge, put_before}
-use Rattle.edge_lists.proofs.Ordered.{holds-with_edge, in_order-with_edge, same_lists}
-use Rattle.edge_numbers.specs.Numbered.{Numbered, Entries, edges_of, edge_at, vertex_at, state_in, with_state, IsVertexNumber}
+use Rattle.walks.specs.Ordered.{with_edge, put_before}
+use Rattle.walks.proofs.Ordered.{holds-with_edge, in_order-with_edge, same_lists}
+use Rattle.edge_numbers.specs.Numbered.{Numbered, edges_of, edge_at, vertex_at, IsVertexNumber}
+use Rattle.walks.specs.States.{Entries, state_in, with_state}
 use Rattle.edge_lists.specs.Lists.{Listed, numbers_at}
 use Rattle.live_graph.specs.Live.{is_live, live}
 use Rattle.live_graph.specs.Around.{once, AreAround, target_of}

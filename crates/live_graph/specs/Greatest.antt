@@ -1,28 +1,10 @@
 -- The greatest counter of an author among names.
-use Rattle.std.specs.Prelude.{◌≡◌, ◌≢◌, ◌⊎◌, ◌≤◌, ℕ}
-use Rattle.edge_lattice.specs.declared.state.State.TheVariants.{Absent}
+use Rattle.std.specs.Prelude.{◌≡◌}
 use Rattle.grove_names.specs.declared.name.Name.{Name}
 use Rattle.grove_edits.specs.declared.vertex.Vertex.{Vertex}
-use Rattle.grove_edits.specs.declared.edge.Edge.{Edge}
-use Rattle.grove_edits.specs.Graph.{Graph}
-use Rattle.walks.specs.Whole.{IsVertexOf}
-use Rattle.edge_numbers.specs.Numbered.{Entries, state_in}
-use Rattle.numbers_by_name.specs.ByName.{name_by}
+use Rattle.walks.specs.States.{Entries}
 use Rattle.live_graph.specs.Ends.{IsEndIn}
-
--- the name of an edge that is not Absent, or of a vertex of the graph
-abbrev pub IsNameOf : Graph → Name → Type 0
-IsNameOf g n = ((e : Edge) × (g e ≢ Absent) × (e.name ≡ n)) ⊎ ((v : Vertex) × IsVertexOf g v × (v.name ≡ n))
-
--- the name of an edge that is not Absent
-abbrev pub IsNameOfEdge : Entries → Name → Type 0
-IsNameOfEdge entries n = (e : Edge) × (state_in entries e ≢ Absent) × (e.name ≡ n)
 
 -- the name of an end of an edge that is not Absent
 abbrev pub IsNameOfEnd : Entries → Name → Type 0
 IsNameOfEnd entries n = (v : Vertex) × IsEndIn entries v × (v.name ≡ n)
-
--- no name by the author has a greater counter, and the counter is 0 or that of a name by the author
-pub record IsGreatest (IsName : Name → Type 0) (author counter : ℕ) : Type 0 where
-  pub no_greater : (n : Name) → IsName n → n.author ≡ author → n.counter ≤ counter
-  pub reached : (counter ≡ 0) ⊎ IsName (name_by author counter)

@@ -1,14 +1,10 @@
 pub mod Live
 pub mod NumberOf
-pub mod Change
 pub mod Around
-pub mod Store
 pub mod Listed
-pub mod Named
 pub mod Ends
 pub mod Kept
 pub mod NamedEdges
 pub mod ByName
 pub mod Uses
-pub mod Vertices
 pub mod Greatest

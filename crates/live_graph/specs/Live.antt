@@ -3,8 +3,8 @@ use Rattle.std.specs.Prelude.{Bool, true, false, List, [], ◌∷◌, if◌then�
 use Rattle.edge_lattice.specs.declared.state.State.{State}
 use Rattle.edge_lattice.specs.declared.state.State.TheVariants.{Absent, Live, Deleted}
 use Rattle.grove_edits.specs.declared.edge.Edge.{Edge}
-use Rattle.edge_lists.specs.Ordered.{with_edge}
-use Rattle.edge_numbers.specs.Numbered.{Entries}
+use Rattle.walks.specs.Ordered.{with_edge}
+use Rattle.walks.specs.States.{Entries}
 
 abbrev pub is_live : State → Bool
 is_live Absent = false

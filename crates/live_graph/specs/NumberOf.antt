@@ -1,7 +1,8 @@
 -- The numbers of edges among entries: the number of an edge is the index of its entry.
 use Rattle.std.specs.Prelude.{◌≡◌, ℕ, ◌<◌, length, slice_index_or}
 use Rattle.grove_edits.specs.declared.edge.Edge.{Edge}
-use Rattle.edge_numbers.specs.Numbered.{Entries, edges_of, no_edge}
+use Rattle.edge_numbers.specs.Numbered.{edges_of, no_edge}
+use Rattle.walks.specs.States.{Entries}
 
 -- the entry with the index n is that of the edge
 abbrev pub IsNumberOf : Entries → Edge → ℕ → Type 0

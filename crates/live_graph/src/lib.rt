@@ -3,7 +3,6 @@
 #![tactic(auto)]
 
 mod by_name;
-mod change;
 mod edges;
 mod greatest;
 mod live_graph;
@@ -16,8 +15,7 @@ mod uses;
 mod vertices;
 mod whole;
 
-pub use change::Change;
 pub use edges::Edges;
 pub use live_graph::LiveGraph;
 pub use no_memory::NoMemory;
-pub use vertices::Named;
+pub use walks::{Change, Named};

@@ -6,17 +6,15 @@ ghost use Rattle.grove_edits.specs.Edit.{edit_edge, edit_kind};
 ghost use Rattle.grove_edits.specs.Graph.{Ascends, IsSame, IsCanonical, graph, graph_join, state_of};
 ghost use Rattle.walks.specs.Live.{IsInEdgeOrder, children_of, parents_of};
 ghost use Rattle.walks.specs.Whole.{AreLive, AreVertices};
-ghost use Rattle.edge_numbers.specs.Numbered.{state_in, with_state, HasRoom, KeepsRoom};
-ghost use Rattle.live_graph.specs.Change.{IsChange};
-ghost use Rattle.live_graph.specs.Greatest.{IsGreatest, IsNameOf};
+ghost use Rattle.walks.specs.States.{state_in, with_state, HasRoom, KeepsRoom, well_formed};
+ghost use Rattle.walks.specs.Change.{IsChange};
+ghost use Rattle.walks.specs.Names.{IsGreatest, IsNameOf};
 ghost use Rattle.live_graph.specs.Live.{live};
 ghost use Rattle.live_graph.specs.NamedEdges.{AreNamed};
 ghost use Rattle.live_graph.specs.NumberOf.{IsNumberOf, KeepsNumbersOf};
-ghost use Rattle.live_graph.specs.Store.{well_formed};
-ghost use Rattle.live_graph.specs.Vertices.{AreLeastTwo, IsVertexNamed};
+ghost use Rattle.walks.specs.Named.{AreLeastTwo, IsVertexNamed};
 
 use crate::by_name::{find, name_next_edge, sort_edges, with_name};
-use crate::change::Change;
 use crate::edges::Edges;
 use crate::greatest::{greatest_of_edges, greatest_of_vertices};
 use crate::live_lists::enter;
@@ -24,7 +22,7 @@ use crate::neighbours::{children_at, parents_at};
 use crate::no_memory::NoMemory;
 use crate::parent_count::set_counted_state;
 use crate::uses::recount_ends;
-use crate::vertices::{Named, least_named};
+use crate::vertices::least_named;
 use crate::whole::{are_edits, edits_of, ends_of, sort_vertices};
 use edge_lattice::{State, join, leq};
 use edge_lists::{ByEdge, ByPosition, EdgeLists};
@@ -37,7 +35,7 @@ use seeded_hash::HashSeed;
 use std::alloc::Global;
 use std::marker::Model;
 use std::sync::ledger::Ledger;
-use walks::{Few, ParentOf, Steps};
+use walks::{Change, Few, Named, ParentOf, Steps, asked_by};
 
 /// A live graph: the state of each edge, with the live edges around each vertex. Contracts see its entries, of which those with the state
 /// Absent are room.
@@ -57,7 +55,7 @@ pub struct LiveGraph {
 }
 
 impl Model for LiveGraph {
-    ghost use Rattle.edge_numbers.specs.Numbered.{Entries};
+    ghost use Rattle.walks.specs.States.{Entries};
     ghost use Rattle.live_graph.specs.Kept.{IsKept};
 
     ghost Value = { Entries };
@@ -351,15 +349,5 @@ impl ParentOf for LiveGraph {
 
     fn vertex_count(&self) -> u64 {
         self.parent_count
-    }
-}
-
-// What an edit asks its edge to be at least.
-fn asked_by(kind: EditKind) -> State
-    ensures { result ≡ state_of kind }
-{
-    match kind {
-        EditKind::Insert => State::Live,
-        EditKind::Delete => State::Deleted,
     }
 }

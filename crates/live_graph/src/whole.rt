@@ -4,12 +4,11 @@ ghost use Rattle.grove_edits.specs.declared.vertex.Vertex.{Vertex};
 ghost use Rattle.grove_edits.specs.Graph.{IsSame, graph, graph_join};
 ghost use Rattle.grove_edits.specs.Vertex.{is_same_vertex, stands_in, root};
 ghost use Rattle.walks.specs.Whole.{IsInVertexOrder};
-ghost use Rattle.edge_numbers.specs.Numbered.{state_in, edge_at, IsEdgeNumber};
+ghost use Rattle.edge_numbers.specs.Numbered.{edge_at, IsEdgeNumber};
+ghost use Rattle.walks.specs.States.{state_in, IsEditOf, is_present, well_formed};
 ghost use Rattle.live_graph.specs.ByName.{HasEdgeNames};
 ghost use Rattle.live_graph.specs.Ends.{has_end};
-ghost use Rattle.live_graph.specs.Listed.{IsEditOf, told_at};
-ghost use Rattle.live_graph.specs.Named.{is_present};
-ghost use Rattle.live_graph.specs.Store.{well_formed};
+ghost use Rattle.live_graph.specs.Listed.{told_at};
 
 use crate::no_memory::NoMemory;
 use edge_lattice::State;

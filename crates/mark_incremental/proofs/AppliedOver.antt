@@ -4,12 +4,11 @@ use Rattle.std.specs.Prelude.{Result, Ok, Err, IfOk, OnOk, OnErr}
 use Rattle.edge_lattice.specs.State.{state_join}
 use Rattle.grove_sorts.specs.declared.position.Position.{Position}
 use Rattle.grove_edits.specs.declared.vertex.Vertex.{Vertex}
-use Rattle.grove_edits.specs.declared.edge.Edge.{Edge}
 use Rattle.grove_edits.specs.declared.edit.Edit.{Edit}
 use Rattle.grove_edits.specs.Edit.{edit_edge, edit_kind}
 use Rattle.grove_edits.specs.Graph.{Graph, graph, graph_join, IsSame, state_of}
-use Rattle.graph_store.specs.Change.{IsChange}
-use Rattle.graph_store.specs.Store.{Entries, state_in}
+use Rattle.walks.specs.Change.{IsChange}
+use Rattle.walks.specs.States.{Entries, state_in}
 use Rattle.edge_index.specs.Lists.{Indexed}
 use Rattle.child_index.specs.declared.origin.Origin.{Origin}
 use Rattle.child_index.specs.Origin.{room_at_origin}
@@ -19,10 +18,8 @@ use Rattle.judging.proofs.Kept.{types-then, contexts-then}
 use Rattle.kept_records.specs.Size.{IsSize}
 use Rattle.kept_records.proofs.OneSize.{size_along}
 use Rattle.mark_incremental.specs.declared.applying.Applied.{Applied}
-use Rattle.mark_incremental.specs.Raising.{HaveRoom, MovesRoom, LeavesRoom}
 use Rattle.mark_incremental.specs.Standing.{KeptMarks, StandFor}
-use Rattle.mark_incremental.specs.Applying.{HaveGrown, WasApplied, IsBack}
-use Rattle.mark_incremental.proofs.Room.{leaves_room, leaves_more}
+use Rattle.mark_incremental.specs.Applying.{HaveGrown, WasApplied}
 
 -- ---- results
 

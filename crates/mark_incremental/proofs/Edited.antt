@@ -17,7 +17,7 @@ use Rattle.walks.specs.Whole.{AreLive}
 use Rattle.grove_terms.proofs.OneGrove.{one_live}
 use Rattle.grove_terms.proofs.WellSorted.{live_well_formed}
 use Rattle.type_core.specs.Typ.{Typ}
-use Rattle.graph_store.specs.Store.{Entries, state_in}
+use Rattle.walks.specs.States.{Entries, state_in}
 use Rattle.edge_index.specs.Lists.{Indexed, live}
 use Rattle.child_index.specs.declared.origin.Origin.{Origin}
 use Rattle.parent_index.specs.declared.target.Target.{Target}

@@ -11,7 +11,7 @@ use Rattle.walks.specs.Live.{parents_of}
 use Rattle.walks.specs.Walk.{above}
 use Rattle.walks.specs.Class.{class, is_same_class, is_cycle_root}
 use Rattle.walks.proofs.Up.{up, next_above, up-shift}
-use Rattle.unicycle_roots.proofs.Cycles.{Reaches, class_is_cycle}
+use Rattle.walks.proofs.Cycles.{Reaches, class_is_cycle}
 use Rattle.grove_terms.specs.Forest.{Forest}
 use Rattle.mark_step.specs.Expression.{Demanded}
 use Rattle.kept_records.specs.Kept.{Stands}

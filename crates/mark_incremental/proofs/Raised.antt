@@ -14,11 +14,11 @@ use Rattle.grove_edits.proofs.Orders.{one_edge}
 use Rattle.grove_terms.proofs.InLive.{same_edge_itself}
 use Rattle.walks.specs.Live.{holds_edge}
 use Rattle.walks.specs.Whole.{AreLive}
-use Rattle.graph_store.specs.declared.change.Change.TheVariants.{Same, Raised}
-use Rattle.graph_store.specs.Change.{IsChange}
-use Rattle.graph_store.specs.Store.{with_state}
-use Rattle.edge_index.specs.Ordered.{with_edge, without_edge}
-use Rattle.edge_index.proofs.Ordered.{holds-with_edge, holds-filter, in_order-with_edge, in_order-filter}
+use Rattle.walks.specs.declared.change.Change.TheVariants.{Same, Raised}
+use Rattle.walks.specs.Change.{IsChange}
+use Rattle.walks.specs.States.{with_state}
+use Rattle.walks.specs.Ordered.{with_edge, without_edge}
+use Rattle.walks.proofs.Ordered.{holds-with_edge, holds-filter, in_order-with_edge, in_order-filter}
 use Rattle.mark_incremental.specs.Raising.{followed, unfollowed}
 
 join-absent : (s : State) → state_join s (state_join Absent Absent) ≡ s

@@ -1,15 +1,12 @@
 -- Edits that were applied one after the other, and are taken back.
-use Rattle.std.proofs.Common.{◌≡◌, ◌+◌, ◌≤◌, ℕ, Bool, true, false, cond, List, [], ◌∷◌, ◌++◌, Option, Some, None, IfSome, refl, sym, ap, subst, ◌∙◌, arith}
+use Rattle.std.proofs.Common.{◌≡◌, ◌+◌, Bool, List, [], ◌∷◌, ◌++◌, Option, Some, None, IfSome, refl, sym, ap, subst, ◌∙◌, arith}
 use Rattle.std.specs.Prelude.{reverse}
-use Rattle.std.specs.List.{AllByRecursion}
 use Rattle.std.proofs.lemmas.List.{reverse-append}
-use Rattle.grove_sorts.specs.declared.position.Position.{Position}
 use Rattle.grove_edits.specs.declared.vertex.Vertex.{Vertex}
 use Rattle.grove_edits.specs.declared.edit.Edit.{Edit}
 use Rattle.grove_edits.specs.Edit.{edit_edge, edit_kind}
 use Rattle.grove_edits.specs.Graph.{IsSame}
-use Rattle.graph_store.specs.Store.{state_in, KeepsRoom}
-use Rattle.child_index.specs.Origin.{is_from}
+use Rattle.walks.specs.States.{state_in, KeepsRoom}
 use Rattle.type_core.specs.Typ.{Typ}
 use Rattle.ctx_table.specs.Context.{Context}
 use Rattle.type_core.specs.TypeTable.{KeepsTypes}
@@ -23,7 +20,7 @@ use Rattle.mark_incremental.specs.Reading.{IsRecordOf}
 use Rattle.mark_incremental.specs.Looking.{holds}
 use Rattle.mark_incremental.specs.Raising.{MovesRoom, LeavesRoom, brought_by, taken_by}
 use Rattle.mark_incremental.specs.Standing.{KeptMarks, kept_in}
-use Rattle.mark_incremental.specs.Applying.{HaveGrown, KeepMarksRoom, put_back_in, roots_back, WasRenewed, CanRenewBack, WasApplied, CanTakeBack}
+use Rattle.mark_incremental.specs.Applying.{HaveGrown, KeepMarksRoom, put_back_in, roots_back}
 use Rattle.mark_incremental.specs.Receipts.{Held, IsAsBefore, HasLed, HaveLed}
 use Rattle.mark_incremental.proofs.Growth.{record_kept}
 use Rattle.mark_incremental.proofs.Edited.{nothing_grown}

@@ -9,8 +9,8 @@ use Rattle.grove_edits.specs.Graph.{graph}
 use Rattle.grove_edits.proofs.Vertices.{same_vertex_exact, same_vertex_itself}
 use Rattle.walks.specs.Class.{is_cycle_root}
 use Rattle.walks.specs.Whole.{AreLive}
-use Rattle.unicycle_roots.specs.Met.{is_on_cycle, leads_to}
-use Rattle.unicycle_roots.proofs.Cycles.{one_root, reaches_from_leads}
+use Rattle.walks.specs.Cycle.{is_on_cycle, leads_to}
+use Rattle.walks.proofs.Cycles.{one_root, reaches_from_leads}
 use Rattle.kept_records.proofs.Edited.{root_ends, root_begins, root_ended, root_begun}
 
 two_ways : (b : Bool) → b ≡ true → b ≡ false → ⊥

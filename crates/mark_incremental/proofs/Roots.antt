@@ -14,8 +14,8 @@ use Rattle.walks.specs.Class.{is_cycle_root}
 use Rattle.walks.specs.Whole.{AreLive}
 use Rattle.walks.proofs.Up.{next_above, walk_len}
 use Rattle.walks.proofs.Tops.{HasTop, has_top}
-use Rattle.unicycle_roots.specs.Met.{is_on_cycle, leads_to}
-use Rattle.unicycle_roots.proofs.Cycles.{Reaches, ComesBack, up_through, leads_from_reaches, reaches_from_leads, leads_to_itself, back_from_cycle, leads_back, returns, never_none, back_from_return, root_from_least}
+use Rattle.walks.specs.Cycle.{is_on_cycle, leads_to}
+use Rattle.walks.proofs.Cycles.{Reaches, ComesBack, up_through, leads_from_reaches, reaches_from_leads, leads_to_itself, back_from_cycle, leads_back, returns, never_none, back_from_return, root_from_least}
 use Rattle.kept_records.specs.Change.{CyclesStay}
 use Rattle.kept_records.proofs.Edited.{roots_stay, never_on_both}
 use Rattle.kept_records.proofs.Decided.{list_or, edge_or, AreSameOrNot}

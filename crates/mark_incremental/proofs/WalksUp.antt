@@ -7,7 +7,7 @@ use Rattle.grove_edits.specs.Vertex.{is_same_vertex, stands_in}
 use Rattle.walks.specs.Walk.{above, above_last, GoesOn, IsEnd, IsWalk, walk, walk_on}
 use Rattle.walks.specs.Class.{is_vertex_of}
 use Rattle.walks.proofs.Endings.{walk_is, walk_is_one}
-use Rattle.unicycle_roots.specs.Met.{is_on_cycle}
+use Rattle.walks.specs.Cycle.{is_on_cycle}
 use Rattle.mark_store.specs.Places.{Places}
 use Rattle.mark_incremental.specs.Looking.{holds}
 use Rattle.mark_incremental.specs.Passing.{IsUpTo}

@@ -19,7 +19,7 @@ use Rattle.walks.specs.Walk.{only_source, above, IsEnd, walk}
 use Rattle.walks.specs.Class.{class}
 use Rattle.walks.specs.Whole.{AreLive, IsVertexOf}
 use Rattle.walks.proofs.Endings.{walk_is_one}
-use Rattle.unicycle_roots.proofs.Cycles.{leads_from_reaches}
+use Rattle.walks.proofs.Cycles.{leads_from_reaches}
 use Rattle.grove_terms.specs.declared.node.Node.{Node}
 use Rattle.grove_terms.specs.declared.grove.Grove.{Grove}
 use Rattle.grove_terms.specs.Forest.{Forest}

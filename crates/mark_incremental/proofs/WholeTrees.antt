@@ -21,8 +21,8 @@ use Rattle.walks.specs.Walk.{walk}
 use Rattle.walks.specs.Class.{class, is_cycle_root}
 use Rattle.walks.specs.Whole.{AreLive, IsVertexOf}
 use Rattle.walks.proofs.Chains.{not_inner_from_test}
-use Rattle.unicycle_roots.specs.Met.{is_on_cycle, leads_to}
-use Rattle.unicycle_roots.proofs.Cycles.{leads_from_reaches, reaches_from_leads, leads_to_itself}
+use Rattle.walks.specs.Cycle.{is_on_cycle, leads_to}
+use Rattle.walks.proofs.Cycles.{leads_from_reaches, reaches_from_leads, leads_to_itself}
 use Rattle.grove_terms.proofs.WellSorted.{live_well_formed}
 use Rattle.kept_records.specs.Kept.{Records, AreKept, Kept}
 use Rattle.kept_records.specs.Local.{is_inner}

@@ -9,7 +9,7 @@ ghost use Rattle.grove_edits.specs.Graph.{IsSame, graph, graph_join, state_of};
 ghost use Rattle.edge_index.specs.Lists.{live};
 ghost use Rattle.child_index.specs.Origin.{room_at_origin};
 ghost use Rattle.parent_index.specs.Target.{room_at_vertex};
-ghost use Rattle.graph_store.specs.Store.{state_in, Entries, KeepsRoom};
+ghost use Rattle.walks.specs.States.{state_in, Entries, KeepsRoom};
 ghost use Rattle.kept_records.specs.Size.{IsSize};
 ghost use Rattle.mark_incremental.specs.Looking.{holds};
 ghost use Rattle.mark_incremental.specs.Raising.{AreIndexed, HaveRoom, LeavesRoom, MovesRoom, brought_by, taken_by};

@@ -2,7 +2,7 @@ ghost use Rattle.std.specs.Prelude.{◌+◌, ◌≤◌, ℕ, reverse, OnOk, OnEr
 ghost use Rattle.grove_sorts.specs.declared.position.Position.{Position};
 ghost use Rattle.grove_edits.specs.declared.vertex.Vertex.{Vertex};
 ghost use Rattle.grove_edits.specs.Graph.{IsSame, graph, graph_join};
-ghost use Rattle.graph_store.specs.Store.{state_in, KeepsRoom};
+ghost use Rattle.walks.specs.States.{state_in, KeepsRoom};
 ghost use Rattle.child_index.specs.Origin.{room_at_origin};
 ghost use Rattle.parent_index.specs.Target.{room_at_vertex};
 ghost use Rattle.mark_incremental.specs.Raising.{AreIndexed};

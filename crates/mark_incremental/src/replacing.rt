@@ -11,7 +11,7 @@ ghost use Rattle.walks.specs.Walk.{walk};
 ghost use Rattle.walks.specs.Class.{is_cycle_root};
 ghost use Rattle.walks.specs.Whole.{AreLive};
 ghost use Rattle.edge_index.specs.Lists.{live};
-ghost use Rattle.graph_store.specs.Store.{state_in};
+ghost use Rattle.walks.specs.States.{state_in};
 ghost use Rattle.type_core.specs.TypeTable.{KeepsTypes};
 ghost use Rattle.ctx_table.specs.CtxTable.{KeepsContexts};
 ghost use Rattle.kept_records.specs.Kept.{AreKept};

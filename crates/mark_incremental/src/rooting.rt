@@ -1,24 +1,15 @@
-ghost use Rattle.std.specs.Prelude.{◌≡◌, if◌then◌else◌};
 ghost use Rattle.std.specs.Ordering.{is_gt};
+ghost use Rattle.std.specs.Prelude.{◌≡◌, if◌then◌else◌};
 ghost use Rattle.grove_edits.specs.declared.vertex.Vertex.{Vertex};
-ghost use Rattle.grove_edits.specs.Vertex.{vertex_cmp, is_same_vertex};
+ghost use Rattle.grove_edits.specs.Vertex.{is_same_vertex};
 ghost use Rattle.mark_store.specs.Places.{HasRoom, KeepsRoom};
 ghost use Rattle.mark_incremental.specs.Looking.{holds};
 ghost use Rattle.mark_incremental.specs.Rooting.{IsLeastOf, IsChangedRoot};
 
 use crate::passing::Ends;
-use grove_edits::{Vertex, compare_vertices};
+use grove_edits::Vertex;
 use mark_store::VertexMap;
-use std::cmp::Ordering;
-
-fn lesser(a: &Vertex, b: &Vertex) -> Vertex
-    ensures { result ≡ (if is_gt (vertex_cmp a.now b.now) then b.now else a.now) }
-{
-    match compare_vertices(a, b) {
-        Ordering::Less | Ordering::Equal => *a,
-        Ordering::Greater => *b,
-    }
-}
+use walks::lesser;
 
 // The least of a vertex and some others.
 fn least_of(first: &Vertex, others: &[Vertex]) -> Vertex

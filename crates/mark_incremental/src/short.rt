@@ -19,7 +19,7 @@ ghost use Rattle.kept_records.specs.Short.{LeadsUp};
 ghost use Rattle.mark_incremental.specs.Reading.{AreRecordsOf};
 ghost use Rattle.mark_incremental.specs.Looking.{on, AreRoots};
 ghost use Rattle.mark_incremental.specs.Walking.{start_at, IsStart, AreMadeOf, ReadsAs};
-ghost use Rattle.graph_store.specs.Store.{state_in};
+ghost use Rattle.walks.specs.States.{state_in};
 ghost use Rattle.kept_records.specs.Size.{IsSize};
 ghost use Rattle.mark_incremental.specs.Raising.{AreIndexed};
 ghost use Rattle.mark_incremental.specs.Standing.{StandFor, kept_in, records_in};

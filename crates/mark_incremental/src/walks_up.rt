@@ -1,8 +1,8 @@
 ghost use Rattle.std.specs.Prelude.{◌≡◌, ◌+◌, ◌*◌, ◌≤◌, ◌||◌, ◌++◌, ◌∷◌, [], length, Some, None, IfOk, OnOk};
 ghost use Rattle.grove_edits.specs.declared.vertex.Vertex.{Vertex};
 ghost use Rattle.grove_edits.specs.Vertex.{is_same_vertex};
-ghost use Rattle.walks.specs.Walk.{above, walk};
-ghost use Rattle.unicycle_roots.specs.Met.{is_on_cycle};
+ghost use Rattle.walks.specs.Walk.{walk};
+ghost use Rattle.walks.specs.Cycle.{is_on_cycle};
 ghost use Rattle.mark_incremental.specs.Looking.{holds};
 
 use crate::no_memory::NoMemory;
@@ -11,7 +11,7 @@ use mark_store::VertexMap;
 use seeded_hash::HashSeed;
 use std::alloc::Global;
 use std::sync::ledger::Ledger;
-use walks::{Few, ParentOf, Steps};
+use walks::{ParentOf, Steps, vertex_above};
 
 /// The vertices on the walk up from a vertex.
 #[derive(Drop)]
@@ -34,21 +34,6 @@ pub(crate) fn enter(set: &mut VertexMap<bool>, vertex: &Vertex) -> Result<(), No
 {
     set.insert(vertex, true)?;
     Ok(())
-}
-
-// The source of the one live parent edge, if there is exactly one. It ticks at most three times.
-fn vertex_above<P: ParentOf, L: Ledger>(
-    vertex: &Vertex,
-    parents: &P,
-    steps: &mut Steps<L>,
-) -> Option<Vertex>
-    ensures above { result ≡ above (P.live parents.now) vertex.now }
-    ensures ticks { steps.new ≤ steps.old + 3 }
-{
-    match parents.few(vertex, steps) {
-        Few::One(edge) => Some(edge.source),
-        Few::Zero | Few::More(_, _) => None,
-    }
 }
 
 /// The walk up from a vertex. The vertices that it passed are found by their hash under a seed. It ticks at most three times for each

@@ -1,2 +1,2 @@
 -- Marked nodes whose numbers are of a table of types.
-pub use Rattle.marking.specs.Numbers.{IsMarkedNodeOf, AreMarkedNodesOf, AreMarkedListsOf, IsMarkedGroveOf}
+pub use Rattle.marking.specs.Numbers.{IsMarkedNodeOf, AreMarkedNodesOf}

@@ -1,2 +1,2 @@
 -- What the nodes of marked trees stand for, over a table of types.
-pub use Rattle.marking.specs.Reading.{meant, meant_nodes, meant_grove, bare_nodes}
+pub use Rattle.marking.specs.Reading.{meant, meant_nodes, bare_nodes}

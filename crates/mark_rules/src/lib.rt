@@ -2,14 +2,12 @@
 //! its mark, and with each type its type. What tests marks and prints them stands on this crate.
 #![tactic(auto)]
 
-mod erasing;
 mod marking_trees;
 mod no_memory;
 mod open_frames;
 mod taking;
 
-pub use erasing::erase;
-pub use marking::{MarkedGrove, MarkedNode, MarkedTree, MarkedTreeList};
-pub use marking_trees::{mark_grove, mark_tree};
+pub use marking::{MarkedNode, MarkedTree};
+pub use marking_trees::mark_tree;
 pub use no_memory::NoMemory;
 pub use open_frames::OpenFrames;

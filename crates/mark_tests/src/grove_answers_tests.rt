@@ -1,12 +1,11 @@
 ghost use Rattle.grove_terms.specs.Sorted.{IsSortedGrove};
 
 use ctx_table::CtxTable;
-use grove_printer::print_grove;
 use grove_terms::{Grove, TreeList};
-use mark_rules::mark_grove;
 use std::alloc::Global;
 use std::test::Fail;
 use type_core::TypeTable;
+use whole_groves::{mark_grove, print_grove};
 
 fn print_marked(
     alloc: Global,

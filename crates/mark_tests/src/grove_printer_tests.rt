@@ -1,7 +1,8 @@
 ghost use Rattle.std.specs.Prelude.{List, IfOk};
 ghost use Rattle.type_core.specs.Typ.{Typ};
 ghost use Rattle.graph_table.specs.Table.{IsIndex, IsNumber};
-ghost use Rattle.marking.specs.Numbers.{IsAddedOf, AreMarkedNodesOf, IsMarkedGroveOf};
+ghost use Rattle.marking.specs.Numbers.{IsAddedOf, AreMarkedNodesOf};
+ghost use Rattle.whole_groves.specs.Marked.{IsMarkedGroveOf};
 
 use edit_table::EditTable;
 use graph_table::GraphTable;
@@ -11,11 +12,12 @@ use grove_printer::*;
 use grove_sorts::{Ctor, Position, Sort};
 use grove_terms::{LentEdge, LentNode, Node, Role};
 use mark_step::{Mark, Mode};
-use marking::{Added, MarkedGrove, MarkedTree, MarkedTreeList};
+use marking::{Added, MarkedTree};
 use seeded_hash::HashSeed;
 use std::alloc::Global;
 use std::test::Fail;
 use type_core::TypeTable;
+use whole_groves::{MarkedGrove, MarkedTreeList, print_grove, print_marked_lines};
 
 fn vertex(author: u32, counter: u64, ctor: Ctor) -> Vertex {
     Vertex {

@@ -1,5 +1,5 @@
 ghost use Rattle.std.specs.Prelude.{◌≡◌, ◌<◌, IfOk};
-ghost use Rattle.graph_store.specs.Store.{state_in};
+ghost use Rattle.walks.specs.States.{state_in};
 ghost use Rattle.mark_incremental.specs.Raising.{AreIndexed};
 ghost use Rattle.mark_incremental.specs.Standing.{StandFor};
 ghost use Rattle.mark_incremental.specs.Applying.{CanTakeBack};

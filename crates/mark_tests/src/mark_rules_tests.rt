@@ -7,12 +7,12 @@ use grove_edits::Vertex;
 use grove_names::Name;
 use grove_sorts::{Ctor, Position, Sort};
 use grove_terms::{Grove, LentNode, Node, Tree, TreeList};
-use mark_rules::{erase, mark_grove};
 use mark_step::{Mark, Mode};
-use marking::{Added, MarkedGrove, MarkedNode, MarkedTree, MarkedTreeList};
+use marking::{Added, MarkedNode, MarkedTree};
 use std::alloc::Global;
 use std::test::Fail;
 use type_core::TypeTable;
+use whole_groves::{MarkedGrove, MarkedTreeList, erase, mark_grove};
 
 // The tree of a node that synthesises the unknown type.
 fn tree_of_unknown<'n, 't>(

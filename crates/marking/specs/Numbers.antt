@@ -5,7 +5,6 @@ use Rattle.type_core.specs.TypeTable.{IsTypeOf}
 use Rattle.mark_step.specs.Node.{IsModeOf}
 use Rattle.marking.specs.declared.added.Added.{Added}
 use Rattle.marking.specs.declared.marked_node.MarkedNode.{MarkedNode}
-use Rattle.marking.specs.declared.marked_grove.MarkedGrove.{MarkedGrove}
 
 pub record IsMarkedNodeOf (types : List Typ) (m : MarkedNode) : Type 0 where
   pub mode : IfSome m.mode (IsModeOf types)
@@ -22,12 +21,3 @@ pub record IsAddedOf (types : List Typ) (a : Added) : Type 0 where
 abbrev pub AreAddedOf : List Typ → List Added → Type 0
 AreAddedOf types [] = Unit {0}
 AreAddedOf types (a ∷ added) = IsAddedOf types a × AreAddedOf types added
-
-abbrev pub AreMarkedListsOf : List Typ → List (List MarkedNode) → Type 0
-AreMarkedListsOf types [] = Unit {0}
-AreMarkedListsOf types (t ∷ ts) = AreMarkedNodesOf types t × AreMarkedListsOf types ts
-
-pub record IsMarkedGroveOf (types : List Typ) (grove : MarkedGrove) : Type 0 where
-  pub none : AreMarkedListsOf types grove.none
-  pub multi : AreMarkedListsOf types grove.multi
-  pub cycle : AreMarkedListsOf types grove.cycle

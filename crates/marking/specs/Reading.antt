@@ -7,9 +7,7 @@ use Rattle.grove_terms.specs.declared.node.Node.{Node}
 use Rattle.grove_terms.specs.Lent.{node_of}
 use Rattle.mark_step.specs.Node.{wanted_at}
 use Rattle.marking.specs.Marking.{MarkedNode as MeantNode}
-use Rattle.marking.specs.Grove.{MarkedTrees}
 use Rattle.marking.specs.declared.marked_node.MarkedNode.{MarkedNode}
-use Rattle.marking.specs.declared.marked_grove.MarkedGrove.{MarkedGrove}
 
 -- the node that a node by number stands for
 abbrev pub meant : List Typ → MarkedNode → MeantNode
@@ -22,13 +20,6 @@ meant types m = record {
 
 abbrev pub meant_nodes : List Typ → List MarkedNode → List MeantNode
 meant_nodes types ms = map (meant types) ms
-
-abbrev pub meant_grove : List Typ → MarkedGrove → MarkedTrees
-meant_grove types grove = record {
-  none = map (meant_nodes types) grove.none;
-  multi = map (meant_nodes types) grove.multi;
-  cycle = map (meant_nodes types) grove.cycle;
-}
 
 -- the nodes without what marking added
 abbrev pub bare_nodes : List MarkedNode → List Node

@@ -4,10 +4,8 @@
 
 mod added;
 mod laws;
-mod marked_grove;
 mod marked_node;
 mod marked_tree;
-mod marked_tree_list;
 mod no_memory;
 
 pub use added::Added;
@@ -15,8 +13,6 @@ pub use laws::{
     each_expression_has_one_type, each_tree_has_one_marking, every_grove_has_one_marking,
     functions_mark_by_the_rows, marking_erases, trees_are_marked_as_by_hand,
 };
-pub use marked_grove::MarkedGrove;
 pub use marked_node::MarkedNode;
 pub use marked_tree::MarkedTree;
-pub use marked_tree_list::MarkedTreeList;
 pub use no_memory::NoMemory;

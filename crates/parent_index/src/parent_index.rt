@@ -2,7 +2,7 @@ ghost use Rattle.std.specs.Prelude.{◌≡◌, ◌+◌, ◌<◌, ◌≤◌, [], 
 ghost use Rattle.grove_edits.specs.declared.vertex.Vertex.{Vertex};
 ghost use Rattle.walks.specs.Live.{IsInEdgeOrder, parents_of, holds_edge};
 ghost use Rattle.grove_edits.specs.Vertex.{is_same_vertex};
-ghost use Rattle.edge_index.specs.Ordered.{with_edge, without_edge};
+ghost use Rattle.walks.specs.Ordered.{with_edge, without_edge};
 ghost use Rattle.edge_index.specs.Lists.{live};
 ghost use Rattle.parent_index.specs.Target.{room_at_vertex};
 

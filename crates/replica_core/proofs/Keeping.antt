@@ -1,5 +1,5 @@
 -- What is seen of the entries of a kept graph and opening edges.
-use Rattle.std.proofs.Common.{◌≡◌, ◌≤◌, ℕ, Bool, true, false, cond, List, [], length, map, is_none, refl, sym, ap, subst, ◌∙◌, arith}
+use Rattle.std.proofs.Common.{◌≡◌, Bool, true, false, cond, List, [], length, map, is_none, refl, sym, ap, subst, ◌∙◌, arith}
 use Rattle.std.specs.Prelude.{Result, Ok, Err, OnOk, OnErr}
 use Rattle.edge_lattice.specs.declared.state.State.TheVariants.{Absent}
 use Rattle.edge_lattice.specs.State.{state_join}
@@ -7,11 +7,11 @@ use Rattle.grove_edits.specs.declared.edge.Edge.{Edge}
 use Rattle.grove_edits.specs.declared.edit.Edit.{Edit}
 use Rattle.grove_edits.specs.Edge.{edge_fault}
 use Rattle.grove_edits.specs.Edit.{edit_edge}
-use Rattle.grove_edits.specs.Graph.{Graph, graph, graph_join, IsSame, Ascends, IsCanonical}
+use Rattle.grove_edits.specs.Graph.{graph, graph_join, IsSame, Ascends, IsCanonical}
 use Rattle.grove_edits.proofs.Graphs.{unnamed}
 use Rattle.grove_edits.proofs.Unique.{canonical_once}
 use Rattle.walks.specs.Live.{IsInEdgeOrder, holds_edge}
-use Rattle.graph_store.specs.Store.{Entries, state_in, well_formed}
+use Rattle.walks.specs.States.{Entries, state_in, well_formed}
 use Rattle.live_graph.specs.NumberOf.{KeepsNumbersOf}
 use Rattle.user_actions.specs.Flags.{opening_edges, present_flags}
 use Rattle.user_actions.proofs.FlaggedEdges.{opening_stays, no_fewer, length-present_flags, opening_present}

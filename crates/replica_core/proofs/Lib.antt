@@ -4,10 +4,7 @@ pub mod StoredLists
 pub mod ListsOf
 pub mod PlansTold
 pub mod Contents
-pub mod MarkingCosts
-pub mod OneRecord
 pub mod News
 pub mod Numbers
 pub mod Keeping
 pub mod Showing
-pub mod MarksSeen

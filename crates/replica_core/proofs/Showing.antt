@@ -7,7 +7,7 @@ use Rattle.grove_edits.specs.declared.answer.Answer.{Answer}
 use Rattle.grove_edits.specs.Graph.{Graph, graph}
 use Rattle.walks.specs.Live.{holds_edge}
 use Rattle.walks.specs.Whole.{AreLive}
-use Rattle.graph_store.specs.Store.{Entries, state_in}
+use Rattle.walks.specs.States.{Entries, state_in}
 use Rattle.user_actions.specs.Good.{AreWellFormed, AreOpening}
 use Rattle.user_actions.specs.Plan.{IsPlan}
 use Rattle.user_actions.proofs.OnePlan.{plan_along}

@@ -18,8 +18,8 @@ use Rattle.grove_edits.specs.Graph.{Graph, graph, graph_join, state_of, is_same_
 use Rattle.grove_edits.proofs.Graphs.{asked}
 use Rattle.grove_edits.proofs.Orders.{edge_cmp_exact}
 use Rattle.walks.specs.Live.{IsInEdgeOrder}
-use Rattle.edge_index.specs.Ordered.{put_before, with_edge}
-use Rattle.edge_index.proofs.Ordered.{in_order-with_edge}
+use Rattle.walks.specs.Ordered.{put_before, with_edge}
+use Rattle.walks.proofs.Ordered.{in_order-with_edge}
 use Rattle.user_actions.proofs.Openings.{edges_in_order}
 use Rattle.replica_core.specs.Canonical.{unless_deletion, greater, with_edit, with_edits}
 

@@ -6,8 +6,6 @@ pub mod Lists
 pub mod Step
 pub mod Cost
 pub mod Calls
-pub mod MarkingCost
 pub mod Shown
 pub mod Taking
 pub mod Kept
-pub mod MarksKept

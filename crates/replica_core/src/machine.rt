@@ -1,4 +1,3 @@
-use crate::marked::MarkedReplica;
 use crate::planning::due;
 use crate::replica::Replica;
 use grove_edits::{Actor, Answer, Command, EditList};
@@ -24,37 +23,6 @@ impl Machine for Replica {
     ghost reply = { λ content actor command. step.reply content actor command };
 
     ghost cost = { λ content actor command. edits_cost content (step.effect content actor command) };
-
-    fn step<L: Ledger>(
-        &mut self,
-        alloc: Global,
-        actor: Actor,
-        command: &Command,
-        steps: &mut Steps<L>,
-    ) -> Result<(EditList, Answer), shared_replica::NoMemory> {
-        let (edits, answer) = due(alloc, &self.view(), actor, command)?;
-        self.apply_all(alloc, &edits, steps)?;
-        Ok((edits, answer))
-    }
-}
-
-impl Machine for MarkedReplica {
-    type Command = Command;
-
-    type Effect = EditList;
-
-    type Reply = Answer;
-
-    ghost use Rattle.replica_core.specs.Step as step;
-    ghost use Rattle.replica_core.specs.MarkingCost.{edits_marking_cost};
-
-    ghost after = { λ content actor command. step.after content actor command };
-
-    ghost effect = { λ content actor command. step.effect content actor command };
-
-    ghost reply = { λ content actor command. step.reply content actor command };
-
-    ghost cost = { λ content actor command. edits_marking_cost content (step.effect content actor command) };
 
     fn step<L: Ledger>(
         &mut self,

@@ -32,20 +32,8 @@ impl From<grove_edits::NoMemory> for NoMemory {
     }
 }
 
-impl From<graph_store::NoMemory> for NoMemory {
-    fn from(_error: graph_store::NoMemory) -> NoMemory {
-        NoMemory
-    }
-}
-
 impl From<live_graph::NoMemory> for NoMemory {
     fn from(_error: live_graph::NoMemory) -> NoMemory {
-        NoMemory
-    }
-}
-
-impl From<mark_incremental::NoMemory> for NoMemory {
-    fn from(_error: mark_incremental::NoMemory) -> NoMemory {
         NoMemory
     }
 }

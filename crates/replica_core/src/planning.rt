@@ -12,7 +12,7 @@ use std::alloc::Global;
 use user_actions::{Plan, PlanFault, PlanView, plan};
 
 /// The edits of an author's action and what is answered, before any of them is taken. An action that is refused has no edits.
-pub(crate) fn planned<V: PlanView>(
+pub fn planned<V: PlanView>(
     alloc: Global,
     view: &V,
     author: u32,
@@ -35,7 +35,7 @@ pub(crate) fn planned<V: PlanView>(
 }
 
 /// The edits of a step and what is answered, before any of them is taken.
-pub(crate) fn due<V: PlanView>(
+pub fn due<V: PlanView>(
     alloc: Global,
     view: &V,
     actor: Actor,

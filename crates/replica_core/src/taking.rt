@@ -1,14 +1,15 @@
 ghost use Rattle.std.specs.Prelude.{◌≡◌, OnOk, OnErr, IfOk};
-ghost use Rattle.grove_edits.specs.Graph.{graph, graph_join, state_of, IsSame};
-ghost use Rattle.edge_numbers.specs.Numbered.{state_in};
+ghost use Rattle.grove_edits.specs.Graph.{graph, graph_join, IsSame};
+ghost use Rattle.walks.specs.States.{state_in};
 ghost use Rattle.live_graph.specs.NumberOf.{KeepsNumbersOf};
 ghost use Rattle.replica_core.specs.Taking.{AreNumbered, edits_of};
 
 use crate::no_memory::NoMemory;
-use edge_lattice::{State, leq};
-use grove_edits::{Edit, EditKind};
+use edge_lattice::leq;
+use grove_edits::Edit;
 use live_graph::LiveGraph;
 use std::alloc::Global;
+use walks::asked_by;
 
 /// An edit that asks more of its edge than the graph has, with the number of the edge.
 #[derive(Clone, Copy)]
@@ -57,15 +58,5 @@ fn raise_all(kept: &mut LiveGraph, news: &[News<'_>])
 {
     for one in news {
         kept.raise_at(one.number, one.edit.kind());
-    }
-}
-
-// What an edit asks its edge to be at least.
-fn asked_by(kind: EditKind) -> State
-    ensures { result ≡ state_of kind }
-{
-    match kind {
-        EditKind::Insert => State::Live,
-        EditKind::Delete => State::Deleted,
     }
 }

@@ -10,7 +10,7 @@ use seeded_hash::HashSeed;
 use std::alloc::Global;
 
 /// Appends the print text of the graph of a canonical list.
-pub(crate) fn append_print_text(
+pub fn append_print_text(
     alloc: Global,
     edits: EditList,
     seed: HashSeed,

@@ -15,8 +15,8 @@ use Rattle.grove_edits.specs.Graph.{Graph, graph, graph_join, is_same_edge, IsSa
 use Rattle.grove_edits.proofs.Orders.{one_edge}
 use Rattle.walks.specs.Live.{holds_edge}
 use Rattle.walks.specs.Whole.{AreLive}
-use Rattle.edge_index.specs.Ordered.{with_edge}
-use Rattle.edge_index.proofs.Ordered.{holds-with_edge, in_order-with_edge}
+use Rattle.walks.specs.Ordered.{with_edge}
+use Rattle.walks.proofs.Ordered.{holds-with_edge, in_order-with_edge}
 use Rattle.grove_terms.proofs.InLive.{same_edge_itself}
 use Rattle.user_actions.specs.Good.{AreWellFormed}
 use Rattle.user_actions.specs.PlainEdits.{PlainEdit, plain}

@@ -5,7 +5,7 @@ use grove_edits::{Action, Actor, Answer, Bytes, Command, EditList, Place};
 use grove_names::Name;
 use grove_sorts::{Ctor, Position, Version};
 use mark_step::Mark;
-use replica_core::*;
+use marked_replica::*;
 use shared_replica::Machine;
 use std::alloc::Global;
 use std::marker::Brand;

@@ -9,6 +9,7 @@ use graphs::{
 use grove_edits::{ActFault, Action, Answer, Edge, Edit, EditList, Place, Vertex};
 use grove_sorts::{Ctor, Position, Sort};
 use std::test::Fail;
+use store_actions::OpeningSet;
 use user_actions::*;
 
 #[test]

@@ -77,8 +77,8 @@ impl From<grove_printer::NoMemory> for Fault {
     }
 }
 
-impl From<replica_core::NoMemory> for Fault {
-    fn from(_error: replica_core::NoMemory) -> Fault {
+impl From<marked_replica::NoMemory> for Fault {
+    fn from(_error: marked_replica::NoMemory) -> Fault {
         Fault::NoMemory
     }
 }

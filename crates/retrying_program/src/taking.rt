@@ -4,7 +4,7 @@ ghost use Rattle.replica_core.specs.Content.{no_edits, with_taken};
 use crate::fault::Fault;
 use crate::state::{state_text, vertices_of};
 use grove_edits::{Edit, Vertex};
-use replica_core::MarkedReplica;
+use marked_replica::MarkedReplica;
 use std::alloc::Global;
 use std::marker::Brand;
 use std::sync::ledger::{Blank, Ledger};

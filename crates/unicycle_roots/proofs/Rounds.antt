@@ -5,18 +5,18 @@ use Rattle.std.proofs.lemmas.Bool.{leb-true, leb-false}
 use Rattle.std.specs.declared.cmp.Ordering.{Ordering}
 use Rattle.std.specs.declared.cmp.Ordering.TheVariants.{Less, Equal, Greater}
 use Rattle.std.specs.Ordering.{is_gt}
-use Rattle.grove_sorts.proofs.Truths.{both_true}
 use Rattle.grove_edits.specs.declared.vertex.Vertex.{Vertex}
 use Rattle.grove_edits.specs.declared.edge.Edge.{Edge}
 use Rattle.grove_edits.specs.Vertex.{vertex_cmp, is_same_vertex}
 use Rattle.grove_edits.proofs.Orders.{vertex_cmp_exact}
-use Rattle.walks.specs.Walk.{above, above_last, walk}
-use Rattle.walks.specs.Class.{is_vertex_of, is_least, is_cycle_root}
+use Rattle.walks.specs.Walk.{above, walk}
+use Rattle.walks.specs.Class.{is_cycle_root}
 use Rattle.grove_edits.proofs.Vertices.{vertex_cmp_itself, same_vertex_itself, same_vertex_exact}
-use Rattle.walks.proofs.Up.{up, up-along, up_none_along, walk_len, walk_some, walk_apart, walk_back, walk_last, walk_least}
+use Rattle.walks.proofs.Up.{up, up-along, up_none_along, walk_len, walk_some, walk_apart, walk_back, walk_least}
 use Rattle.walks.proofs.Returns.{AllGreater, some_same, walk_len_pos, not_itself, up_from, root_from_back}
 use Rattle.unicycle_roots.specs.declared.step_up.StepUp.TheVariants.{ToGreater, Back, ToNoCycle}
 use Rattle.unicycle_roots.specs.StepUp.{found, found_by}
+use Rattle.walks.proofs.Roots.{root_back, root_least}
 
 -- the tortoise has gone k steps and the hare twice as many, and they have not met
 pub record IsRound (edges : List Edge) (v hare tortoise : Vertex) (k : ℕ) : Type 0 where
@@ -29,17 +29,6 @@ pub record IsRound (edges : List Edge) (v hare tortoise : Vertex) (k : ℕ) : Ty
 
 false_from : (b : Bool) → (b ≡ true → ⊥) → b ≡ false
 false_from b refuted = elim b as (λ x. b ≡ x → x ≡ false) [ true ↦ λ is. absurd (refuted is) | false ↦ λ _. refl ] refl
-
-pub vertex_of_some : (v : Vertex) (o : Option Vertex) → is_vertex_of v o ≡ true → o ≡ Some v
-vertex_of_some v None h = absurd cc
-vertex_of_some v (Some x) h = ap Some (same_vertex_exact x v h)
-
-pub root_back : (edges : List Edge) (v : Vertex) → is_cycle_root edges v ≡ true → up edges (walk_len edges v) (Some v) ≡ Some v
-root_back edges v is =
-    sym (walk_last edges v) ∙ vertex_of_some v (above_last edges (walk edges v)) (both_true (is_vertex_of v (above_last edges (walk edges v))) (is_least v (walk edges v)) is).0
-
-pub root_least : (edges : List Edge) (v : Vertex) → is_cycle_root edges v ≡ true → is_least v (walk edges v) ≡ true
-root_least edges v is = (both_true (is_vertex_of v (above_last edges (walk edges v))) (is_least v (walk edges v)) is).1
 
 -- the walk of a cycle's root is longer than the steps up that led to greater vertices alone
 root_beyond : (edges : List Edge) (v : Vertex) (n : ℕ) → is_cycle_root edges v ≡ true → AllGreater edges v n → walk_len edges v ≤ n → ⊥

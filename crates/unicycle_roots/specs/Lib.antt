@@ -1,2 +1,1 @@
 pub mod StepUp
-pub mod Met

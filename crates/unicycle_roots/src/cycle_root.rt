@@ -2,10 +2,10 @@ ghost use Rattle.std.specs.Prelude.{◌≡◌, ◌+◌, ◌*◌, ◌≤◌, leng
 ghost use Rattle.walks.specs.Walk.{walk};
 ghost use Rattle.walks.specs.Class.{is_cycle_root};
 
-use crate::step_up::{StepUp, step_up, vertex_above};
+use crate::step_up::{StepUp, step_up};
 use grove_edits::{Vertex, is_same_vertex};
 use std::sync::ledger::Ledger;
-use walks::{ParentOf, Steps};
+use walks::{ParentOf, Steps, vertex_above};
 
 /// Whether the walk up comes back to the vertex, which is the least on it. The hare goes two steps while the tortoise goes one,
 /// so they meet where the walk enters a cycle that the vertex is not on.

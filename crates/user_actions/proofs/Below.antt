@@ -30,7 +30,7 @@ use Rattle.grove_edits.specs.declared.action.Action.TheVariants.{Wrap, Become}
 use Rattle.grove_edits.specs.declared.answer.Answer.TheVariants.{Made}
 use Rattle.walks.specs.Live.{IsInEdgeOrder, holds_edge, children_of}
 use Rattle.walks.specs.Whole.{AreLive, IsVertexOf}
-use Rattle.edge_index.proofs.Ordered.{holds-filter}
+use Rattle.walks.proofs.Ordered.{holds-filter}
 use Rattle.grove_terms.proofs.OneGrove.{one_live}
 use Rattle.user_actions.specs.Lists.{GraphLists, AreListsOf}
 use Rattle.user_actions.specs.Names.{new_name, greatest_counter}

@@ -14,8 +14,8 @@ use Rattle.walks.specs.declared.class.Class.{Class}
 use Rattle.walks.specs.declared.class.Class.TheVariants.{NoParent, Multi, Cycle, Inner}
 use Rattle.walks.specs.Whole.{AreLive}
 use Rattle.grove_edits.proofs.Vertices.{same_vertex_itself}
-use Rattle.edge_index.proofs.Ordered.{holds-filter, in_order-filter, same_lists}
-use Rattle.unicycle_roots.proofs.Cycles.{class_is_cycle}
+use Rattle.walks.proofs.Ordered.{holds-filter, in_order-filter, same_lists}
+use Rattle.walks.proofs.Cycles.{class_is_cycle}
 use Rattle.grove_terms.proofs.OneGrove.{one_live}
 use Rattle.grove_edits.specs.declared.action.Action.{Action}
 use Rattle.grove_edits.specs.declared.action.Action.TheVariants.{Construct, Wrap, Become, Delete, Cut, Relocate, Restore}

@@ -9,10 +9,10 @@ use Rattle.grove_edits.specs.declared.edge.Edge.{Edge}
 use Rattle.grove_edits.specs.Graph.{is_same_edge}
 use Rattle.grove_edits.proofs.Orders.{one_edge}
 use Rattle.walks.specs.Live.{IsInEdgeOrder, holds_edge}
-use Rattle.edge_lists.specs.Ordered.{with_edge}
-use Rattle.edge_lists.proofs.Ordered.{holds-with_edge, in_order-with_edge}
-use Rattle.edge_numbers.specs.Numbered.{Entries, edges_of, state_in, no_edge}
-use Rattle.live_graph.specs.Named.{is_present}
+use Rattle.walks.specs.Ordered.{with_edge}
+use Rattle.walks.proofs.Ordered.{holds-with_edge, in_order-with_edge}
+use Rattle.edge_numbers.specs.Numbered.{edges_of, no_edge}
+use Rattle.walks.specs.States.{Entries, state_in, is_present}
 use Rattle.live_graph.specs.NumberOf.{IsNumberOf, KeepsNumbersOf}
 use Rattle.grove_terms.proofs.InLive.{same_edge_itself}
 use Rattle.user_actions.specs.Flags.{flagged, opening_edges, present_flags}

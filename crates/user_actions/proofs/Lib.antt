@@ -20,7 +20,6 @@ pub mod GoodEdits
 pub mod SomePlan
 pub mod WalkLengths
 pub mod Openings
-pub mod NamedLists
 pub mod FirstPassing
 pub mod NumberedEdits
 pub mod Telling

@@ -19,7 +19,7 @@ use Rattle.grove_edits.specs.Vertex.{is_same_vertex}
 use Rattle.grove_sorts.specs.Position.{is_same_position}
 use Rattle.grove_edits.proofs.Vertices.{same_vertex_exact}
 use Rattle.walks.specs.Whole.{AreLive}
-use Rattle.edge_index.proofs.Ordered.{holds-filter, in_order-filter, same_lists}
+use Rattle.walks.proofs.Ordered.{holds-filter, in_order-filter, same_lists}
 use Rattle.grove_edits.specs.declared.act_fault.ActFault.{ActFault}
 use Rattle.user_actions.specs.Faults.{first_some, other_sort, carried, else_edges}
 use Rattle.user_actions.specs.Good.{AreWellFormed, AreOpening}

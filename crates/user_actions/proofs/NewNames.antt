@@ -11,7 +11,7 @@ use Rattle.grove_edits.proofs.Orders.{one_edge}
 use Rattle.walks.specs.Live.{holds_edge}
 use Rattle.grove_edits.specs.Vertex.{is_same_vertex, stands_in}
 use Rattle.grove_edits.proofs.Vertices.{same_vertex_exact}
-use Rattle.graph_store.specs.Greatest.{IsNameOf}
+use Rattle.walks.specs.Names.{IsNameOf}
 use Rattle.user_actions.specs.Lists.{GraphLists, AreListsOf}
 use Rattle.user_actions.specs.Names.{counter_by, greatest_in, names_of, greatest_counter, new_name}
 

@@ -8,7 +8,7 @@ use Rattle.grove_edits.specs.Graph.{Graph, IsSame}
 use Rattle.grove_edits.proofs.Unique.{edit_from_fields}
 use Rattle.walks.specs.Live.{IsInEdgeOrder, holds_edge}
 use Rattle.walks.specs.Whole.{IsVertexOf}
-use Rattle.edge_index.proofs.Ordered.{same_lists}
+use Rattle.walks.proofs.Ordered.{same_lists}
 use Rattle.grove_terms.proofs.OneGrove.{one_live, one_vertices}
 use Rattle.grove_edits.specs.declared.action.Action.{Action}
 use Rattle.grove_edits.specs.declared.action.Action.TheVariants.{Construct, Wrap, Become, Delete, Cut, Relocate, Restore}

@@ -9,7 +9,7 @@ use Rattle.grove_edits.specs.declared.edge.Edge.{Edge}
 use Rattle.walks.specs.Live.{children_of}
 use Rattle.walks.specs.Whole.{AreLive}
 use Rattle.grove_edits.specs.Graph.{Graph}
-use Rattle.graph_store.specs.Greatest.{IsGreatest, IsNameOf}
+use Rattle.walks.specs.Names.{IsGreatest, IsNameOf}
 use Rattle.grove_terms.proofs.OneGrove.{one_live}
 use Rattle.grove_edits.specs.declared.action.Place.{Place}
 use Rattle.grove_edits.specs.declared.action.Action.{Action}

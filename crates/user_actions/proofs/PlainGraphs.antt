@@ -18,7 +18,7 @@ use Rattle.grove_edits.specs.Vertex.{is_same_vertex}
 use Rattle.grove_sorts.specs.Position.{is_same_position}
 use Rattle.walks.specs.Whole.{AreLive}
 use Rattle.grove_terms.proofs.InLive.{same_edge_itself}
-use Rattle.edge_index.proofs.Ordered.{holds-filter, in_order-filter, same_lists}
+use Rattle.walks.proofs.Ordered.{holds-filter, in_order-filter, same_lists}
 use Rattle.user_actions.specs.PlainEdits.{PlainEdit, plain}
 use Rattle.grove_sorts.proofs.Truths.{both_true, or_left}
 use Rattle.user_actions.proofs.Truths.{and_true, same_tests}

@@ -8,8 +8,8 @@ use Rattle.walks.specs.Walk.{above, walk}
 use Rattle.walks.specs.Class.{is_cycle_root}
 use Rattle.grove_edits.proofs.Vertices.{same_vertex_exact}
 use Rattle.walks.proofs.Up.{up, next_above, walk_len, walk_least}
-use Rattle.unicycle_roots.proofs.Rounds.{root_back, root_least}
-use Rattle.unicycle_roots.proofs.Cycles.{Reaches, ComesBack, leads_from_reaches, returns, never_none, back_from_return, root_from_least, within_walk, leads_back, up_through}
+use Rattle.walks.proofs.Roots.{root_back, root_least}
+use Rattle.walks.proofs.Cycles.{Reaches, ComesBack, leads_from_reaches, returns, never_none, back_from_return, root_from_least, within_walk, leads_back, up_through}
 
 -- after a change, each vertex but t has the vertex above that it had, and only p can be above t
 pub record IsMoved (before after : List Edge) (t p : Vertex) : Type 0 where

@@ -12,10 +12,9 @@ use Rattle.grove_edits.specs.Edit.{edit_edge, edit_kind}
 use Rattle.grove_edits.specs.Graph.{Graph, graph, state_of, is_same_edge}
 use Rattle.grove_edits.proofs.Orders.{one_edge}
 use Rattle.walks.specs.Live.{holds_edge}
-use Rattle.graph_store.specs.Named.{is_present}
-use Rattle.graph_store.specs.Store.{Entries, state_in}
-use Rattle.edge_index.specs.ByKey.{with_edges}
-use Rattle.edge_index.proofs.Ordered.{holds-with_edges, holds-filter, in_order-with_edges, in_order-filter}
+use Rattle.walks.specs.States.{is_present, Entries, state_in}
+use Rattle.walks.specs.Ordered.{with_edges}
+use Rattle.walks.proofs.Ordered.{holds-with_edges, holds-filter, in_order-with_edges, in_order-filter}
 use Rattle.grove_terms.proofs.InLive.{same_edge_itself}
 use Rattle.grove_terms.proofs.OneGrove.{ends_of, vertices_from}
 use Rattle.user_actions.specs.Lists.{GraphLists, AreListsOf}

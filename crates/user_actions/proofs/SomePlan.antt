@@ -13,7 +13,7 @@ use Rattle.grove_edits.specs.declared.action.Action.{Action}
 use Rattle.grove_edits.specs.declared.act_fault.ActFault.{ActFault}
 use Rattle.grove_edits.specs.declared.answer.Answer.{Answer}
 use Rattle.grove_edits.specs.declared.answer.Answer.TheVariants.{Refused}
-use Rattle.graph_store.specs.Store.{well_formed}
+use Rattle.walks.specs.States.{well_formed}
 use Rattle.user_actions.specs.Lists.{GraphLists, AreListsOf, ArePresent}
 use Rattle.user_actions.specs.Faults.{first_fault}
 use Rattle.user_actions.specs.Plan.{edits_of, answer_of, IsPlan, IsMade}

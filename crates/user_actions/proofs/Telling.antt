@@ -10,14 +10,13 @@ use Rattle.std.proofs.lemmas.Cmp.{tied_itself}
 use Rattle.grove_names.specs.declared.name.Name.{Name}
 use Rattle.grove_edits.specs.declared.vertex.Vertex.{Vertex}
 use Rattle.grove_edits.specs.declared.edge.Edge.{Edge}
-use Rattle.grove_edits.specs.Vertex.{vertex_cmp}
+use Rattle.grove_edits.specs.Vertex.{vertex_cmp, is_same_vertex, stands_in}
 use Rattle.grove_edits.specs.Graph.{Graph}
 use Rattle.grove_edits.proofs.Orders.{vertex_cmp_total}
 use Rattle.walks.specs.Live.{holds_edge}
-use Rattle.grove_edits.specs.Vertex.{is_same_vertex, stands_in}
 use Rattle.walks.specs.Whole.{IsInVertexOrder}
 use Rattle.grove_edits.proofs.Vertices.{same_vertex_exact, same_vertex_itself}
-use Rattle.graph_store.specs.Greatest.{IsGreatest, IsNameOf, name_by}
+use Rattle.walks.specs.Names.{IsGreatest, IsNameOf, name_by}
 use Rattle.grove_edits.specs.declared.act_fault.ActFault.{ActFault}
 use Rattle.grove_edits.specs.declared.act_fault.ActFault.TheVariants.{NoVertex, AmbiguousVertex, NoPosition, WrongSort, Occupied, Empty, CannotWrap, NoEdge, AmbiguousEdge, IntoItself, NotLoose, NamesSpent}
 use Rattle.grove_edits.specs.declared.action.Action.{Action}

@@ -10,8 +10,8 @@ use Rattle.walks.specs.Walk.{above, GoesOn, walk}
 use Rattle.grove_edits.proofs.Vertices.{same_vertex_exact, same_vertex_itself}
 use Rattle.walks.proofs.Endings.{AllStandIn, AreApart, length-AllStandIn, target_list, target-from_above, walk_is}
 use Rattle.walks.proofs.Up.{up, walk_len, up_none_along}
-use Rattle.unicycle_roots.specs.Met.{leads_to}
-use Rattle.unicycle_roots.proofs.Cycles.{Reaches, reaches_from_leads, leads_from_reaches, within_walk}
+use Rattle.walks.specs.Cycle.{leads_to}
+use Rattle.walks.proofs.Cycles.{Reaches, reaches_from_leads, leads_from_reaches, within_walk}
 use Rattle.user_actions.proofs.Truths.{false_from}
 use Rattle.grove_sorts.proofs.Truths.{or_left, or_right}
 

@@ -11,8 +11,7 @@ use Rattle.grove_edits.specs.declared.edit.Edit.{Edit}
 use Rattle.grove_edits.specs.Vertex.{is_same_vertex}
 use Rattle.grove_edits.specs.Edit.{edit_edge}
 use Rattle.grove_edits.specs.Graph.{Graph, graph, graph_join, is_same_edge}
-use Rattle.walks.specs.Live.{children_of}
-use Rattle.child_index.specs.Origin.{is_from}
+use Rattle.walks.specs.Live.{children_of, is_from}
 use Rattle.grove_edits.specs.declared.action.Action.{Action}
 use Rattle.grove_edits.specs.declared.action.Action.TheVariants.{Construct, Wrap, Become, Delete, Cut, Relocate, Restore}
 use Rattle.grove_edits.specs.declared.answer.Answer.{Answer}

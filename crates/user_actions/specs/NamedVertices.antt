@@ -2,8 +2,8 @@
 use Rattle.std.specs.Prelude.{◌≡◌, ◌⊎◌}
 use Rattle.grove_names.specs.declared.name.Name.{Name}
 use Rattle.grove_edits.specs.declared.vertex.Vertex.{Vertex}
-use Rattle.graph_store.specs.declared.vertices.Named.TheVariants.{Zero, One, More}
-use Rattle.graph_store.specs.Vertices.{AreLeastTwo}
+use Rattle.walks.specs.declared.named.Named.TheVariants.{Zero, One, More}
+use Rattle.walks.specs.Named.{AreLeastTwo}
 use Rattle.grove_edits.specs.Graph.{Graph}
 use Rattle.walks.specs.Whole.{IsVertexOf}
 use Rattle.grove_edits.specs.declared.act_fault.ActFault.{ActFault}

@@ -10,13 +10,11 @@ mod live_view;
 mod new_names;
 mod no_memory;
 mod opening_flags;
-mod opening_set;
 mod place;
 mod plan_view;
 mod planned;
 mod planning;
 mod vertices;
-mod view;
 mod walk_up;
 
 pub use laws::{
@@ -28,8 +26,6 @@ pub use laws::{
 pub use live_view::LiveView;
 pub use no_memory::NoMemory;
 pub use opening_flags::OpeningFlags;
-pub use opening_set::OpeningSet;
 pub use plan_view::PlanView;
 pub use planned::{Plan, PlanFault};
 pub use planning::plan;
-pub use view::View;

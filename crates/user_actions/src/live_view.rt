@@ -6,15 +6,14 @@ use crate::no_memory::NoMemory;
 use crate::opening_flags::OpeningFlags;
 use crate::plan_view::PlanView;
 use edge_lattice::State;
-use graph_store::Named;
 use grove_edits::{Edge, Vertex};
 use grove_names::Name;
 use grove_sorts::Position;
-use live_graph::{Edges, LiveGraph, Named as Found};
+use live_graph::{Edges, LiveGraph};
 use std::alloc::Global;
 use std::marker::Brand;
 use std::sync::ledger::{Blank, Ledger};
-use walks::{Few, ParentOf, Steps};
+use walks::{Few, Named, ParentOf, Steps};
 
 /// What a plan reads of a live graph: the graph, and which of its edges were not Absent as the block opened.
 #[derive(Clone, Copy)]
@@ -74,7 +73,7 @@ impl<'a> ParentOf for LiveView<'a> {
 }
 
 impl<'a> PlanView for LiveView<'a> {
-    ghost use Rattle.edge_numbers.specs.Numbered.{state_in};
+    ghost use Rattle.walks.specs.States.{state_in};
     ghost use Rattle.live_graph.specs.Live.{live as live_edges};
     ghost use Rattle.user_actions.specs.Flags.{opening_edges};
 
@@ -93,11 +92,7 @@ impl<'a> PlanView for LiveView<'a> {
     }
 
     fn vertices_named(&self, name: Name) -> Named {
-        match self.graph.vertices_named(name) {
-            Found::Zero => Named::Zero,
-            Found::One(vertex) => Named::One(vertex),
-            Found::More(first, second) => Named::More(first, second),
-        }
+        self.graph.vertices_named(name)
     }
 
     fn greatest(&self, author: u32) -> u64 {

@@ -1,6 +1,5 @@
 ghost use Rattle.std.specs.Prelude.{◌≡◌, IfOk};
-ghost use Rattle.edge_numbers.specs.Numbered.{state_in};
-ghost use Rattle.live_graph.specs.Named.{is_present as is_present_state};
+ghost use Rattle.walks.specs.States.{state_in, is_present as is_present_state};
 ghost use Rattle.walks.specs.Live.{holds_edge};
 ghost use Rattle.user_actions.specs.Flags.{opening_edges, present_flags};
 ghost use Rattle.user_actions.specs.Lists.{ArePresent};

@@ -1,10 +1,9 @@
 ghost use Rattle.std.specs.Prelude.{◌≡◌, ◌<◌, [], ◌∷◌, Some, None, IfOk, OnOk, is_none, option_map, slice_get, filter, not, if◌then◌else◌};
-ghost use Rattle.grove_edits.specs.Edge.{is_sort};
 ghost use Rattle.grove_sorts.specs.Ctor.{first_position, sort_of_ctor};
 ghost use Rattle.grove_edits.specs.declared.edge.Edge.{Edge};
 ghost use Rattle.walks.specs.Live.{children_of, parents_of};
 ghost use Rattle.walks.specs.Few.{first_two};
-ghost use Rattle.unicycle_roots.specs.Met.{leads_to};
+ghost use Rattle.walks.specs.Cycle.{leads_to};
 ghost use Rattle.user_actions.specs.Faults.{other_sort, only_target, two_edges, none_named, below_itself, first_some};
 ghost use Rattle.user_actions.specs.Names.{is_same_name};
 ghost use Rattle.user_actions.specs.Place.{sort_at_place};

@@ -1,24 +1,10 @@
 ghost use Rattle.std.specs.Prelude.{◌≡◌, ◌<◌};
 ghost use Rattle.walks.specs.Walk.{above};
-ghost use Rattle.unicycle_roots.specs.Met.{leads_to};
+ghost use Rattle.walks.specs.Cycle.{leads_to};
 
 use grove_edits::{Vertex, is_same_vertex};
 use std::sync::ledger::Ledger;
-use walks::{Few, ParentOf, Steps};
-
-/// The source of the one live parent edge, if there is exactly one.
-fn vertex_above<P: ParentOf, L: Ledger>(
-    vertex: &Vertex,
-    parents: &P,
-    steps: &mut Steps<L>,
-) -> Option<Vertex>
-    ensures { result ≡ above (P.live parents.now) vertex.now }
-{
-    match parents.few(vertex, steps) {
-        Few::One(edge) => Some(edge.source),
-        Few::Zero | Few::More(_, _) => None,
-    }
-}
+use walks::{ParentOf, Steps, vertex_above};
 
 /// Whether a vertex stands on the walk up from another. The walk has at most one vertex without a live parent edge that it goes
 /// on from, so a longer one goes round.

@@ -3,3 +3,10 @@ pub mod Up
 pub mod Returns
 pub mod Tops
 pub mod Chains
+pub mod Roots
+pub mod Cycles
+pub mod Around
+pub mod Unmet
+pub mod Meetings
+pub mod Found
+pub mod Ordered

@@ -3,3 +3,10 @@ pub mod Whole
 pub mod Few
 pub mod Walk
 pub mod Class
+pub mod Ordered
+pub mod States
+pub mod Change
+pub mod Named
+pub mod Names
+pub mod Cycle
+pub mod Met

@@ -31,3 +31,7 @@ children_of v p edges = filter (λ e. is_same_vertex e.source v && is_same_posit
 abbrev pub targets_of : List Edge → List Vertex
 targets_of [] = []
 targets_of (e ∷ es) = if stands_in e.target (targets_of es) then targets_of es else (e.target ∷ targets_of es)
+
+-- the edge leads from the position of the vertex
+abbrev pub is_from : Edge → Vertex → Position → Bool
+is_from e v p = is_same_vertex e.source v && is_same_position e.position p

@@ -4,9 +4,8 @@ ghost use Rattle.edge_lattice.specs.declared.state.State.TheVariants.{Absent};
 ghost use Rattle.grove_edits.specs.declared.edge.Edge.{Edge};
 ghost use Rattle.walks.specs.Whole.{AreLive};
 ghost use Rattle.edge_index.specs.Lists.{live};
-ghost use Rattle.edge_numbers.specs.Numbered.{state_in as live_state_in};
+ghost use Rattle.walks.specs.States.{state_in, well_formed};
 ghost use Rattle.live_graph.specs.NumberOf.{KeepsNumbersOf};
-ghost use Rattle.graph_store.specs.Store.{state_in, well_formed};
 ghost use Rattle.user_actions.specs.Flags.{opening_edges, present_flags};
 ghost use Rattle.user_actions.specs.Good.{AreWellFormed, AreOpening};
 ghost use Rattle.user_actions.specs.Lists.{ArePresent};
@@ -21,6 +20,7 @@ use live_graph::LiveGraph;
 use parent_index::ParentIndex;
 use std::alloc::Global;
 use std::test::Fail;
+use store_actions::{OpeningSet, View};
 use user_actions::*;
 
 pub(super) fn name(author: u32, counter: u64) -> Name {
@@ -105,12 +105,15 @@ pub(super) fn insert_each(
 }
 
 // The opening set of a graph. Where there was no memory it is made again.
-pub(super) fn opening_set(alloc: Global, store: &GraphStore) -> Result<OpeningSet, NoMemory>
+pub(super) fn opening_set(
+    alloc: Global,
+    store: &GraphStore,
+) -> Result<OpeningSet, store_actions::NoMemory>
     ensures opening { IfOk result (λ set. ArePresent (well_formed (state_in store.now)) set) }
 {
     match OpeningSet::of(alloc, store) {
         Ok(set) => Ok(set),
-        Err(NoMemory) => OpeningSet::of(alloc, store),
+        Err(store_actions::NoMemory) => OpeningSet::of(alloc, store),
     }
 }
 
@@ -217,9 +220,9 @@ pub(super) fn sum() -> [Edge; 2] {
 
 // Takes edits one after the other.
 pub(super) fn raise_each(graph: &mut LiveGraph, edits: &[Edit]) -> Result<(), Fail>
-    requires well_formed { AreWellFormed (live_state_in graph.old) }
-    ensures well_formed { OnOk result (AreWellFormed (live_state_in graph.new)) }
-    ensures known { OnOk result ((e : Edge) → live_state_in graph.old e ≢ Absent → live_state_in graph.new e ≢ Absent) }
+    requires well_formed { AreWellFormed (state_in graph.old) }
+    ensures well_formed { OnOk result (AreWellFormed (state_in graph.new)) }
+    ensures known { OnOk result ((e : Edge) → state_in graph.old e ≢ Absent → state_in graph.new e ≢ Absent) }
     ensures numbers_stay { OnOk result (KeepsNumbersOf graph.old graph.new) }
 {
     for edit in edits {
@@ -232,7 +235,7 @@ pub(super) fn raise_each(graph: &mut LiveGraph, edits: &[Edit]) -> Result<(), Fa
 // Which edges of a graph are open. Where there was no memory it is told again.
 pub(super) fn opening_flags(alloc: Global, graph: &LiveGraph) -> Result<OpeningFlags, NoMemory>
     ensures flags { IfOk result (λ flags. flags ≡ present_flags graph.now) }
-    ensures opening { IfOk result (λ flags. ArePresent (live_state_in graph.now) (opening_edges graph.now flags)) }
+    ensures opening { IfOk result (λ flags. ArePresent (state_in graph.now) (opening_edges graph.now flags)) }
 {
     match OpeningFlags::of(alloc, graph) {
         Ok(flags) => Ok(flags),

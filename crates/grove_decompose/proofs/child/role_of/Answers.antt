@@ -9,14 +9,14 @@ use Rattle.grove_decompose.proofs.child.role_of.Goals as goal
 
 pub returns-then-is_shared : goal.returns-then-is_shared
 returns-then-is_shared g c =
-    let live = g.G.LiveGraph.live c.args.graph.now in
+    let live = g.G.TreeSource.live c.args.graph.now in
     let edge = edge_of c.args.edge.now in
     let shared : is_shared edge.target live ≡ true = sym (c.is_shared.ensures ∙ ap (λ v. is_shared v live) c.requires.target) ∙ c.if-is_shared.true in
     what_of_shared live edge.target shared
 
 pub returns-then-is_same_lent : goal.returns-then-is_same_lent
 returns-then-is_same_lent g c =
-    let live = g.G.LiveGraph.live c.args.graph.now in
+    let live = g.G.TreeSource.live c.args.graph.now in
     let edge = edge_of c.args.edge.now in
     let alone : is_shared edge.target live ≡ false = sym (c.is_shared.ensures ∙ ap (λ v. is_shared v live) c.requires.target) ∙ c.if-is_shared.false in
     let same = sym c.target.ensures ∙ same_vertex_exact (lent_vertex c.target.result) (lent_vertex c.args.root.now) (sym c.is_same_lent.ensures ∙ c.if-is_same_lent.true) in
@@ -24,7 +24,7 @@ returns-then-is_same_lent g c =
 
 pub returns-else-is_same_lent : goal.returns-else-is_same_lent
 returns-else-is_same_lent g c =
-    let live = g.G.LiveGraph.live c.args.graph.now in
+    let live = g.G.TreeSource.live c.args.graph.now in
     let edge = edge_of c.args.edge.now in
     let alone : is_shared edge.target live ≡ false = sym (c.is_shared.ensures ∙ ap (λ v. is_shared v live) c.requires.target) ∙ c.if-is_shared.false in
     let other : is_same_vertex edge.target (lent_vertex c.args.root.now) ≡ false = ap (λ v. is_same_vertex v (lent_vertex c.args.root.now)) (sym c.target.ensures) ∙ sym c.is_same_lent.ensures ∙ c.if-is_same_lent.false in

@@ -7,9 +7,9 @@ use Rattle.grove_decompose.proofs.descent.tree_of.Given as goal
 
 abbrev pub invariant-loop-task : goal.invariant-loop-task
 invariant-loop-task g l = record {
-  listing : IsListingBy (g.G.LiveGraph.vertex_at l.graph) (g.G.LiveGraph.edge_at l.graph) (g.G.LiveGraph.IsSpot l.graph) (g.G.LiveGraph.IsLink l.graph) (g.G.LiveGraph.live l.graph) (lent_vertex l.fn.root) l.tree l.room.tasks.items;
-  noted : g.G.LiveGraph.AreInner l.graph l.notes;
+  listing : IsListingBy (g.G.TreeSource.vertex_at l.graph) (g.G.TreeSource.edge_at l.graph) (g.G.TreeSource.IsSpot l.graph) (g.G.TreeSource.IsLink l.graph) (g.G.TreeSource.live l.graph) (lent_vertex l.fn.root) l.tree l.room.tasks.items;
+  noted : g.G.TreeSource.AreInner l.graph l.notes;
 }
 
 abbrev pub decreases-loop-task : goal.decreases-loop-task
-decreases-loop-task g l = weight (g.G.LiveGraph.live l.graph) (map (task_at (g.G.LiveGraph.vertex_at l.graph) (g.G.LiveGraph.edge_at l.graph)) l.room.tasks.items)
+decreases-loop-task g l = weight (g.G.TreeSource.live l.graph) (map (task_at (g.G.TreeSource.vertex_at l.graph) (g.G.TreeSource.edge_at l.graph)) l.room.tasks.items)

@@ -1,5 +1,6 @@
 use Rattle.std.proofs.Common.{◌<◌, ◌^◌, length, refl, sym, ap, subst, ◌∙◌}
-use Rattle.edge_numbers.specs.Numbered.{Entries, with_entry}
+use Rattle.edge_numbers.specs.Numbered.{with_entry}
+use Rattle.walks.specs.States.{Entries}
 use Rattle.edge_numbers.proofs.Entered.{on_err_always}
 use Rattle.live_graph.proofs.Listed.{same_begins, listed-vertices, listed-entered}
 use Rattle.live_graph.proofs.Counts.{uses_vertices, names_vertices, uses_entered}

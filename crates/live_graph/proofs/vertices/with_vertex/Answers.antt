@@ -1,5 +1,5 @@
 use Rattle.std.proofs.Common.{◌≡◌, true, subst}
-use Rattle.live_graph.specs.Vertices.{AreLeastTwo}
+use Rattle.walks.specs.Named.{AreLeastTwo}
 use Rattle.live_graph.proofs.LeastTwo.{after_none}
 use Rattle.live_graph.proofs.vertices.with_vertex.Goals as goal
 

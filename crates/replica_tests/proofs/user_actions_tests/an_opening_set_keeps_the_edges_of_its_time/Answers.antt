@@ -1,6 +1,6 @@
 use Rattle.std.proofs.Common.{sym, subst, arith}
 use Rattle.grove_edits.specs.Edit.{edit_edge}
-use Rattle.graph_store.specs.Store.{HasRoom}
+use Rattle.walks.specs.States.{HasRoom}
 use Rattle.replica_tests.proofs.user_actions_tests.an_opening_set_keeps_the_edges_of_its_time.Goals as goal
 
 pub raise-requires-2 : goal.raise-requires-2

@@ -1,6 +1,6 @@
 use Rattle.std.proofs.Common.{◌+◌, ◌*◌, ◌≤◌, length}
-use Rattle.unicycle_roots.specs.Met.{unmet}
-use Rattle.unicycle_roots.proofs.Found.{AreFound}
+use Rattle.walks.specs.Met.{unmet}
+use Rattle.walks.proofs.Found.{AreFound}
 use Rattle.unicycle_roots.proofs.roots.roots_above.Given as goal
 
 abbrev pub invariant-loop-number : goal.invariant-loop-number

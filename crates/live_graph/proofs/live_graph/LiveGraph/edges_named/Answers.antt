@@ -1,6 +1,6 @@
 use Rattle.std.proofs.Common.{ap, subst, ◌∙◌}
 use Rattle.std.specs.List.{list_any}
-use Rattle.edge_numbers.specs.Numbered.{Entries, state_in}
+use Rattle.walks.specs.States.{Entries, state_in}
 use Rattle.live_graph.specs.ByName.{is_named_edge}
 use Rattle.live_graph.specs.NamedEdges.{AreNamed}
 use Rattle.live_graph.proofs.Names.{named_edges}

@@ -1,5 +1,5 @@
 use Rattle.std.proofs.Common.{◌≡◌, sym, ap, subst, ◌∙◌}
-use Rattle.edge_numbers.specs.Numbered.{Entries, state_in}
+use Rattle.walks.specs.States.{Entries, state_in}
 use Rattle.live_graph.specs.NumberOf.{IsNumberOf}
 use Rattle.live_graph.proofs.Names.{state_there}
 use Rattle.live_graph.proofs.live_graph.LiveGraph.state_at.Goals as goal

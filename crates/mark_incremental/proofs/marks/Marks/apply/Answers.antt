@@ -1,21 +1,18 @@
 -- The graph is joined with the edit, or is as before, and the marks stand for it.
-use Rattle.std.proofs.Common.{◌≡◌, ◌≤◌, ◌<◌, [], ◌∷◌, None, refl, sym, ap, subst, ◌∙◌, arith}
+use Rattle.std.proofs.Common.{[], ◌∷◌, None, refl, subst, ◌∙◌, arith}
 use Rattle.grove_edits.specs.Edit.{edit_edge, edit_kind}
 use Rattle.grove_edits.specs.Graph.{graph, graph_join, IsSame}
-use Rattle.graph_store.specs.declared.change.Change.TheVariants.{Same}
-use Rattle.graph_store.specs.Store.{state_in}
-use Rattle.edge_index.specs.Lists.{live}
-use Rattle.child_index.specs.Origin.{room_at_origin}
-use Rattle.parent_index.specs.Target.{room_at_vertex}
+use Rattle.walks.specs.declared.change.Change.TheVariants.{Same}
+use Rattle.walks.specs.States.{state_in}
 use Rattle.mark_incremental.specs.Raising.{LeavesRoom, MovesRoom, brought_by, taken_by}
 use Rattle.std.specs.Prelude.{IfSome}
 use Rattle.mark_incremental.specs.declared.applying.Applied.{Applied}
 use Rattle.mark_incremental.specs.Standing.{StandFor}
-use Rattle.mark_incremental.specs.Applying.{HaveGrown, WasApplied, IsApplied, IsBack}
+use Rattle.mark_incremental.specs.Applying.{WasApplied, IsApplied, IsBack}
 use Rattle.mark_incremental.proofs.Room.{leaves_room, leaves_more}
 use Rattle.mark_incremental.proofs.Stack.{if_ok_so}
 use Rattle.mark_incremental.proofs.Outcomes.{on_err_always}
-use Rattle.mark_incremental.proofs.Edited.{grown_stands, nothing_grown, indexed_still}
+use Rattle.mark_incremental.proofs.Edited.{grown_stands, nothing_grown}
 use Rattle.mark_incremental.proofs.Idle.{joined_same, nothing_applied}
 use Rattle.mark_incremental.proofs.ApartFrom.{none_holds}
 use Rattle.mark_incremental.proofs.AppliedOver.{if_ok_on, on_err_so, either_way, grown_then, joined_over, applied_over, size_over, room_over, room_over_targets}

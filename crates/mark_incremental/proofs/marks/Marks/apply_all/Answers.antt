@@ -1,11 +1,10 @@
 -- All edits are applied, or those before the one for which there was no memory are taken back.
-use Rattle.std.proofs.Common.{◌≡◌, ◌+◌, length, sym, ap, subst, ◌∙◌, arith}
+use Rattle.std.proofs.Common.{sym, ◌∙◌, arith}
 use Rattle.std.specs.Prelude.{reverse}
 use Rattle.edge_lattice.specs.declared.state.State.TheVariants.{Absent}
 use Rattle.edge_lattice.proofs.States.{state_join_comm, Absent-state_join}
-use Rattle.grove_edits.specs.Edit.{edit_edge, edit_kind}
-use Rattle.graph_store.specs.Store.{state_in}
-use Rattle.mark_incremental.specs.Receipts.{held, IsAsBefore, HaveLed}
+use Rattle.walks.specs.States.{state_in}
+use Rattle.mark_incremental.specs.Receipts.{held}
 use Rattle.mark_incremental.proofs.Receipts.{none_led, last_led, have_led_on, as_failed, store_room, marks_room}
 use Rattle.mark_incremental.proofs.AllApplied.{nothing_spent, joined_more, joined_all, spent_more, spent_within}
 use Rattle.mark_incremental.proofs.Edited.{grown_stands}

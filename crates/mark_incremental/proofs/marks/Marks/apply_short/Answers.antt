@@ -1,14 +1,13 @@
 -- The marks stood for the graph before the edit, and do so again where it is put back.
-use Rattle.std.proofs.Common.{◌∷◌, [], ◌*◌, refl, sym, subst, arith}
+use Rattle.std.proofs.Common.{◌*◌, sym, subst, arith}
 use Rattle.std.specs.Prelude.{IsTrue}
 use Rattle.grove_edits.specs.Edit.{edit_edge, edit_kind}
-use Rattle.graph_store.specs.Store.{state_in}
+use Rattle.walks.specs.States.{state_in}
 use Rattle.edge_index.specs.Lists.{live}
 use Rattle.mark_incremental.specs.Raising.{brought_by, taken_by}
 use Rattle.mark_incremental.specs.Looking.{AreRoots}
 use Rattle.mark_incremental.specs.ShortWalks.{IsApart}
 use Rattle.mark_incremental.specs.Standing.{KeptMarks}
-use Rattle.mark_incremental.specs.Applying.{IsBack}
 use Rattle.mark_incremental.proofs.Room.{moved_back}
 use Rattle.mark_incremental.proofs.SizeBound.{size_at, source_within}
 use Rattle.mark_incremental.proofs.ApartFrom.{stood_before, rooted_in, way_before, few_short}

@@ -1,11 +1,9 @@
 -- The marks stand for the graph with the edit, or all is as before.
-use Rattle.std.proofs.Common.{◌∷◌, [], refl, sym, ap, subst, ◌∙◌, arith}
-use Rattle.grove_edits.specs.declared.edge.Edge.{Edge}
+use Rattle.std.proofs.Common.{refl, arith}
 use Rattle.grove_edits.specs.Edit.{edit_edge, edit_kind}
-use Rattle.graph_store.specs.Store.{state_in}
+use Rattle.walks.specs.States.{state_in}
 use Rattle.edge_index.specs.Lists.{live}
-use Rattle.mark_incremental.specs.Raising.{brought_by, taken_by, MovesRoom}
-use Rattle.mark_incremental.specs.Applying.{IsBack}
+use Rattle.mark_incremental.specs.Raising.{brought_by, taken_by}
 use Rattle.mark_incremental.proofs.Room.{moved_back}
 use Rattle.mark_incremental.proofs.SizeBound.{size_at, before_within}
 use Rattle.mark_incremental.proofs.Outcomes.{on_err_always}

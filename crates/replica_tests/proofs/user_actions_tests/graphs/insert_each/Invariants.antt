@@ -3,7 +3,7 @@ use Rattle.edge_lattice.specs.declared.state.State.TheVariants.{Absent}
 use Rattle.grove_edits.specs.declared.edge.Edge.{Edge}
 use Rattle.walks.specs.Whole.{AreLive}
 use Rattle.edge_index.specs.Lists.{live}
-use Rattle.graph_store.specs.Store.{state_in}
+use Rattle.walks.specs.States.{state_in}
 use Rattle.user_actions.specs.Good.{AreWellFormed}
 use Rattle.replica_tests.proofs.user_actions_tests.graphs.insert_each.Given as goal
 

@@ -1,4 +1,4 @@
-use Rattle.graph_store.specs.Store.{state_in}
+use Rattle.walks.specs.States.{state_in}
 use Rattle.user_actions.proofs.SomePlan.{opening_of}
 use Rattle.replica_tests.proofs.user_actions_tests.graphs.planned_in_block.Goals as goal
 

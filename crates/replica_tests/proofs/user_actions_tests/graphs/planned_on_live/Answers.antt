@@ -1,6 +1,4 @@
-use Rattle.std.proofs.Common.{◌≡◌, ◌≤◌, length, ap, arith}
-use Rattle.edge_numbers.specs.Numbered.{state_in}
-use Rattle.user_actions.specs.Flags.{present_flags}
+use Rattle.std.proofs.Common.{◌≤◌, length, ap, arith}
 use Rattle.user_actions.proofs.FlaggedEdges.{length-present_flags, still_opening}
 use Rattle.replica_tests.proofs.user_actions_tests.graphs.planned_on_live.Goals as goal
 

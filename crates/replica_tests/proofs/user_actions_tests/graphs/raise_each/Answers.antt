@@ -1,6 +1,4 @@
-use Rattle.std.proofs.Common.{sym, subst}
-use Rattle.grove_edits.specs.declared.edge.Edge.{Edge}
-use Rattle.edge_numbers.specs.Numbered.{state_in, HasRoom}
+use Rattle.walks.specs.States.{state_in}
 use Rattle.replica_tests.proofs.Raised.{raised_well, raised_known}
 use Rattle.replica_tests.proofs.user_actions_tests.graphs.raise_each.Goals as goal
 

@@ -1,7 +1,7 @@
 use Rattle.std.proofs.Common.{◌≢◌}
 use Rattle.edge_lattice.specs.declared.state.State.TheVariants.{Absent}
 use Rattle.grove_edits.specs.declared.edge.Edge.{Edge}
-use Rattle.edge_numbers.specs.Numbered.{state_in}
+use Rattle.walks.specs.States.{state_in}
 use Rattle.live_graph.specs.NumberOf.{KeepsNumbersOf}
 use Rattle.user_actions.specs.Good.{AreWellFormed}
 use Rattle.replica_tests.proofs.user_actions_tests.graphs.raise_each.Given as goal

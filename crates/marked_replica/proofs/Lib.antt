@@ -1,0 +1,3 @@
+pub mod MarkingCosts
+pub mod OneRecord
+pub mod MarksSeen

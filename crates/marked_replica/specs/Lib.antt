@@ -1,0 +1,2 @@
+pub mod MarkingCost
+pub mod MarksKept

@@ -1,0 +1,11 @@
+//! What a plan reads of a graph that is kept in a store with its indexes, and the edges that such a graph opened a block with. Replicas that
+//! keep marks stand on this crate.
+#![tactic(auto)]
+
+mod no_memory;
+mod opening_set;
+mod view;
+
+pub use no_memory::NoMemory;
+pub use opening_set::OpeningSet;
+pub use view::View;
