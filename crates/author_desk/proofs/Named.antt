@@ -18,11 +18,7 @@ use Rattle.grove_edits.specs.Edge.{edge_cmp}
 use Rattle.grove_edits.specs.Edit.{edit_edge}
 use Rattle.grove_edits.specs.Graph.{Ascends}
 use Rattle.author_desk.specs.Lines.{has_name, is_before, is_up_to, slots_from}
-
-less_from_test : (o : Ordering) → is_lt o ≡ true → o ≡ Less
-less_from_test Less is = refl
-less_from_test Equal is = absurd cc
-less_from_test Greater is = absurd cc
+use Rattle.grove_sorts.proofs.Truths.{less_from_test}
 
 le_from_then : (o p : Ordering) → ordering_then o p ≡ Less → is_le o ≡ true
 le_from_then Less p lt = refl

@@ -10,7 +10,7 @@ use Rattle.std.specs.Ordering.{is_eq, ordering_reverse}
 use Rattle.std.specs.Cmp.{IsTotalOrder}
 use Rattle.std.proofs.Math.Dec.{eqb-suc-zero}
 use Rattle.std.proofs.lemmas.Cmp.{tied_itself}
-use Rattle.grove_sorts.proofs.Truths.{or_swap}
+use Rattle.grove_sorts.proofs.Truths.{or_swap, or_again, or_true, neither}
 use Rattle.smallvec.specs.SmallVec.{SmallVec, small_vec_len}
 use Rattle.grove_sorts.proofs.Orders.{equal_from_test}
 use Rattle.grove_edits.specs.declared.edge.Edge.{Edge}
@@ -24,21 +24,9 @@ use Rattle.edge_index.specs.ByKey.{ListsByKey, edges_of, edges_at, all_edges, Is
 use Rattle.walks.proofs.Ordered.{holds-with_edge, holds-filter, in_order-with_edge, in_order-filter, same_lists}
 use Rattle.edge_index.proofs.Lookups.{edges_at-with_key, in_order-all_edges}
 
-or-true : (b : Bool) → (b || true) ≡ true
-or-true true = refl
-or-true false = refl
-
-neither : (a b : Bool) → (a || b) ≡ false → (a ≡ false) × (b ≡ false)
-neither true b h = absurd cc
-neither false b h = (refl, h)
-
 pub from_bool-le : (b : Bool) → from_bool b ≤ 1
 from_bool-le true = omega arith
 from_bool-le false = omega arith
-
-or_again : (a b : Bool) → (a || b) ≡ (a || (a || b))
-or_again true b = refl
-or_again false b = refl
 
 -- ---- an edge taken out of a list and put back
 
@@ -122,7 +110,7 @@ module _ {K : Type 0} (cmp : K → K → Ordering) (o : IsTotalOrder cmp) where
   AllStand-from ys [] each = tt
   AllStand-from ys (x ∷ xs) each = (
     each x (ap (λ b. b || stands_among cmp x xs) (ap is_eq (tied_itself o x))),
-    AllStand-from ys xs (λ k there. each k (ap (λ b. is_eq (cmp x k) || b) there ∙ or-true (is_eq (cmp x k)))),
+    AllStand-from ys xs (λ k there. each k (ap (λ b. is_eq (cmp x k) || b) there ∙ or_true (is_eq (cmp x k)))),
   )
 
   length-same : (xs ys : List K) → AreApart xs → AreApart ys → ((k : K) → stands_among cmp k xs ≡ stands_among cmp k ys) → length xs ≡ length ys
@@ -138,7 +126,7 @@ module _ {K : Type 0} (cmp : K → K → Ordering) (o : IsTotalOrder cmp) where
       elim (is_eq (cmp k entry.0)) as (λ b. is_eq (cmp k entry.0) ≡ b → not (length (edges_of (cond b (Some entry.1) (lookup (is_at (cmp k)) lists))) == 0) ≡ true
       → (is_eq (cmp entry.0 k) || stands_among cmp k (keys_of lists)) ≡ true) [
         | true ↦ λ tie _. ap (λ b. b || stands_among cmp k (keys_of lists)) (other_way entry.0 k ∙ tie)
-        | false ↦ λ _ rest. ap (λ b. is_eq (cmp entry.0 k) || b) (found_stands lists k rest) ∙ or-true (is_eq (cmp entry.0 k))
+        | false ↦ λ _ rest. ap (λ b. is_eq (cmp entry.0 k) || b) (found_stands lists k rest) ∙ or_true (is_eq (cmp entry.0 k))
       ] refl some
 
   length-keys_of : (lists : ListsByKey K) → length (keys_of lists) ≡ length lists

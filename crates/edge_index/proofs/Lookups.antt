@@ -23,17 +23,11 @@ use Rattle.edge_index.proofs.Ties.{IsPut}
 use Rattle.grove_edits.proofs.Orders.{one_edge}
 use Rattle.walks.proofs.Ordered.{holds-with_edge, holds-with_edges, holds-filter, in_order-with_edge, in_order-with_edges, in_order-filter, same_lists}
 use Rattle.grove_sorts.proofs.Orders.{equal_from_test}
+use Rattle.grove_sorts.proofs.Truths.{false_from, or_false}
 
 pub in_order-all_edges : {K : Type 0} (lists : ListsByKey K) → IsInEdgeOrder (all_edges lists)
 in_order-all_edges [] = tt
 in_order-all_edges (entry ∷ lists) = in_order-with_edges entry.1.items (all_edges lists) (in_order-all_edges lists)
-
-or-false : (b : Bool) → (b || false) ≡ b
-or-false true = refl
-or-false false = refl
-
-false_from : (b : Bool) → (b ≡ true → ⊥) → b ≡ false
-false_from b refuted = elim b as (λ x. b ≡ x → x ≡ false) [ true ↦ λ is. absurd (refuted is) | false ↦ λ _. refl ] refl
 
 module _ {K : Type 0} (cmp : K → K → Ordering) (o : IsTotalOrder cmp) where
   -- keys that tie find the same
@@ -84,7 +78,7 @@ module _ {K : Type 0} (cmp : K → K → Ordering) (o : IsTotalOrder cmp) where
         ∙ ap (λ b. holds_edge e entry.1.items || b) (holds-all_edges lists (tail_by_key entry lists by_key) e)
         ∙ elim (is_eq (cmp (key e) entry.0)) as (λ b. is_eq (cmp (key e) entry.0) ≡ b → (holds_edge e entry.1.items || holds_edge e (edges_at cmp lists (key e))) ≡ holds_edge e (edges_of (cond b (Some entry.1) (lookup (is_at (cmp (key e))) lists)))) [
           | true ↦ λ tie.
-              ap (λ xs. holds_edge e entry.1.items || holds_edge e xs) (none_in_tail entry lists (key e) by_key.apart tie) ∙ or-false (holds_edge e entry.1.items)
+              ap (λ xs. holds_edge e entry.1.items || holds_edge e xs) (none_in_tail entry lists (key e) by_key.apart tie) ∙ or_false (holds_edge e entry.1.items)
           | false ↦ λ apart.
               let here : edges_at cmp (entry ∷ lists) entry.0 ≡ entry.1.items = ap (λ r. edges_of (cond (is_eq r) (Some entry.1) (lookup (is_at (cmp entry.0)) lists))) (tied_itself o entry.0) in
               let not_here : holds_edge e entry.1.items ≡ false = false_from (holds_edge e entry.1.items) (λ held.
@@ -204,7 +198,7 @@ module _ {K : Type 0} (cmp : K → K → Ordering) (o : IsTotalOrder cmp) where
       order = λ xs order. in_order-with_edge a xs order;
       elsewhere = λ e b apart. ap (λ s. s || b) (false_from (is_same_edge a e) (λ same. not_elsewhere a e same apart));
       here = λ e comes.
-          let same : is_same_edge a e ≡ true = sym (or-false (is_same_edge a e)) ∙ comes in
+          let same : is_same_edge a e ≡ true = sym (or_false (is_same_edge a e)) ∙ comes in
           let one = one_edge a e same in
           ap (λ z. is_eq (cmp (key z) (key a))) (sym one) ∙ ap is_eq (tied_itself o (key a));
     }

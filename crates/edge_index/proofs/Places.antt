@@ -3,7 +3,6 @@ use Rattle.std.proofs.Common.{◌≡◌, ℕ, zero, suc, ◌+◌, ◌<◌, ◌�
 use Rattle.std.specs.Prelude.{◌||◌, not, insert, remove}
 use Rattle.std.specs.List.{AllByRecursion, prefix_len}
 use Rattle.std.specs.List.Sorted.{IsPartitionedBy}
-use Rattle.std.specs.declared.cmp.Ordering.{Ordering}
 use Rattle.std.specs.declared.cmp.Ordering.TheVariants.{Less, Equal, Greater}
 use Rattle.std.specs.Ordering.{is_lt, ordering_reverse}
 use Rattle.grove_edits.specs.declared.edge.Edge.{Edge}
@@ -14,11 +13,7 @@ use Rattle.walks.specs.Live.{IsInEdgeOrder, holds_edge}
 use Rattle.walks.specs.Ordered.{put_before, with_edge, without_edge}
 use Rattle.edge_index.specs.Places.{place, place_by}
 use Rattle.walks.proofs.Ordered.{not_held_before, without_none, not_same_from_greater, all_after}
-
-less_from_test : (o : Ordering) → is_lt o ≡ true → o ≡ Less
-less_from_test Less is = refl
-less_from_test Equal is = absurd cc
-less_from_test Greater is = absurd cc
+use Rattle.grove_sorts.proofs.Truths.{less_from_test}
 
 after_first : (x : Edge) (xs : List Edge) → AllByRecursion (λ later. edge_cmp x later ≡ Less) xs → (j : ℕ) (d : Edge) → j < length xs → edge_cmp x (get_or xs j d) ≡ Less
 after_first x [] all j d lt = absurd (omega arith)

@@ -17,11 +17,7 @@ use Rattle.edge_lists.specs.Lists.{holds_number, without_number}
 use Rattle.edge_lists.specs.Order.{IsInOrder, with_edge_by, with_number}
 use Rattle.edge_lists.proofs.Prefixes.{Falls}
 use Rattle.edge_lists.proofs.Numbers.{one_more}
-
-pub less_from_test : (o : Ordering) → is_lt o ≡ true → o ≡ Less
-less_from_test Less is = refl
-less_from_test Equal is = absurd cc
-less_from_test Greater is = absurd cc
+use Rattle.grove_sorts.proofs.Truths.{less_from_test}
 
 neither : (a b : Bool) → (a || b) ≡ false → b ≡ false
 neither true b h = absurd cc

@@ -10,10 +10,6 @@ use Rattle.edge_numbers.specs.Narrow.{NarrowEntries, edge_of, numbered}
 use Rattle.edge_numbers.proofs.Narrow.{number_read}
 use Rattle.edge_numbers.proofs.States.{KeepsPlaces, state_entered, room_entered, room_stays, numbers_entered}
 
-pub on_err_always : {T E P : Type 0} (r : Result T E) → P → OnErr r P
-on_err_always (Ok x) p = tt
-on_err_always (Err e) p = p
-
 pub on_err_weaker : {T E P Q : Type 0} (r : Result T E) → (P → Q) → OnErr r P → OnErr r Q
 on_err_weaker (Ok x) f p = tt
 on_err_weaker (Err e) f p = f p

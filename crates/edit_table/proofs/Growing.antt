@@ -1,6 +1,5 @@
 -- A table that grows, whose last edits have no records yet.
 use Rattle.std.proofs.Common.{◌≡◌, ◌++◌, List, map, length, ap, subst, ◌∙◌, arith}
-use Rattle.std.specs.Prelude.{Result, Ok, Err, OnErr}
 use Rattle.grove_sorts.specs.declared.ctor.Ctor.{Ctor}
 use Rattle.grove_edits.specs.declared.edit.Edit.{Edit}
 use Rattle.grove_edits.specs.declared.spelled.SpelledEdit.{SpelledEdit}
@@ -34,7 +33,3 @@ pub canonical_grown : (edits : List Edit) (ctors met : List Ctor) (keys more : L
     → growing_table ctors keys records waiting ≡ t → edits_of (vertices_of met more) pushed ≡ edits_of (vertices_of ctors keys) records ++ map spelled_edit waiting
     → IsCanonical (graph (edits_of (vertices_of met more) pushed)) edits → IsCanonical (graph t.edits) edits
 canonical_grown edits ctors met keys more records pushed waiting t is pushed_is = subst (λ es. IsCanonical (graph es) edits) (pushed_is ∙ ap (λ (s : Table). s.edits) is)
-
-pub on_err : {X E P : Type 0} (r : Result X E) → P → OnErr r P
-on_err (Ok x) p = tt
-on_err (Err e) p = p

@@ -21,6 +21,7 @@ use Rattle.edit_table.specs.declared.record.Record.{Record}
 use Rattle.edit_table.specs.Records.{edge_of, edit_of, edits_of, numbered, record_cmp, AreInOrder, AreOf, HaveSameParts, IsRecord}
 use Rattle.edit_table.proofs.Lists.{all_at, stands_within}
 use Rattle.edit_table.proofs.Made.{made-edge, made-kind}
+use Rattle.grove_sorts.proofs.Truths.{same_tests}
 
 -- ---- one number for each vertex
 
@@ -45,12 +46,6 @@ one_number vs once m n first second same =
 
 -- ---- records of one edge
 
-both_ways : (a b : Bool) → (a ≡ true → b ≡ true) → (b ≡ true → a ≡ true) → a ≡ b
-both_ways true true there back = refl
-both_ways true false there back = sym (there refl)
-both_ways false true there back = back refl
-both_ways false false there back = refl
-
 module _ (vs : List Vertex) (a b : Record) (once : IsDistinct is_same_vertex vs) (a_is : IsRecord vs a) (b_is : IsRecord vs b) where
   parts_give : HaveSameParts a b → is_same_edge (edge_of vs a) (edge_of vs b) ≡ true
   parts_give same =
@@ -67,7 +62,7 @@ module _ (vs : List Vertex) (a b : Record) (once : IsDistinct is_same_vertex vs)
       )
 
   parts_tell : (t : Bool) → (IsTrue t ↔ HaveSameParts a b) → t ≡ is_same_edge (edge_of vs a) (edge_of vs b)
-  parts_tell t told = both_ways t (is_same_edge (edge_of vs a) (edge_of vs b)) (λ is. parts_give (told.0 is)) (λ is. told.1 (edge_gives is))
+  parts_tell t told = same_tests t (is_same_edge (edge_of vs a) (edge_of vs b)) (λ is. parts_give (told.0 is)) (λ is. told.1 (edge_gives is))
 
 pub edit_edge_of : (vs : List Vertex) (r : Record) → IsRecord vs r → edit_edge (edit_of vs r) ≡ edge_of vs r
 edit_edge_of vs r is = made-edge r.kind (edge_of vs r) is.good

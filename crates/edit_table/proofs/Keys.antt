@@ -22,6 +22,7 @@ use Rattle.edit_table.specs.Keys.{branch_key, ctor_at, vertex_of, vertices_of, w
 use Rattle.edit_table.proofs.Lists.{all_pushed, read_at, read_stays, stands_within, within_from, all_at, begins_inserted, still_stands_at}
 use Rattle.edit_table.proofs.Ctors.{branch_stands}
 use Rattle.edit_table.proofs.KeyEq.{key_eq, key_exact, key_itself}
+use Rattle.grove_sorts.proofs.Truths.{same_tests}
 
 -- ---- where more constructors are met, keys stand for the same
 
@@ -61,12 +62,6 @@ module _ (after before : List Ctor) (begins : BeginsWith after before) where
 
 -- ---- one key more
 
-both_ways : (a b : Bool) → (a ≡ true → b ≡ true) → (b ≡ true → a ≡ true) → a ≡ b
-both_ways true true there back = refl
-both_ways true false there back = sym (there refl)
-both_ways false true there back = back refl
-both_ways false false there back = refl
-
 any_is_stands_in : (vs : List Vertex) (v : Vertex) → list_any (is_same_vertex v) vs ≡ stands_in v vs
 any_is_stands_in [] v = refl
 any_is_stands_in (w ∷ vs) v = ap (λ b. b || list_any (is_same_vertex v) vs) (same_vertex_laws.symm v w) ∙ ap (λ b. is_same_vertex w v || b) (any_is_stands_in vs v)
@@ -105,7 +100,7 @@ module _ (ctors : List Ctor) (ctors_are : AreCtors ctors) (key : VertexKey) (v :
       λ j. record { name = name j; ctor = ctor j }
 
   test_is_same : (other : VertexKey) → HasCtor ctors other → key_eq key other ≡ is_same_vertex (vertex_of ctors other) v
-  test_is_same other had = both_ways (key_eq key other) (is_same_vertex (vertex_of ctors other) v)
+  test_is_same other had = same_tests (key_eq key other) (is_same_vertex (vertex_of ctors other) v)
       (λ same. ap (λ k. is_same_vertex (vertex_of ctors k) v) (sym (key_exact key other same)) ∙ ap (λ w. is_same_vertex w v) is ∙ same_vertex_itself v)
       (λ same. ap (key_eq key) (only other had (same_vertex_exact (vertex_of ctors other) v same)) ∙ key_itself key)
 

@@ -1,12 +1,12 @@
 -- The edit of a good edge has that edge, and each edit is that of its kind and edge.
 use Rattle.std.proofs.Common.{◌≡◌, ◌^◌, Bool, true, false, refl, ap, ◌∙◌}
-use Rattle.std.specs.Prelude.{◌&&◌, is_none, nat_lt}
+use Rattle.std.specs.Prelude.{is_none, nat_lt}
 use Rattle.std.proofs.lemmas.Bool.{lt-ltb}
 use Rattle.grove_names.specs.declared.name.Name.{Name}
 use Rattle.grove_sorts.specs.declared.branch.Branch.{Branch}
 use Rattle.grove_sorts.specs.declared.position.Position.{Position}
 use Rattle.grove_sorts.specs.Branch.{branch_of}
-use Rattle.grove_sorts.proofs.Truths.{both_true}
+use Rattle.grove_sorts.proofs.Truths.{both_true, and_true}
 use Rattle.grove_edits.specs.declared.vertex.Vertex.{Vertex}
 use Rattle.grove_edits.specs.declared.edge.Edge.{Edge}
 use Rattle.grove_edits.specs.declared.edit.Edit.{Edit}
@@ -39,10 +39,6 @@ module _ (kind : EditKind) (e : Edge) (good : is_good e ≡ true) where
 
   pub made-kind : edit_kind (made kind e) ≡ kind
   made-kind = both.1
-
-and_true : (a b : Bool) → a ≡ true → b ≡ true → (a && b) ≡ true
-and_true true b one two = two
-and_true false b one two = absurd cc
 
 vertex_in_range : (v : Vertex) → VertexInRange v → lies_in_range v ≡ true
 vertex_in_range v in_range =

@@ -1,5 +1,5 @@
 -- What a change of the code's map makes of the entries of a store.
-use Rattle.std.proofs.Common.{◌≡◌, Bool, true, false, cond, List, [], ◌∷◌, Option, Some, None, Ordering, Less, Equal, Greater, is_eq, is_some, IsSome, unwrap_or, refl, sym, ap, ◌∙◌, inl, inr, ◌⊎◌, BTreeMap}
+use Rattle.std.proofs.Common.{◌≡◌, Bool, true, false, cond, List, [], ◌∷◌, Some, None, Ordering, Less, Equal, Greater, is_eq, is_some, IsSome, unwrap_or, refl, sym, ap, ◌∙◌, inl, inr, ◌⊎◌, BTreeMap}
 use Rattle.std.specs.Cmp.{IsTotalOrder}
 use Rattle.std.specs.List.Sorted.{IsStrictlySortedBy}
 use Rattle.std.specs.Map.{keys_of, lookup, set_value}
@@ -31,10 +31,6 @@ some_same {x = x} h = ap (λ o. unwrap_or o x) h
 
 none_is_some : {X : Type 0} {x : X} → None ≡ Some x → ⊥
 none_is_some h = absurd cc
-
-pub none_from_cases : {X : Type 0} (o : Option X) → ((x : X) → o ≡ Some x → ⊥) → o ≡ None
-none_from_cases None not_some = refl
-none_from_cases (Some x) not_some = absurd (not_some x refl)
 
 put_back_same : {K X : Type 0} {R : K → K → Ordering} (o : IsTotalOrder R) (k : K) (x y : X) (es : List (K × X)) → IsStrictlySortedBy R (keys_of es) → lookup (is_at (R k)) es ≡ Some x
     → set_value (is_at (R k)) (insert_entry R es k y) x ≡ es

@@ -29,6 +29,7 @@ use Rattle.graph_store.specs.Named.{IsNamedFrom}
 use Rattle.walks.specs.States.{is_present, Entries, entry_at}
 use Rattle.graph_store.proofs.Joins.{in_edge_order}
 use Rattle.graph_store.proofs.Leasts.{pick, holds, Fits, AreByName, pick_is_least, least_same, sorted_part, found_part}
+use Rattle.grove_sorts.proofs.Truths.{less_from_test}
 
 -- ---- the least of a name
 
@@ -62,11 +63,6 @@ least_edge_le n e named =
     (le_then (position_cmp Main e.position) (vertex_cmp root e.target) (zero_le (position_number e.position)) (root_le e.target)))
 
 -- ---- where the edges of a name begin
-
-pub less_from_test : (o : Ordering) → is_lt o ≡ true → o ≡ Less
-less_from_test Less h = refl
-less_from_test Equal h = absurd cc
-less_from_test Greater h = absurd cc
 
 pub after_is_excluded : (after e : Edge) → IsTrue (is_lt (edge_cmp after e)) ↔ (edge_cmp after e ≡ Less)
 after_is_excluded after e = (less_from_test (edge_cmp after e), λ lt. ap is_lt lt)

@@ -20,7 +20,8 @@ use Rattle.graph_store.specs.Counts.{count_at, count_of, IsCounted}
 use Rattle.walks.specs.States.{Entries, state_in}
 use Rattle.grove_sorts.proofs.Orders.{equal_from_test}
 use Rattle.graph_store.proofs.Joins.{in_edge_order}
-use Rattle.graph_store.proofs.Names.{root_le, less_from_test}
+use Rattle.graph_store.proofs.Names.{root_le}
+use Rattle.grove_sorts.proofs.Truths.{less_from_test}
 use Rattle.graph_store.proofs.Leasts.{holds, found_later, sorted_part, found_part}
 use Rattle.graph_store.proofs.VertexOrder.{is_counted, in_vertex_order, from_start, count_above, counted_above, both_from_chosen, counted_is_vertex, vertex_is_counted}
 

@@ -30,7 +30,8 @@ use Rattle.graph_store.specs.Vertices.{IsCountedFrom, IsCountedNamed}
 use Rattle.walks.specs.Named.{IsVertexNamed, AreLeastTwo}
 use Rattle.walks.specs.declared.named.Named.TheVariants.{Zero, One, More}
 use Rattle.graph_store.proofs.Joins.{in_edge_order}
-use Rattle.graph_store.proofs.Names.{root_le, absent_not_present, present_from_state, less_from_test}
+use Rattle.graph_store.proofs.Names.{root_le, absent_not_present, present_from_state}
+use Rattle.grove_sorts.proofs.Truths.{less_from_test}
 use Rattle.grove_edits.proofs.Vertices.{same_vertex_laws, same_vertex_exact}
 use Rattle.graph_store.proofs.Leasts.{pick, holds, found_later, found_behind, Fits, AreByName, pick_is_least, least_same, sorted_part, found_part}
 

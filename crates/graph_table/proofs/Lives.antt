@@ -4,7 +4,6 @@ use Rattle.std.specs.List.{AllByRecursion}
 use Rattle.std.specs.declared.cmp.Ordering.TheVariants.{Less}
 use Rattle.std.specs.Ordering.{is_eq}
 use Rattle.grove_edits.proofs.Unique.{greater_from}
-use Rattle.edge_lattice.specs.declared.state.State.{State}
 use Rattle.edge_lattice.specs.declared.state.State.TheVariants.{Absent, Live, Deleted}
 use Rattle.edge_lattice.specs.State.{state_join}
 use Rattle.edge_lattice.proofs.States.{Absent-state_join}
@@ -19,6 +18,8 @@ use Rattle.grove_edits.proofs.Orders.{edge_cmp_total, one_edge}
 use Rattle.walks.specs.Live.{IsInEdgeOrder, holds_edge}
 use Rattle.walks.specs.Whole.{AreLive}
 use Rattle.graph_table.specs.Table.{Table, inserted, live, is_insertion}
+use Rattle.walks.proofs.Truths.{live_from_test}
+use Rattle.walks.specs.States.{is_live}
 
 -- what holds of the edge of each edit holds of each inserted edge
 pub inserted_all : (P : Edge → Type 0) (edits : List Edit) → AllByRecursion (λ edit. P (edit_edge edit)) edits → AllByRecursion P (inserted edits)
@@ -49,16 +50,6 @@ absent_below e [] below = refl
 absent_below e (x ∷ xs) below =
     let other : is_same_edge (edit_edge x) e ≡ false = ap is_eq (edge_cmp_total.antisymm (edit_edge x) e) ∙ greater_from (edge_cmp e (edit_edge x)) below.0 in
     rw other (Absent-state_join (graph xs e) ∙ absent_below e xs below.1)
-
-abbrev is_live : State → Bool
-is_live Absent = false
-is_live Live = true
-is_live Deleted = false
-
-live_from_test : (s : State) → is_live s ≡ true → s ≡ Live
-live_from_test Absent h = absurd cc
-live_from_test Live h = refl
-live_from_test Deleted h = absurd cc
 
 -- an edge is among the inserted ones just where it is Live
 held_where_live : (edits : List Edit) → Ascends edits → (e : Edge) → holds_edge e (inserted edits) ≡ is_live (graph edits e)

@@ -10,7 +10,8 @@ use Rattle.walks.specs.declared.class.Class.TheVariants.{Cycle}
 use Rattle.walks.specs.Class.{class, is_cycle_root, is_same_class}
 use Rattle.walks.specs.Met.{met_by, KeepsMet, HasEnded}
 use Rattle.walks.specs.Cycle.{leads_to}
-use Rattle.walks.proofs.Cycles.{or_true, class_is_cycle}
+use Rattle.walks.proofs.Cycles.{class_is_cycle}
+use Rattle.grove_sorts.proofs.Truths.{or_true}
 use Rattle.walks.proofs.Found.{AreFound, found_none, found_one, all_found}
 use Rattle.graph_table.specs.Table.{Table, live, vertex_at, IsNumber}
 use Rattle.grove_decompose.specs.Met.{met_of, marked}

@@ -8,6 +8,7 @@ use Rattle.grove_edits.proofs.Vertices.{same_vertex_exact, same_vertex_itself, s
 use Rattle.walks.specs.Met.{met_by}
 use Rattle.walks.proofs.Unmet.{HasEntered}
 use Rattle.grove_decompose.specs.Met.{walk_at, met_of, marked}
+use Rattle.grove_sorts.proofs.Truths.{or_again}
 
 -- ---- a vertex that stands once
 
@@ -124,10 +125,6 @@ behind_first true true c d is = refl
 behind_first true false c d is = refl
 behind_first false b c d is = is
 
-twice : (a c : Bool) → (a || c) ≡ (a || (a || c))
-twice true c = refl
-twice false c = refl
-
 -- one vertex more is marked
 pub marked_more : (vs : List Vertex) (marks : List Bool) (n : ℕ) (root : Vertex) → length marks ≡ length vs → slice_get vs n ≡ Some root → (v : Vertex)
     → stands_in v (marked vs (slice_set marks n true)) ≡ (is_same_vertex root v || stands_in v (marked vs marks))
@@ -135,7 +132,7 @@ marked_more [] marks n root all is v = absurd cc
 marked_more (x ∷ vs) [] n root all is v = absurd (omega (arith, all))
 marked_more (x ∷ vs) (true ∷ marks) zero root all is v =
     let one : x ≡ root = cc in
-    twice (is_same_vertex x v) (stands_in v (marked vs marks)) ∙ ap (λ z. is_same_vertex z v || (is_same_vertex x v || stands_in v (marked vs marks))) one
+    or_again (is_same_vertex x v) (stands_in v (marked vs marks)) ∙ ap (λ z. is_same_vertex z v || (is_same_vertex x v || stands_in v (marked vs marks))) one
 marked_more (x ∷ vs) (false ∷ marks) zero root all is v = let one : x ≡ root = cc in ap (λ z. is_same_vertex z v || stands_in v (marked vs marks)) one
 marked_more (x ∷ vs) (true ∷ marks) (suc n) root all is v =
     behind_first (is_same_vertex x v) (is_same_vertex root v) (stands_in v (marked vs marks)) (stands_in v (marked vs (slice_set marks n true))) (marked_more vs marks n root (omega (arith, all)) is v)

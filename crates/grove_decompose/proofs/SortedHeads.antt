@@ -21,6 +21,7 @@ use Rattle.grove_terms.proofs.InOrder.{IsExactOrder, IsInOrder, holds, one_in_or
 use Rattle.graph_table.specs.Table.{Table, live, vertex_at}
 use Rattle.grove_decompose.specs.Trees.{vertices_of}
 use Rattle.grove_decompose.proofs.ByNumber.{all_of}
+use Rattle.grove_sorts.proofs.Truths.{same_tests}
 
 -- ---- lists of vertices, as lists in an order
 
@@ -76,11 +77,6 @@ distinct_class c edges (v ∷ vs) once = by_test (is_same_class (class edges v) 
   by_test true rest = IsDistinct-cons is_same_vertex v (of_class c edges vs) (all_of (λ x. is_same_vertex v x ≡ false) c edges vs (IsDistinct-head is_same_vertex v vs once)) rest
   by_test false rest = rest
 
-one_test : (a b : Bool) → (a ≡ true → b ≡ true) → (b ≡ true → a ≡ true) → a ≡ b
-one_test true b to from = sym (to refl)
-one_test false true to from = from refl
-one_test false false to from = refl
-
 module _ (c : Class) (table : Table) (once : IsDistinct is_same_vertex table.vertices) (each : (v : Vertex) → IsVertexOf (graph table.edits) v → stands_in v table.vertices ≡ true)
     (no_other : (v : Vertex) → stands_in v table.vertices ≡ true → IsVertexOf (graph table.edits) v) (found sorted : List ℕ) (are : vertices_of table found ≡ of_class c (live table) table.vertices)
     (moved : IsPermutation found sorted) (up : IsSorted vertex_cmp (vertices_of table sorted)) where
@@ -95,7 +91,7 @@ module _ (c : Class) (table : Table) (once : IsDistinct is_same_vertex table.ver
   -- the numbers are those of all vertices of the graph
   numbered : (vertices : List Vertex) → AreVertices (graph table.edits) vertices → (v : Vertex) → holds vertex_cmp v table.vertices ≡ holds vertex_cmp v vertices
   numbered vertices all v =
-      one_test (holds vertex_cmp v table.vertices) (holds vertex_cmp v vertices)
+      same_tests (holds vertex_cmp v table.vertices) (holds vertex_cmp v vertices)
       (λ h. holds-vertices v vertices ∙ all.each v (no_other v (sym (holds-vertices v table.vertices) ∙ h)))
       (λ h. holds-vertices v table.vertices ∙ each v (all.no_other v (sym (holds-vertices v vertices) ∙ h)))
 

@@ -8,11 +8,6 @@ extends_further a b c x y = (x.0 ++ y.0, y.1 ∙ ap (λ bytes. bytes ++ y.0) x.1
 pub extends_appended : (a b c more : List ℕ) → Extends a b → c ≡ b ++ more → Extends a c
 extends_appended a b c more x is = extends_further a b c x (more, is)
 
--- what holds holds after an error
-pub after_error : {T E P : Type 0} (r : Result T E) → P → OnErr r P
-after_error (Ok x) p = tt
-after_error (Err e) p = p
-
 -- what was written before an error stays the beginning
 pub extends_on_error : {T E : Type 0} (r : Result T E) (a b c : List ℕ) → Extends a b → OnErr r (Extends b c) → OnErr r (Extends a c)
 extends_on_error (Ok x) a b c before part = tt

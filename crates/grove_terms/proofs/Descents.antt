@@ -1,7 +1,7 @@
 -- Descents from a root through inner vertices: no vertex stands on one twice, so none is longer than there are edges.
 use Rattle.std.proofs.Common.{◌≡◌, suc, ◌≤◌, Bool, true, false, List, [], ◌∷◌, length, refl, sym, ap, ◌∙◌, arith}
 use Rattle.std.specs.Prelude.{◌||◌, Some}
-use Rattle.grove_sorts.proofs.Truths.{or_left, or_right}
+use Rattle.grove_sorts.proofs.Truths.{or_left, or_right, false_from}
 use Rattle.grove_edits.specs.declared.vertex.Vertex.{Vertex}
 use Rattle.grove_edits.specs.declared.edge.Edge.{Edge}
 use Rattle.walks.specs.declared.class.Class.TheVariants.{Inner}
@@ -41,10 +41,6 @@ above_later live r t v x (y ∷ ys) outer descent inner up h = by_test (above_la
       let next : y ≡ v = some_same y v (sym descent.1 ∙ ap (above live) e ∙ up) in
       or_left (is_same_vertex y v) (stands_in v ys) (ap (λ z. is_same_vertex z v) next ∙ same_vertex_itself v)
   by_test later false other rest = or_right (is_same_vertex y v) (stands_in v ys) (later rest)
-
-false_from : (b : Bool) → (b ≡ true → ⊥) → b ≡ false
-false_from true refuted = absurd (refuted refl)
-false_from false refuted = refl
 
 -- an inner vertex below the lowest of a descent does not stand on it
 pub new_below : (live : List Edge) (r t v : Vertex) (vs : List Vertex) → (class live r ≡ Inner → ⊥) → IsDescent live r (v ∷ vs) → AreApart (v ∷ vs) → class live t ≡ Inner → above live t ≡ Some v

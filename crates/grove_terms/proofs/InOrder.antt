@@ -8,7 +8,7 @@ use Rattle.std.specs.declared.cmp.Ordering.TheVariants.{Less, Equal, Greater}
 use Rattle.std.specs.Ordering.{is_eq, ordering_reverse}
 use Rattle.std.proofs.lemmas.Cmp.{tied_itself}
 use Rattle.grove_sorts.proofs.Orders.{equal_from_test}
-use Rattle.grove_sorts.proofs.Truths.{or_left, or_right, or_swap}
+use Rattle.grove_sorts.proofs.Truths.{or_left, or_right, or_swap, or_again}
 
 -- an order in which things that compare equal are one
 pub record IsExactOrder {K : Type 0} (R : K → K → Ordering) : Type 0 where
@@ -108,16 +108,12 @@ abbrev pub put : {K : Type 0} → (K → K → Ordering) → K → List K → Li
 put R k [] = k ∷ []
 put R k (x ∷ xs) = put_by (R k x) k x xs (put R k xs)
 
-or_twice : (a b : Bool) → (a || b) ≡ (a || (a || b))
-or_twice true b = refl
-or_twice false b = refl
-
 pub holds-put : {K : Type 0} (R : K → K → Ordering) → IsExactOrder R → (q k : K) (xs : List K) → holds R q (put R k xs) ≡ (is_eq (R k q) || holds R q xs)
 holds-put R o q k [] = refl
 holds-put {K} R o q k (x ∷ xs) = by_order (R k x) refl (holds-put R o q k xs) where
   by_order : (c : Ordering) → R k x ≡ c → holds R q (put R k xs) ≡ (is_eq (R k q) || holds R q xs) → holds R q (put_by c k x xs (put R k xs)) ≡ (is_eq (R k q) || (is_eq (R x q) || holds R q xs))
   by_order Less _ rest = refl
-  by_order Equal tie rest = let one = o.exact k x tie in subst (λ (z : K). (is_eq (R x q) || holds R q xs) ≡ (is_eq (R z q) || (is_eq (R x q) || holds R q xs))) (sym one) (or_twice (is_eq (R x q)) (holds R q xs))
+  by_order Equal tie rest = let one = o.exact k x tie in subst (λ (z : K). (is_eq (R x q) || holds R q xs) ≡ (is_eq (R z q) || (is_eq (R x q) || holds R q xs))) (sym one) (or_again (is_eq (R x q)) (holds R q xs))
   by_order Greater _ rest = ap (λ b. is_eq (R x q) || b) rest ∙ or_swap (is_eq (R x q)) (is_eq (R k q)) (holds R q xs)
 
 all_after : {K : Type 0} (R : K → K → Ordering) → IsExactOrder R → (x y : K) (ys : List K) → R x y ≡ Less → AllByRecursion (λ later. R y later ≡ Less) ys → AllByRecursion (λ later. R x later ≡ Less) ys

@@ -1,8 +1,8 @@
 -- A graph has exactly one grove.
 use Rattle.std.proofs.Common.{◌≡◌, ◌≢◌, ◌⊎◌, inl, inr, Bool, true, false, cond, List, [], ◌∷◌, refl, sym, ap, subst, ◌∙◌}
-use Rattle.std.specs.Prelude.{◌||◌, ◌&&◌, filter, map}
+use Rattle.std.specs.Prelude.{◌||◌, filter, map}
 use Rattle.std.specs.List.{AllByRecursion}
-use Rattle.grove_sorts.proofs.Truths.{both_true, or_left, or_right}
+use Rattle.grove_sorts.proofs.Truths.{both_true, or_left, or_right, and_true}
 use Rattle.edge_lattice.specs.declared.state.State.{State}
 use Rattle.edge_lattice.specs.declared.state.State.TheVariants.{Absent, Live, Deleted}
 use Rattle.edge_lattice.specs.State.{state_join}
@@ -29,6 +29,8 @@ use Rattle.grove_terms.specs.Nodes.{tree_nodes}
 use Rattle.grove_terms.specs.Grove.{IsTreeOf, AreTreesOf, IsGrove}
 use Rattle.grove_terms.proofs.InOrder.{IsExactOrder, IsInOrder, holds, put, one_in_order, test_itself, in_order_put, holds-put, in_order_filter, holds-filter}
 use Rattle.grove_terms.proofs.Forests.{forest_of, root_stands, one_forest}
+use Rattle.walks.proofs.Truths.{live_from_test, present_from_test, test_from_present}
+use Rattle.walks.specs.States.{is_live, is_present}
 
 -- ---- lists of edges and of vertices, as lists in an order
 
@@ -111,31 +113,6 @@ one_grove g a b of_a of_b =
 
 -- ---- a graph of edits has a list of live edges, and one of vertices
 
-abbrev is_live : State → Bool
-is_live Absent = false
-is_live Live = true
-is_live Deleted = false
-
-live_from_test : (s : State) → is_live s ≡ true → s ≡ Live
-live_from_test Absent h = absurd cc
-live_from_test Live h = refl
-live_from_test Deleted h = absurd cc
-
-abbrev is_present : State → Bool
-is_present Absent = false
-is_present Live = true
-is_present Deleted = true
-
-present_from_test : (s : State) → is_present s ≡ true → s ≢ Absent
-present_from_test Absent h e = cc
-present_from_test Live h e = cc
-present_from_test Deleted h e = cc
-
-test_from_present : (s : State) → s ≢ Absent → is_present s ≡ true
-test_from_present Absent h = absurd (h refl)
-test_from_present Live h = refl
-test_from_present Deleted h = refl
-
 present_from_live : (s : State) → s ≡ Live → is_present s ≡ true
 present_from_live Absent h = absurd cc
 present_from_live Live h = refl
@@ -173,10 +150,6 @@ holds-named (edit ∷ edits) e =
     ∙ ap (λ b. is_same_edge (edit_edge edit) e || b) (holds-named edits e)
     ∙ ap (λ b. b || is_present (graph edits e)) (sym (present-only (is_same_edge (edit_edge edit) e) (edit_kind edit)))
     ∙ sym (present-join (cond (is_same_edge (edit_edge edit) e) (state_of (edit_kind edit)) Absent) (graph edits e))
-
-and_true : (a b : Bool) → a ≡ true → b ≡ true → (a && b) ≡ true
-and_true true b e f = f
-and_true false b e f = absurd cc
 
 abbrev pub live_of : List Edit → List Edge
 live_of edits = filter (λ e. is_live (graph edits e)) (named_by edits)

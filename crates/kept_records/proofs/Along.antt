@@ -16,7 +16,7 @@ use Rattle.walks.specs.declared.class.Class.TheVariants.{Inner}
 use Rattle.walks.specs.Live.{parents_of}
 use Rattle.walks.specs.Class.{class}
 use Rattle.walks.specs.Whole.{IsVertexOf, AreLive}
-use Rattle.walks.proofs.Chains.{IsChain, has_chain}
+use Rattle.walks.proofs.Chains.{IsChain, has_chain, chain_is_one}
 use Rattle.grove_terms.specs.Forest.{Forest, child_edges, StandsUnder}
 use Rattle.mark_step.specs.Expression.{Demanded}
 use Rattle.kept_records.specs.Kept.{Kept, Records, AreKept, expression_of, demanded_at, IsTreeIn, Stands}
@@ -30,7 +30,7 @@ use Rattle.kept_records.proofs.Scratch.{top_alone, judged_above, kept_there, tar
 use Rattle.kept_records.proofs.Edits.{under_stay}
 use Rattle.kept_records.proofs.Alike.{Alike, alike_demand, are_alike}
 use Rattle.kept_records.proofs.Once.{longer, same_turn}
-use Rattle.kept_records.proofs.Line.{IsThere, chain_of, find_on, one_chain, itself_first}
+use Rattle.kept_records.proofs.Line.{chain_of, find_on, itself_first}
 use Rattle.kept_records.proofs.Line as line
 
 one_edge_of : (d e : Edge) → d ∷ [] ≡ e ∷ [] → d ≡ e
@@ -48,7 +48,7 @@ module _ (e : Edge) (old new : List Edge) (change : Changes e old new) (stay : C
   step_at : (u : Vertex) (us : List Vertex) (v : Vertex) (f : Forest) (d : Demanded) → Stands new (u ∷ us) v f d → on_line v ≡ true → IsStep v (u ∷ us)
   step_at u us v f d s on =
       let r = find_on new e.source (line.rises e old new change stay) (has_chain new e.source).is v on in
-      let one = one_chain new v r.behind (u ∷ us) r.chain (chain_of new well_new (u ∷ us) v f d s) in
+      let one = chain_is_one new v r.behind (u ∷ us) r.chain (chain_of new well_new (u ∷ us) v f d s) in
       record { before = r.before; split = r.split ∙ ap (λ ws. r.before ++ v ∷ ws) one }
 
   -- the vertex above one of the line is on it, and is not the source
@@ -60,8 +60,8 @@ module _ (e : Edge) (old new : List Edge) (change : Changes e old new) (stay : C
   above_no_source : (u : Vertex) (us : List Vertex) (v : Vertex) (f : Forest) (d : Demanded) → Stands new (u ∷ us) v f d → on_line v ≡ true → u ≡ e.source → ⊥
   above_no_source u us v f d s on one =
       let r = find_on new e.source (line.rises e old new change stay) (has_chain new e.source).is v on in
-      let chain = one_chain new v r.behind (u ∷ us) r.chain (chain_of new well_new (u ∷ us) v f d s) in
-      let rises = one_chain new e.source us (line.rises e old new change stay) (subst (λ x. IsChain new x us) one (chain_of new well_new us u s.0 s.1 s.2)) (has_chain new e.source).is in
+      let chain = chain_is_one new v r.behind (u ∷ us) r.chain (chain_of new well_new (u ∷ us) v f d s) in
+      let rises = chain_is_one new e.source us (line.rises e old new change stay) (subst (λ x. IsChain new x us) one (chain_of new well_new us u s.0 s.1 s.2)) (has_chain new e.source).is in
       longer (line.line e old new change stay) r.before v (r.split ∙ ap (λ ws. r.before ++ v ∷ ws) (chain ∙ ap (λ x. x ∷ us) one ∙ ap (λ ws. e.source ∷ ws) rises))
 
   -- ---- what others than the source have for children

@@ -39,7 +39,7 @@ use Rattle.kept_records.specs.Change.{Changes, CyclesStay, IsNear, StandOnce, Ar
 use Rattle.kept_records.specs.Renewal.{HasToBeJudged, IsLeft, MakesUnder, names, put}
 use Rattle.kept_records.specs.Short.{SourceAloneSees, MakesFrom, MakesTarget, within, IsShortWalk, TypeStays}
 use Rattle.kept_records.specs.Conflict.{PositionAloneSees, MakesInConflict, outer, left, judged, IsConflictWalk}
-use Rattle.kept_records.proofs.Truth.{clash}
+use Rattle.grove_sorts.proofs.Truths.{not_both, not_true}
 use Rattle.kept_records.proofs.Sorts.{IsJudged, above_expression, wanted_sort}
 use Rattle.kept_records.proofs.Children.{sole_parent, tree_inner, tree_stands, HasTree, has_tree, held_under, IsTreeOf, under_are_of, children_are_of, all_held}
 use Rattle.kept_records.proofs.Standing.{stands_under, child_stands, HasPlace, has_place}
@@ -127,11 +127,11 @@ module _ (on : Vertex → Bool) (records : Records) (given : Position → Demand
             (subst (λ c. MakesUnder on records (demanded_at (expression_of x.target c (given x.position)) c) c inner) (sym is.1) makes),
         all_left rest
             (λ y c there. others y c (inr there)
-            (λ same. clash (holds_edge d (child_edges rest)) (ap (λ z. holds_edge z (child_edges rest)) (is.0 ∙ sym same) ∙ held_tree rest y c there) once.0)),
+            (λ same. not_both (holds_edge d (child_edges rest)) (ap (λ z. holds_edge z (child_edges rest)) (is.0 ∙ sym same) ∙ held_tree rest y c there) once.0)),
       )
   one_judged (tree d below rest) x b (inr is) once others cause inner makes =
       inl (
-        others d below (inl (refl, refl)) (λ same. clash (holds_edge d (child_edges rest)) (ap (λ z. holds_edge z (child_edges rest)) same ∙ held_tree rest x b is) once.0),
+        others d below (inl (refl, refl)) (λ same. not_both (holds_edge d (child_edges rest)) (ap (λ z. holds_edge z (child_edges rest)) same ∙ held_tree rest x b is) once.0),
         one_judged rest x b is once.1 (λ y c there. others y c (inr there)) cause inner makes,
       )
 
@@ -145,10 +145,6 @@ filter_both a b (x ∷ xs) = by_test (a x) (b x) refl (filter_both a b xs) where
   by_test true false is later = later
   by_test false true is later = ap (λ c. cond c (x ∷ filter a (filter b xs)) (filter a (filter b xs))) is ∙ later
   by_test false false is later = later
-
-was_false : (b : Bool) → not b ≡ true → b ≡ false
-was_false true is = absurd cc
-was_false false is = refl
 
 one_edge_of : (a b : Edge) → a ∷ [] ≡ b ∷ [] → a ≡ b
 one_edge_of a b same = cc
@@ -180,7 +176,7 @@ put_same s k records is (m ∷ ms) v = ap (λ o. cond (is_same_vertex m.0 v) (So
 -- the first of some vertices that stand once stand once
 first_once : (ms : List (Vertex × Kept)) (n : Vertex × Kept) → StandOnce (names (ms ++ n ∷ [])) → StandOnce (names ms)
 first_once [] n once = tt
-first_once (m ∷ ms) n once = (false_from_ne_true (has_name m.0 ms) (λ is. clash (has_name m.0 (ms ++ n ∷ [])) (name_left m.0 ms (n ∷ []) is) once.0), first_once ms n once.1)
+first_once (m ∷ ms) n once = (false_from_ne_true (has_name m.0 ms) (λ is. not_both (has_name m.0 (ms ++ n ∷ [])) (name_left m.0 ms (n ∷ []) is) once.0), first_once ms n once.1)
 
 -- ---- the walk
 
@@ -262,7 +258,7 @@ module _ (edits : List Edit) (edit : Edit) (old new : List Edge) (live_old : Are
     by_sees : e.target ≡ x.target → PositionAloneSees (edit_edge edit) old new → class old x.target ≡ class new x.target
     by_sees one (inl same) = ap (class old) (sym one) ∙ same.0 ∙ ap (class new) one
     by_sees one (inr from) =
-        absurd (clash (is_same_position x.position e.position)
+        absurd (not_both (is_same_position x.position e.position)
         (ap (λ q. is_same_position q e.position) (from x (inr of.held) (sym one)).1 ∙ same_position_laws.refl e.position) other)
 
     by_test : (b : Bool) → is_same_vertex e.target x.target ≡ b → class old x.target ≡ class new x.target
@@ -292,7 +288,7 @@ module _ (edits : List Edit) (edit : Edit) (old new : List Edge) (live_old : Are
   classes_stay (x ∷ xs) of = by_test (there x) refl (classes_stay xs of.1) where
     by_test : (b : Bool) → there x ≡ b → AllByRecursion (λ y. class old y.target ≡ class new y.target) (filter there xs)
         → AllByRecursion (λ y. class old y.target ≡ class new y.target) (cond b (x ∷ filter there xs) (filter there xs))
-    by_test true is later = (class_elsewhere x of.0 (was_false (is_same_position x.position e.position) is), later)
+    by_test true is later = (class_elsewhere x of.0 (not_true (is_same_position x.position e.position) is), later)
     by_test false is later = later
 
   same_elsewhere : elsewhere e.position before.forest ≡ elsewhere e.position after.forest
@@ -355,7 +351,7 @@ module _ (edits : List Edit) (edit : Edit) (old new : List Edge) (live_old : Are
       itself stands = by_test (is_same_vertex s y.target) refl stands where
         by_test : (b : Bool) → is_same_vertex s y.target ≡ b → (b || false) ≡ true → ⊥
         by_test true same h =
-            clash (line.on_line e old new change stay y.target) (ap (line.on_line e old new change stay) (sym (same_vertex_exact s y.target same)) ∙ line.source_on_line e old new change stay) (off_line y c is)
+            not_both (line.on_line e old new change stay y.target) (ap (line.on_line e old new change stay) (sym (same_vertex_exact s y.target same)) ∙ line.source_on_line e old new change stay) (off_line y c is)
         by_test false other h = absurd cc
 
       by_why : (stands_in y.target (s ∷ []) ≡ true) ⊎ (IsVertexOf (graph (edit ∷ edits)) y.target × (IsVertexOf (graph edits) y.target → ⊥)) → ⊥
@@ -478,7 +474,7 @@ module _ (edits : List Edit) (edit : Edit) (old new : List Edge) (live_old : Are
           let one = same_vertex_exact e.target x.target same in
           subst (λ q. IsLeft on records x.target (given q)) (sym (position_of inner x (tree_of x c is).held (sym one)).1)
           (subst (λ v. IsLeft on records v (given e.position)) one is_left)
-      by_test false other = other_left x c is (λ one. clash (is_same_vertex e.target x.target) (ap (is_same_vertex e.target) one ∙ same_vertex_itself e.target) other)
+      by_test false other = other_left x c is (λ one. not_both (is_same_vertex e.target x.target) (ap (is_same_vertex e.target) one ∙ same_vertex_itself e.target) other)
 
     by_case : MakesInConflict (edit_edge edit) new records on (given e.position) made → HasShortWalk
     by_case (outer heads makes) =

@@ -16,7 +16,7 @@ use Rattle.walks.proofs.Tops.{HasTop, has_top}
 use Rattle.walks.specs.Cycle.{is_on_cycle, leads_to}
 use Rattle.walks.proofs.Cycles.{Reaches, up_through, leads_from_reaches, reaches_from_leads, back_from_cycle, cycle_from_back, leads_back, returns, never_none, back_from_return}
 use Rattle.kept_records.specs.Change.{HasOneMore, Changes, same, comes, goes, CyclesStay}
-use Rattle.kept_records.proofs.Truth.{clash}
+use Rattle.grove_sorts.proofs.Truths.{not_both as clash}
 use Rattle.kept_records.proofs.Edits.{change_back, above_stays}
 
 -- ---- walks over vertices above which the same stands

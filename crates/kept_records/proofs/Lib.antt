@@ -1,4 +1,3 @@
-pub mod Truth
 pub mod Sorts
 pub mod Children
 pub mod Standing

@@ -12,7 +12,7 @@ use Rattle.walks.specs.declared.class.Class.TheVariants.{Inner}
 use Rattle.walks.specs.Live.{holds_edge, parents_of}
 use Rattle.walks.specs.Walk.{only_source, above}
 use Rattle.walks.specs.Class.{class}
-use Rattle.walks.proofs.Chains.{IsChain, has_chain}
+use Rattle.walks.proofs.Chains.{IsChain, has_chain, chain_is_one}
 use Rattle.walks.proofs.Returns.{some_same}
 use Rattle.grove_terms.specs.Forest.{Forest, StandsUnder}
 use Rattle.grove_terms.proofs.WellSorted.{held_first}
@@ -36,15 +36,6 @@ chain_of live well (u ∷ us) v f d s =
 
 one_edge_of : (d e : Edge) → d ∷ [] ≡ e ∷ [] → d ≡ e
 one_edge_of d e same = cc
-
--- a vertex has one chain
-pub one_chain : (live : List Edge) (v : Vertex) (xs ys : List Vertex) → IsChain live v xs → IsChain live v ys → xs ≡ ys
-one_chain live v [] [] a b = refl
-one_chain live v [] (y ∷ ys) a b = absurd (a b.1)
-one_chain live v (x ∷ xs) [] a b = absurd (b a.1)
-one_chain live v (x ∷ xs) (y ∷ ys) a b =
-    let above : x ≡ y = sym a.3 ∙ ap (λ (d : Edge). d.source) (one_edge_of a.0 b.0 (sym a.2 ∙ b.2)) ∙ b.3 in
-    ap (λ z. z ∷ xs) above ∙ ap (λ zs. y ∷ zs) (one_chain live y xs ys (subst (λ z. IsChain live z xs) above a.4) b.4)
 
 -- a vertex of a list, with the chain behind it
 pub record IsThere (live : List Edge) (u : Vertex) (xs : List Vertex) : Type 0 where
@@ -183,8 +174,8 @@ module _ (e : Edge) (old new : List Edge) (change : Changes e old new) (stay : C
         let r = line_at e.target is in
         let one = sole_of new e.target inner r.behind r.chain in
         let source : one.edge.source ≡ e.source = from one.edge (inr one.held) one.target in
-        let behind : r.behind ≡ e.source ∷ one.chain = one_chain new e.target r.behind (one.edge.source ∷ one.chain) r.chain one.is ∙ ap (λ x. x ∷ one.chain) source in
-        let chain : rises ≡ one.chain = one_chain new e.source rises one.chain (has_chain new e.source).is (subst (λ x. IsChain new x one.chain) source one.above) in
+        let behind : r.behind ≡ e.source ∷ one.chain = chain_is_one new e.target r.behind (one.edge.source ∷ one.chain) r.chain one.is ∙ ap (λ x. x ∷ one.chain) source in
+        let chain : rises ≡ one.chain = chain_is_one new e.source rises one.chain (has_chain new e.source).is (subst (λ x. IsChain new x one.chain) source one.above) in
         longer line r.before e.target (r.split ∙ ap (λ ws. r.before ++ e.target ∷ ws) (behind ∙ ap (λ ws. e.source ∷ ws) (sym chain)))
 
     by_test : (b : Bool) → on_line e.target ≡ b → on_line e.target ≡ false
@@ -234,7 +225,7 @@ module _ (e : Edge) (old new : List Edge) (change : Changes e old new) (stay : C
         let chain : IsChain old e.target (e.source ∷ one.chain) = subst (λ x. IsChain old e.target (x ∷ one.chain)) source one.is in
         let above : IsChain old e.source one.chain = subst (λ x. IsChain old x one.chain) source one.above in
         let r = joined e.source rises (has_chain new e.source).is is (e.source ∷ one.chain) chain in
-        let same : r.chain ≡ one.chain = one_chain old e.source r.chain one.chain r.is above in
+        let same : r.chain ≡ one.chain = chain_is_one old e.source r.chain one.chain r.is above in
         longer (e.source ∷ one.chain) r.before e.target (ap (λ xs. e.source ∷ xs) (sym same) ∙ r.split)
 
     by_test : (b : Bool) → on_line e.target ≡ b → on_line e.target ≡ false
@@ -330,8 +321,8 @@ module _ (e : Edge) (old new : List Edge) (change : Changes e old new) (stay : C
       refuted high =
           let a = find_above new v us is top below in
           let b = find_above new top the_way.base the_way.chain v high in
-          let same : a.behind ≡ the_way.base = one_chain new top a.behind the_way.base a.chain the_way.chain in
-          let round : b.behind ≡ us = one_chain new v b.behind us b.chain is in
+          let same : a.behind ≡ the_way.base = chain_is_one new top a.behind the_way.base a.chain the_way.chain in
+          let round : b.behind ≡ us = chain_is_one new v b.behind us b.chain is in
           longer us (a.before ++ top ∷ b.before) v
           (a.split ∙ ap (λ ws. a.before ++ top ∷ ws) (same ∙ b.split ∙ ap (λ ws. b.before ++ v ∷ ws) round) ∙ sym (append_assoc a.before (top ∷ b.before) (v ∷ us)))
 

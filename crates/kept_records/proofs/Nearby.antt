@@ -28,7 +28,7 @@ use Rattle.kept_records.specs.Local.{is_inner, scope_in, wanted_in, typ_in, kept
 use Rattle.kept_records.specs.Change.{Changes, CyclesStay, is_on_walks, StandOnce, IsNear}
 use Rattle.kept_records.specs.Renewal.{HasToBeJudged, IsLeft, names, put}
 use Rattle.kept_records.specs.Short.{SourceAloneSees, MakesTarget, within, on_way, left, judged, IsShortWalk, TypeStays}
-use Rattle.kept_records.proofs.Truth.{clash}
+use Rattle.grove_sorts.proofs.Truths.{not_both, neither}
 use Rattle.kept_records.proofs.Sorts.{IsJudged}
 use Rattle.kept_records.proofs.Children.{sole_parent, IsTreeOf, under_are_of, children_are_of}
 use Rattle.kept_records.proofs.Standing.{stands_under, below_inner, edge_of_child, source_of_child, child_stands, HasPlace, has_place}
@@ -47,10 +47,6 @@ use Rattle.kept_records.proofs.Line as line
 use Rattle.kept_records.proofs.Along.{kept_along}
 use Rattle.kept_records.proofs.OffLine.{came_off_line, target_off_line}
 use Rattle.kept_records.proofs.Starting.{judged_or, StartsAt, starts_at, same_forest, start_named, start_made, start_once, start_pass}
-
-or_false : (a b : Bool) → (a || b) ≡ false → (a ≡ false) × (b ≡ false)
-or_false true b is = absurd cc
-or_false false b is = (refl, is)
 
 split_names : (w : Vertex) (xs ys : List (Vertex × Kept)) → has_name w (xs ++ ys) ≡ true → (has_name w xs ≡ true) ⊎ (has_name w ys ≡ true)
 split_names w [] ys is = inr is
@@ -252,12 +248,12 @@ module _ (e : Edge) (old new : List Edge) (change : Changes e old new) (stay : C
 
     by_start : (x : Vertex) → StartsThere x → stands_in x us ≡ true → on_line v ≡ true → ⊥
     by_start x (is_top one) stands is =
-        clash (on v)
+        not_both (on v)
         (w.anew.way_on v (line.below_on_way e old new change stay way top w.leads v us chain (ap (λ z. stands_in z us) one ∙ stands) is)) off
     by_start x (is_target begun one) stands is =
         let r = line.find_on new e.source (line.rises e old new change stay) (has_chain new e.source).is v is in
         let same = line.one_chain new v r.behind us r.chain chain in
-        clash (on_line e.target)
+        not_both (on_line e.target)
         (ap (stands_in e.target) (r.split ∙ ap (λ ws. r.before ++ v ∷ ws) same)
         ∙ line.stands_behind r.before e.target (v ∷ us) (or_right (is_same_vertex v e.target) (stands_in e.target us) (ap (λ z. stands_in z us) one ∙ stands)))
         (part.off begun)
@@ -276,13 +272,13 @@ module _ (e : Edge) (old new : List Edge) (change : Changes e old new) (stay : C
         ∙ name_left x w.target w.own (ap (λ z. has_name z w.target) (sym one) ∙ start_named on new records h live_new well_new [] e.target at_target.forest alone (target_there begun) w.target (part.starts begun))
 
   not_start : (x : Vertex) → has_name x made ≡ false → is_start x ≡ false
-  not_start x out = false_from_ne_true (is_start x) (λ starts. clash (has_name x made) (named_start x starts) out)
+  not_start x out = false_from_ne_true (is_start x) (λ starts. not_both (has_name x made) (named_start x starts) out)
 
   known_left : (v : Vertex) → IsVertexOf h v → on v ≡ false → IsVertexOf g v
   known_left v is off = by_known (decided v) where
     by_known : IsVertexOf g v ⊎ (IsVertexOf g v → ⊥) → IsVertexOf g v
     by_known (inl known) = known
-    by_known (inr outside) = absurd (clash (on v) (w.anew.came_on v is outside) off)
+    by_known (inr outside) = absurd (not_both (on v) (w.anew.came_on v is outside) off)
 
   -- what stands there and is not judged again stood there, with the same under it, where the same was demanded of it
   record Remains (v : Vertex) (f : Forest) (d : Demanded) : Type 0 where
@@ -292,7 +288,7 @@ module _ (e : Edge) (old new : List Edge) (change : Changes e old new) (stay : C
   remains : (us : List Vertex) (v : Vertex) (f : Forest) (d : Demanded) → Stands new us v f d → IsVertexOf h v → inside (v ∷ us) ≡ true → has_name v made ≡ false → Remains v f d
   remains [] v f d s is deep out = absurd (by_side (or_cases (is_start v) false deep)) where
     by_side : (is_start v ≡ true) ⊎ (false ≡ true) → ⊥
-    by_side (inl starts) = clash (has_name v made) (named_start v starts) out
+    by_side (inl starts) = not_both (has_name v made) (named_start v starts) out
     by_side (inr never) = cc
   remains (u ∷ us) v f d s is deep out =
       by_named (has_name u made) refl (remains us u s.0 s.1 s.2 (above_vertex h new live_new well_new u us v f d s) higher) where
@@ -307,7 +303,7 @@ module _ (e : Edge) (old new : List Edge) (change : Changes e old new) (stay : C
                   (line.stood_under e old new change stay w.alone_sees v f (strictly_off (u ∷ us) v f d s higher is_left.0) (stands_under new (u ∷ us) v f d s)) known is_left.1;
               known = known;
             }
-        by_child (inr named) = absurd (clash (has_name v made) named out)
+        by_child (inr named) = absurd (not_both (has_name v made) named out)
 
         by_above : Remains u s.0 s.1 → Remains v f d
         by_above r =
@@ -375,7 +371,7 @@ module _ (e : Edge) (old new : List Edge) (change : Changes e old new) (stay : C
     by_target true begun named_there =
         let p = start_pass on new records h live_new well_new [] e.target at_target.forest alone (target_there begun) w.target (part.starts begun) v named_there in
         placed e.target [] (target_starts begun) p.above_it p.before (line.chain_of new well_new p.above_it v p.forest p.demanded p.stands) p.chain
-    by_target false not_begun named_there = absurd (clash (has_name v w.target) named_there (ap (has_name v) (part.nothing not_begun)))
+    by_target false not_begun named_there = absurd (not_both (has_name v w.target) named_there (ap (has_name v) (part.nothing not_begun)))
 
     by_side : (has_name v w.target ≡ true) ⊎ (has_name v w.own ≡ true) → inside (v ∷ us) ≡ true
     by_side (inl there) = by_target part.begins refl there
@@ -386,7 +382,7 @@ module _ (e : Edge) (old new : List Edge) (change : Changes e old new) (stay : C
   outside_keeps : (us : List Vertex) (v : Vertex) (f : Forest) (d : Demanded) → Stands new us v f d → inside (v ∷ us) ≡ false → after v ≡ records v
   outside_keeps us v f d s out =
       judged_again.put_outside on new records h live_new well_new made records v
-      (false_from_ne_true (has_name v made) (λ named. clash (inside (v ∷ us)) (named_inside v named us f d s) out))
+      (false_from_ne_true (has_name v made) (λ named. not_both (inside (v ∷ us)) (named_inside v named us f d s) out))
 
   -- the source is judged again
   source_deep : (us : List Vertex) (f : Forest) (d : Demanded) → Stands new us e.source f d → inside (e.source ∷ us) ≡ true
@@ -396,7 +392,7 @@ module _ (e : Edge) (old new : List Edge) (change : Changes e old new) (stay : C
 
   outside_no_source : (us : List Vertex) (v : Vertex) (f : Forest) (d : Demanded) → Stands new us v f d → inside (v ∷ us) ≡ false → v ≡ e.source → ⊥
   outside_no_source us v f d s out one =
-      clash (inside (v ∷ us)) (ap (λ x. inside (x ∷ us)) one ∙ source_deep us f d (subst (λ x. Stands new us x f d) one s)) out
+      not_both (inside (v ∷ us)) (ap (λ x. inside (x ∷ us)) one ∙ source_deep us f d (subst (λ x. Stands new us x f d) one s)) out
 
   not_source : (us : List Vertex) (v : Vertex) (f : Forest) (d : Demanded) → Stands new us v f d → inside (v ∷ us) ≡ false → is_same_vertex e.source v ≡ false
   not_source us v f d s out = false_from_ne_true (is_same_vertex e.source v) (λ same. outside_no_source us v f d s out (sym (same_vertex_exact e.source v same)))
@@ -414,9 +410,9 @@ module _ (e : Edge) (old new : List Edge) (change : Changes e old new) (stay : C
     chain = line.chain_of new well_new (u ∷ us) top f d s
 
     by_start : (x : Vertex) → StartsThere x → stands_in x (u ∷ us) ≡ true → ⊥
-    by_start x (is_top one) stands = clash (stands_in top (u ∷ us)) (ap (λ z. stands_in z (u ∷ us)) one ∙ stands) (chain_apart new top (u ∷ us) chain)
+    by_start x (is_top one) stands = not_both (stands_in top (u ∷ us)) (ap (λ z. stands_in z (u ∷ us)) one ∙ stands) (chain_apart new top (u ∷ us) chain)
     by_start x (is_target begun one) stands =
-        clash (on_line e.target)
+        not_both (on_line e.target)
         (line.above_top_on_line e old new change stay way top w.leads e.target
         (ap (stands_in e.target) (line.one_chain new top up.base (u ∷ us) up.chain chain) ∙ ap (λ z. stands_in z (u ∷ us)) one ∙ stands))
         (part.off begun)
@@ -534,7 +530,7 @@ module _ (e : Edge) (old new : List Edge) (change : Changes e old new) (stay : C
             outside_no_source ws u s'.0 s'.1 s'.2 out' source
 
         not_at_top : on_line e.target ≡ false → top ≡ v → ⊥
-        not_at_top off at = clash (on_line e.target) (ap on_line (one ∙ sym at) ∙ top_on_line) off
+        not_at_top off at = not_both (on_line e.target) (ap on_line (one ∙ sym at) ∙ top_on_line) off
 
         left_alone : class old e.target ≡ Inner → (class new e.target ≡ Inner → ⊥) → (b : Bool) → part.begins ≡ b → kept_demand records v ≡ alone
         left_alone inner outer true begun =
@@ -543,7 +539,7 @@ module _ (e : Edge) (old new : List Edge) (change : Changes e old new) (stay : C
           by_why : (class new e.target ≡ Inner) ⊎ ((stands_in e.target (e.source ∷ way) ≡ true) ⊎ IsLeft on records e.target alone) → kept_demand records v ≡ alone
           by_why (inl inner_new) = absurd (outer inner_new)
           by_why (inr (inl there)) =
-              absurd (clash (on_line e.target) (line.way_on_line e old new change stay way top w.leads e.target there) (line.not_above_old e old new change stay from inner))
+              absurd (not_both (on_line e.target) (line.way_on_line e old new change stay way top w.leads e.target there) (line.not_above_old e old new change stay from inner))
           by_why (inr (inr is_left)) = ap (kept_demand records) (sym one) ∙ is_left.1 (ap (λ (x : Vertex). sort_of_ctor x.ctor) one ∙ sort)
 
         by_class : (class new e.target ≡ Inner) ⊎ (class new e.target ≡ Inner → ⊥) → (class old e.target ≡ Inner) ⊎ (class old e.target ≡ Inner → ⊥) → demanded_of new after v ≡ demanded_of old records v
@@ -588,7 +584,7 @@ module _ (e : Edge) (old new : List Edge) (change : Changes e old new) (stay : C
         by_why (inr (inl there)) = on_way_inside (ap (λ x. stands_in x (e.source ∷ way)) (sym one) ∙ there) where
           on_way_inside : stands_in v (e.source ∷ way) ≡ true → inside (v ∷ us) ≡ true
           on_way_inside there' = way_inside us v f d s there'
-        by_why (inr (inr is_left)) = absurd (clash (on v) on_there (ap on (sym one) ∙ is_left.0))
+        by_why (inr (inr is_left)) = absurd (not_both (on v) on_there (ap on (sym one) ∙ is_left.0))
 
       by_end : (v ≡ e.source) ⊎ (v ≡ e.target) → inside (v ∷ us) ≡ true
       by_end (inl one) = ap (λ x. inside (x ∷ us)) one ∙ source_deep us f d (subst (λ x. Stands new us x f d) one s)
@@ -609,7 +605,7 @@ module _ (e : Edge) (old new : List Edge) (change : Changes e old new) (stay : C
               by_side : (is_start v ≡ true) ⊎ (inside us ≡ true) → is_start v ≡ true
               by_side (inl starts) = starts
               by_side (inr higher) =
-                  absurd (clash (inside us) higher (ap inside (line.one_chain new v us ws (line.chain_of new well_new us v f d s) (line.chain_of new well_new ws v f d s')) ∙ lower))
+                  absurd (not_both (inside us) higher (ap inside (line.one_chain new v us ws (line.chain_of new well_new us v f d s) (line.chain_of new well_new ws v f d s')) ∙ lower))
 
             at_start : StartsThere v → demanded_of new after v ≡ d
             at_start (is_target begun one) =
@@ -641,7 +637,7 @@ module _ (e : Edge) (old new : List Edge) (change : Changes e old new) (stay : C
                         round : v ≡ e.target → v ≡ e.source → ⊥
                         round target source =
                             let below : u ≡ v = sym (source_of_child new well_new u xs v f d s'') ∙ ap (λ (x : Edge). x.source) same ∙ sym source in
-                            clash (stands_in v (u ∷ xs)) (ap (λ x. stands_in v (x ∷ xs)) below ∙ line.itself_first v xs)
+                            not_both (stands_in v (u ∷ xs)) (ap (λ x. stands_in v (x ∷ xs)) below ∙ line.itself_first v xs)
                             (chain_apart new v (u ∷ xs) (line.chain_of new well_new (u ∷ xs) v f d s''))
 
           demanded : sort_of_ctor v.ctor ≡ Exp → demanded_of new after v ≡ d
@@ -650,12 +646,12 @@ module _ (e : Edge) (old new : List Edge) (change : Changes e old new) (stay : C
         outside_keeps us v f d s out ∙ right_before v known
         ∙ ap Some (settled_same old new records after v (under_stay e old new change v (not_source us v f d s out)) (outside_sees us v f d s out) (demanded_of old records v)
         ∙ settled_any new after v (demanded_of old records v) (demanded_of new after v)
-        (λ sort. sym (same_demand us v f d s known (or_false (is_start v) (inside us) out).1 (λ starts. absurd (clash (is_start v) starts (or_false (is_start v) (inside us) out).0)) sort))) where
+        (λ sort. sym (same_demand us v f d s known (neither (is_start v) (inside us) out).1 (λ starts. absurd (not_both (is_start v) starts (neither (is_start v) (inside us) out).0)) sort))) where
           known : IsVertexOf g v
           known = by_known (decided v) where
             by_known : IsVertexOf g v ⊎ (IsVertexOf g v → ⊥) → IsVertexOf g v
             by_known (inl is_known) = is_known
-            by_known (inr outside) = absurd (clash (inside (v ∷ us)) (came_inside us v f d s is outside) out)
+            by_known (inr outside) = absurd (not_both (inside (v ∷ us)) (came_inside us v f d s is outside) out)
 
     -- put in place of the kept records, those that were made give the records of the new graph
     pub nearby_kept : AreKept h new (put made records)
@@ -718,7 +714,7 @@ module _ (e : Edge) (old new : List Edge) (change : Changes e old new) (stay : C
               let one = line.one_chain new v a.above_it b.above_it (line.chain_of new well_new a.above_it v a.forest a.demanded a.stands) (line.chain_of new well_new b.above_it v b.forest b.demanded b.stands) in
               refuted (later_of b.before at_top.above a.before [] top e.target (sym b.chain ∙ ap (λ ws. v ∷ ws) (sym one) ∙ a.chain)) where
                 high : stands_in e.target (top ∷ at_top.above) ≡ true → ⊥
-                high stands = clash (on_line e.target) (by_side (or_cases (is_same_vertex top e.target) (stands_in e.target at_top.above) stands)) (part.off begun) where
+                high stands = not_both (on_line e.target) (by_side (or_cases (is_same_vertex top e.target) (stands_in e.target at_top.above) stands)) (part.off begun) where
                   by_side : (is_same_vertex top e.target ≡ true) ⊎ (stands_in e.target at_top.above ≡ true) → on_line e.target ≡ true
                   by_side (inl same) = ap on_line (sym (same_vertex_exact top e.target same)) ∙ top_on_line
                   by_side (inr higher) =

@@ -11,7 +11,7 @@ use Rattle.grove_edits.proofs.Vertices.{same_vertex_exact}
 use Rattle.grove_terms.specs.Forest.{Forest, none, multi_ref, cycle_ref, tree, child_edges, edges_under, AreChildren, StandsUnder}
 use Rattle.grove_terms.proofs.InLive.{IsFrom, under_lead}
 use Rattle.kept_records.specs.Change.{Changes}
-use Rattle.kept_records.proofs.Truth.{clash}
+use Rattle.grove_sorts.proofs.Truths.{not_both}
 use Rattle.kept_records.proofs.Edits.{under_stay}
 
 -- some vertices, among them the source of the edge: with an inner vertex the one above it is among them, and what others see keeps its class
@@ -21,7 +21,7 @@ module _ (e : Edge) (old new : List Edge) (change : Changes e old new) (on : Ver
   pub not_source : (v : Vertex) → on v ≡ false → is_same_vertex e.source v ≡ false
   not_source v off = by_test (is_same_vertex e.source v) refl where
     by_test : (b : Bool) → is_same_vertex e.source v ≡ b → is_same_vertex e.source v ≡ false
-    by_test true same = absurd (clash (on v) (ap on (sym (same_vertex_exact e.source v same)) ∙ source_on) off)
+    by_test true same = absurd (not_both (on v) (ap on (sym (same_vertex_exact e.source v same)) ∙ source_on) off)
     by_test false other = other
 
   -- an edge in both graphs, from a vertex that is not among them
@@ -43,7 +43,7 @@ module _ (e : Edge) (old new : List Edge) (change : Changes e old new) (on : Ver
   target_off : (d : Edge) → IsOff d → class new d.target ≡ Inner → on d.target ≡ false
   target_off d off inner = by_test (on d.target) refl where
     by_test : (b : Bool) → on d.target ≡ b → on d.target ≡ false
-    by_test true is = absurd (clash (on d.source) (closed d off.held_new inner is) off.off)
+    by_test true is = absurd (not_both (on d.source) (closed d off.held_new inner is) off.off)
     by_test false is = is
 
   class_below : (d : Edge) → IsOff d → class old d.target ≡ class new d.target

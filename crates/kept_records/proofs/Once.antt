@@ -28,7 +28,7 @@ use Rattle.mark_step.specs.Expression.{Demanded}
 use Rattle.kept_records.specs.Kept.{Kept, Records, alone, kept_of, expression_of, demanded_at, IsTreeIn, Stands}
 use Rattle.kept_records.specs.Change.{is_on_walks, StandOnce}
 use Rattle.kept_records.specs.Renewal.{MakesUnder, MakesTree, MakesTrees, names}
-use Rattle.kept_records.proofs.Truth.{clash}
+use Rattle.grove_sorts.proofs.Truths.{not_both}
 use Rattle.kept_records.proofs.Names.{has_name}
 use Rattle.kept_records.proofs.Children.{sole_parent, held_in_filter, IsTreeOf, children_are_of, tree_inner}
 use Rattle.kept_records.proofs.Standing.{one_place, child_stands, stands_under}
@@ -121,7 +121,7 @@ once_join (x ∷ xs) m ys once_x once_y out_x out_y apart = (
   itself = or_left (is_same_vertex x.0 x.0) (has_name x.0 xs) (same_vertex_itself x.0)
 
   refuted : (has_name x.0 xs ≡ true) ⊎ ((m.0 ≡ x.0) ⊎ (has_name x.0 ys ≡ true)) → ⊥
-  refuted (inl h) = clash (has_name x.0 xs) h once_x.0
+  refuted (inl h) = not_both (has_name x.0 xs) h once_x.0
   refuted (inr (inl one)) = out_x (or_left (is_same_vertex x.0 m.0) (has_name m.0 xs) (ap (is_same_vertex x.0) one ∙ same_vertex_itself x.0))
   refuted (inr (inr h)) = apart x.0 itself h
 
@@ -137,7 +137,7 @@ once_append xs [] once_x once_y apart = none_behind xs once_x where
       by_test true h rest = absurd cc
       by_test false h rest = rest h
 once_append xs (y ∷ ys) once_x once_y apart =
-    once_join xs y ys once_x once_y.1 (λ h. apart y.0 h (or_left (is_same_vertex y.0 y.0) (has_name y.0 ys) (same_vertex_itself y.0))) (λ h. clash (has_name y.0 ys) h once_y.0)
+    once_join xs y ys once_x once_y.1 (λ h. apart y.0 h (or_left (is_same_vertex y.0 y.0) (has_name y.0 ys) (same_vertex_itself y.0))) (λ h. not_both (has_name y.0 ys) h once_y.0)
     (λ w h k. apart w h (or_right (is_same_vertex y.0 w) (has_name w ys) k))
 
 -- ---- chains up
@@ -205,7 +205,7 @@ module _ (new : List Edge) (order : IsInEdgeOrder new) (well_new : AllByRecursio
 
     pub once_under : (us : List Vertex) (v : Vertex) (f : Forest) (d : Demanded) → Stands new us v f d → (some : Forest) → ((x : Edge) (b : Forest) → IsTreeIn some x b → IsTreeIn f x b) → EdgesOnce (child_edges some)
         → (made : List (Vertex × Kept)) → MakesUnder on records (demanded_at (expression_of v f d) f) some made → OnceUnder v us some made
-    once_under us v f d s none among distinct made makes = record { once_each = subst (λ ms. StandOnce (names ms)) (sym makes) tt; pass = λ w h. absurd (clash (has_name w made) h (ap (has_name w) makes)) }
+    once_under us v f d s none among distinct made makes = record { once_each = subst (λ ms. StandOnce (names ms)) (sym makes) tt; pass = λ w h. absurd (not_both (has_name w made) h (ap (has_name w) makes)) }
     once_under us v f d s (multi_ref x rest) among distinct made makes =
         let r = once_under us v f d s rest among distinct.1 made makes in
         record { once_each = r.once_each; pass = λ w h. let p = r.pass w h in record { edge = p.edge; below = p.below; is_tree = p.is_tree; passes = p.passes } }
@@ -244,7 +244,7 @@ module _ (new : List Edge) (order : IsInEdgeOrder new) (well_new : AllByRecursio
               let sole_y = sole_parent new y of_y.held (tree_inner new f under_v.children y b (among y b (inr is))) in
               let one : y ∷ [] ≡ x ∷ [] = sym sole_y ∙ ap (λ z. parents_of z new) same ∙ sole_x in
               let edge : y ≡ x = one_of y x one in
-              clash (holds_edge x (child_edges rest)) (ap (λ z. holds_edge z (child_edges rest)) (sym edge) ∙ tree_held rest y b is) distinct.0
+              not_both (holds_edge x (child_edges rest)) (ap (λ z. holds_edge z (child_edges rest)) (sym edge) ∙ tree_held rest y b is) distinct.0
             where
               one_of : (a b : Edge) → a ∷ [] ≡ b ∷ [] → a ≡ b
               one_of a b e = cc
@@ -283,7 +283,7 @@ module _ (new : List Edge) (order : IsInEdgeOrder new) (well_new : AllByRecursio
       pub pass : (w : Vertex) → has_name w made ≡ true → (head : Vertex) × (stands_in head heads ≡ true) × Passes w head []
 
     pub once_of : (heads : List Vertex) → StandOnce heads → ((v : Vertex) → stands_in v heads ≡ true → class new v ≡ Inner → ⊥) → (made : List (Vertex × Kept)) → MakesTrees on new records heads made → OnceOf heads made
-    once_of [] distinct outer made makes = record { once_each = subst (λ ms. StandOnce (names ms)) (sym makes) tt; pass = λ w h. absurd (clash (has_name w made) h (ap (has_name w) makes)) }
+    once_of [] distinct outer made makes = record { once_each = subst (λ ms. StandOnce (names ms)) (sym makes) tt; pass = λ w h. absurd (not_both (has_name w made) h (ap (has_name w) makes)) }
     once_of (head ∷ heads) distinct outer made makes =
         joined (once_of heads distinct.1 (λ v stands. outer v (or_right (is_same_vertex head v) (stands_in v heads) stands)) makes.1 makes.4) where
           t : MakesTree on new records head makes.0
@@ -324,7 +324,7 @@ module _ (new : List Edge) (order : IsInEdgeOrder new) (well_new : AllByRecursio
             once_each = subst (λ ms. StandOnce (names ms)) (sym makes.2)
                 (once_append makes.0 makes.1 one_once rest.once_each
                 (λ w h k. let q = rest.pass w k in
-                clash (stands_in head heads) (ap (λ z. stands_in z heads) (one_turn w head q.0 [] (one_pass w h) q.2) ∙ q.1) distinct.0));
+                not_both (stands_in head heads) (ap (λ z. stands_in z heads) (one_turn w head q.0 [] (one_pass w h) q.2) ∙ q.1) distinct.0));
             pass = λ w h. by_side w (split_names w makes.0 makes.1 (ap (has_name w) (sym makes.2) ∙ h));
           } where
             split_names : (w : Vertex) (xs ys : List (Vertex × Kept)) → has_name w (xs ++ ys) ≡ true → (has_name w xs ≡ true) ⊎ (has_name w ys ≡ true)

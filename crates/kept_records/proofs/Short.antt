@@ -28,7 +28,7 @@ use Rattle.kept_records.specs.Local.{kept_demand}
 use Rattle.kept_records.specs.Change.{Changes, CyclesStay, IsNear, StandOnce, AreNear, weight, near_size}
 use Rattle.kept_records.specs.Renewal.{IsLeft, names, put}
 use Rattle.kept_records.specs.Short.{SourceAloneSees, LeadsUp, IsJudgedAnew, IsShortWalk, TypeStays}
-use Rattle.kept_records.proofs.Truth.{clash}
+use Rattle.grove_sorts.proofs.Truths.{not_both}
 use Rattle.kept_records.proofs.Sorts.{IsJudged}
 use Rattle.kept_records.proofs.Children.{all_held, held_under}
 use Rattle.kept_records.proofs.Standing.{stands_under}
@@ -53,7 +53,7 @@ vertex_or edits v = by_test (stands_in v (vertices_of edits)) refl where
 
   by_test : (b : Bool) → stands_in v (vertices_of edits) ≡ b → IsVertexOf (graph edits) v ⊎ (IsVertexOf (graph edits) v → ⊥)
   by_test true stands = inl (are.no_other v stands)
-  by_test false out = inr (λ is. clash (stands_in v (vertices_of edits)) (are.each v is) out)
+  by_test false out = inr (λ is. not_both (stands_in v (vertices_of edits)) (are.each v is) out)
 
 module _ (edits : List Edit) (edit : Edit) (old new : List Edge) (live_old : AreLive (graph edits) old) (live_new : AreLive (graph (edit ∷ edits)) new) where
   abbrev e : Edge
@@ -120,14 +120,14 @@ module _ (edits : List Edit) (edit : Edit) (old new : List Edge) (live_old : Are
             known = by_known (vertex_or edits v) where
               by_known : IsVertexOf g v ⊎ (IsVertexOf g v → ⊥) → IsVertexOf g v
               by_known (inl is_known) = is_known
-              by_known (inr outside) = absurd (clash (on v) (anew.came_on v is outside) left.0)
+              by_known (inr outside) = absurd (not_both (on v) (anew.came_on v is outside) left.0)
 
         -- what is left below the top has its record still
         pub left_below_top : (us vs : List Vertex) (v : Vertex) (f : Forest) (d : Demanded) → Stands new (us ++ top ∷ vs) v f d → IsVertexOf (graph (edit ∷ edits)) v → IsLeft on records v d → records v ≡ Some (kept_of v f d)
         left_below_top us vs v f d s is left = left_off_line (us ++ top ∷ vs) v f d s is left (false_from_ne_true (line.on_line e old new change stay v) refuted) where
           refuted : line.on_line e old new change stay v ≡ true → ⊥
           refuted there =
-              clash (on v)
+              not_both (on v)
               (anew.way_on v (line.below_on_way e old new change stay way top leads v (us ++ top ∷ vs) (line.chain_of new (well_new edits edit old new live_old live_new) (us ++ top ∷ vs) v f d s)
               (line.stands_behind us top (top ∷ vs) (line.itself_first top vs)) there)) left.0
 
@@ -147,7 +147,7 @@ module _ (edits : List Edit) (edit : Edit) (old new : List Edge) (live_old : Are
                   let chain = line.chain_of new (well_new edits edit old new live_old live_new) (us ++ e.target ∷ vs) v f d s in
                   let r = line.find_on new e.source (line.rises e old new change stay) (has_chain new e.source).is v there in
                   let same = line.one_chain new v r.behind (us ++ e.target ∷ vs) r.chain chain in
-                  clash (line.on_line e old new change stay e.target)
+                  not_both (line.on_line e old new change stay e.target)
                   (ap (stands_in e.target) (r.split ∙ ap (λ ws. r.before ++ v ∷ ws) same)
                   ∙ line.stands_behind r.before e.target (v ∷ (us ++ e.target ∷ vs))
                   (or_right (is_same_vertex v e.target) (stands_in e.target (us ++ e.target ∷ vs)) (line.stands_behind us e.target (e.target ∷ vs) (line.itself_first e.target vs)))) off
@@ -160,7 +160,7 @@ chain_once live v (w ∷ ws) is = (chain_apart live v (w ∷ ws) is, chain_once 
 
 part_once : (xs ys : List Vertex) → StandOnce (xs ++ ys) → StandOnce xs
 part_once [] ys once = tt
-part_once (x ∷ xs) ys once = (false_from_ne_true (stands_in x xs) (λ is. clash (stands_in x (xs ++ ys)) (line.stands_ahead xs x ys is) once.0), part_once xs ys once.1)
+part_once (x ∷ xs) ys once = (false_from_ne_true (stands_in x xs) (λ is. not_both (stands_in x (xs ++ ys)) (line.stands_ahead xs x ys is) once.0), part_once xs ys once.1)
 
 -- a way is part of the walk up
 pub way_within_walk : (live : List Edge) (v : Vertex) (way : List Vertex) (top : Vertex) → LeadsUp live v way top → suc (length way) ≤ length (walk live v)
@@ -200,7 +200,7 @@ goes_within live within closed passed o first (x ∷ xs) g v stands =
 pub off_walk_by_way : (live : List Edge) (target v : Vertex) (way : List Vertex) (top : Vertex) → LeadsUp live v way top → above live top ≡ None → stands_in target (v ∷ way) ≡ false → stands_in target (walk live v) ≡ false
 off_walk_by_way live target v way top leads ends off =
     false_from_ne_true (stands_in target (walk live v))
-    (λ there. clash (stands_in target (v ∷ way))
+    (λ there. not_both (stands_in target (v ∷ way))
     (goes_within live (v ∷ way) (way_closed live v way top leads ends) [] (Some v) (λ w is. ap (λ z. stands_in z (v ∷ way)) (sym (some_same v w is)) ∙ line.itself_first v way) (walk live v) (walk_is live v) target there) off)
 
 -- a vertex with nothing under it is above no other
@@ -213,7 +213,7 @@ off_walk_by_leaf edits live are target v leaf other =
       refuted (inr s) =
           let well : IsWellFormed s.edge = all_held IsWellFormed live (live_well_formed edits live are) s.edge s.held in
           let held : holds_edge s.edge (edges_under live s.edge.source) ≡ true = held_under live s.edge s.held well in
-          clash (holds_edge s.edge (edges_under live target)) (ap (λ z. holds_edge s.edge (edges_under live z)) (sym s.source) ∙ held) (ap (holds_edge s.edge) leaf)
+          not_both (holds_edge s.edge (edges_under live target)) (ap (λ z. holds_edge s.edge (edges_under live z)) (sym s.source) ∙ held) (ap (holds_edge s.edge) leaf)
 
 -- ---- the roots of cycles
 

@@ -13,10 +13,9 @@ use Rattle.grove_edits.specs.Graph.{is_same_edge}
 use Rattle.grove_edits.proofs.Orders.{one_edge}
 use Rattle.walks.specs.Live.{holds_edge}
 use Rattle.edge_numbers.specs.Numbered.{Numbered, edges_of, edge_at, no_edge, BeginsWith, HasEndsIn, KeepsNumbers}
-use Rattle.walks.specs.States.{Entries, state_in}
+use Rattle.walks.specs.States.{Entries, state_in, is_live}
 use Rattle.edge_lists.specs.Lists.{Listed, numbers_at, AreEdgeNumbers}
 use Rattle.edge_lists.specs.Order.{IsInOrder}
-use Rattle.live_graph.specs.Live.{is_live}
 use Rattle.live_graph.specs.Around.{once, is_at, total, idle, idle_weight, AreAround, HasPlace, KeepsLists}
 use Rattle.live_graph.proofs.Numbers.{is_at-more, edges_stay, known_still}
 use Rattle.live_graph.proofs.Totals.{total-push, total-congr}

@@ -6,7 +6,7 @@ use Rattle.std.specs.declared.cmp.Ordering.{Ordering}
 use Rattle.std.specs.declared.cmp.Ordering.TheVariants.{Less, Equal, Greater}
 use Rattle.std.proofs.lemmas.Bool.{eqb-true, eqb-false, eq-eqb}
 use Rattle.edge_lattice.specs.declared.state.State.{State}
-use Rattle.grove_sorts.proofs.Truths.{or_swap}
+use Rattle.grove_sorts.proofs.Truths.{or_swap, or_again}
 use Rattle.grove_edits.specs.declared.vertex.Vertex.{Vertex}
 use Rattle.grove_edits.specs.declared.edge.Edge.{Edge}
 use Rattle.grove_edits.specs.Vertex.{is_same_vertex}
@@ -16,11 +16,10 @@ use Rattle.walks.specs.Live.{holds_edge}
 use Rattle.walks.specs.Ordered.{put_before, without_edge}
 use Rattle.walks.proofs.Ordered.{holds-filter}
 use Rattle.edge_numbers.specs.Numbered.{Numbered, edges_of, edge_at, state_at, IsEdgeNumber, IsNumberOfVertex}
-use Rattle.walks.specs.States.{state_in, with_state}
+use Rattle.walks.specs.States.{state_in, with_state, is_live}
 use Rattle.edge_numbers.proofs.States.{state_numbered}
 use Rattle.edge_lists.specs.Lists.{Listed, listed_at, numbers_at, places_at, edges_at, holds_number, without_number, AreEdgeNumbers, HasVertex, HasFreePlace, KeepsOthers}
 use Rattle.edge_lists.specs.Order.{IsInOrder, with_edge_by, by_edge, with_number}
-use Rattle.live_graph.specs.Live.{is_live}
 use Rattle.live_graph.specs.Around.{once, is_at, total, idle, idle_weight, AreAround, IsStateSet}
 use Rattle.live_graph.proofs.Numbers.{is_at-number, one_number, within_edges, held_number, edges_stay, known_still, has_list, length-without_number, length-with_number}
 use Rattle.live_graph.proofs.Totals.{total-at, total-set}
@@ -28,10 +27,6 @@ use Rattle.live_graph.proofs.Totals.{total-at, total-set}
 and_false : (b : Bool) → (b && false) ≡ false
 and_false true = refl
 and_false false = refl
-
-or_again : (a b : Bool) → (a || b) ≡ (a || (a || b))
-or_again true b = refl
-or_again false b = refl
 
 holds-with_edge_by : (order : Edge → Edge → Ordering) → ((a b : Edge) → order a b ≡ Equal → a ≡ b) → (e x : Edge) (xs : List Edge) → holds_edge e (with_edge_by order x xs) ≡ (is_same_edge x e || holds_edge e xs)
 holds-with_edge_by order exact e x [] = refl

@@ -15,10 +15,10 @@ use Rattle.grove_edits.proofs.Vertices.{same_vertex_exact, same_vertex_itself}
 use Rattle.walks.specs.Live.{IsInEdgeOrder, holds_edge, children_of, parents_of}
 use Rattle.walks.proofs.Ordered.{holds-filter, in_order-filter, same_lists}
 use Rattle.edge_numbers.specs.Numbered.{Numbered, edges_of, edge_at, HasEndsIn, IsNumberOfVertex}
-use Rattle.walks.specs.States.{state_in}
+use Rattle.walks.specs.States.{state_in, is_live}
 use Rattle.edge_lists.specs.Lists.{Listed, numbers_at, edges_at, with_position, numbers_with_position, holds_number, AreEdgeNumbers}
 use Rattle.edge_lists.specs.Order.{IsInOrder, position_first}
-use Rattle.live_graph.specs.Live.{is_live, live}
+use Rattle.live_graph.specs.Live.{live}
 use Rattle.live_graph.specs.Around.{is_at, AreAround, source_of, target_of}
 use Rattle.live_graph.proofs.Around.{of_live}
 use Rattle.live_graph.proofs.Lives.{in_order-live, holds-live}

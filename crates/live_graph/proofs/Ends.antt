@@ -5,7 +5,7 @@ use Rattle.std.specs.List.{IsDistinct, list_any}
 use Rattle.std.proofs.lemmas.List.{take_all}
 use Rattle.std.proofs.lemmas.List.Folds.{list_any_more}
 use Rattle.edge_lattice.specs.declared.state.State.{State}
-use Rattle.edge_lattice.specs.declared.state.State.TheVariants.{Absent, Live, Deleted}
+use Rattle.edge_lattice.specs.declared.state.State.TheVariants.{Absent}
 use Rattle.grove_edits.specs.declared.vertex.Vertex.{Vertex}
 use Rattle.grove_edits.specs.declared.edge.Edge.{Edge}
 use Rattle.grove_edits.specs.Vertex.{is_same_vertex, stands_in, root}
@@ -17,6 +17,8 @@ use Rattle.edge_numbers.specs.Numbered.{edges_of, states_of, no_edge}
 use Rattle.walks.specs.States.{Entries, state_in, entry_at, is_present}
 use Rattle.live_graph.specs.Ends.{has_end, IsEndIn}
 use Rattle.live_graph.proofs.Lives.{absent_apart}
+use Rattle.grove_sorts.proofs.Truths.{or_false}
+use Rattle.walks.proofs.Truths.{present_from_test, test_from_present}
 
 -- the entry with a number is its edge and its state
 pub entry_with_number : (es : Entries) (n : ℕ) → n < length es → get_or es n (no_edge, Absent) ≡ (get_or (edges_of es) n no_edge, get_or (states_of es) n Absent)
@@ -28,16 +30,12 @@ or_right : (b : Bool) {c : Bool} → c ≡ true → (b || c) ≡ true
 or_right true h = refl
 or_right false h = h
 
-pub or_none : (b : Bool) → (b || false) ≡ b
-or_none true = refl
-or_none false = refl
-
 pub or_assoc : (a b c : Bool) → ((a || b) || c) ≡ (a || (b || c))
 or_assoc true b c = refl
 or_assoc false b c = refl
 
 stands_in-push : (v x : Vertex) (xs : List Vertex) → stands_in v (xs ++ x ∷ []) ≡ (stands_in v xs || is_same_vertex x v)
-stands_in-push v x [] = or_none (is_same_vertex x v)
+stands_in-push v x [] = or_false (is_same_vertex x v)
 stands_in-push v x (y ∷ ys) = ap (λ b. is_same_vertex y v || b) (stands_in-push v x ys) ∙ sym (or_assoc (is_same_vertex y v) (stands_in v ys) (is_same_vertex x v))
 
 -- ---- the loop
@@ -57,36 +55,26 @@ module _ (all : Entries) (n : ℕ) (within : n < length all) (state : State) (is
       ∙ ap (λ s. list_any (has_end v) (take n all) || (is_present s && (is_same_vertex edge.source v || is_same_vertex edge.target v))) (sym is_state)
 
   pub ends_more : (vertices more : List Vertex) → is_present state ≡ true → more ≡ (vertices ++ edge.source ∷ []) ++ edge.target ∷ [] → HasEndsSoFar all n vertices → HasEndsSoFar all (n + 1) more
-  ends_more vertices more present is so_far v =
+  ends_more vertices more test_from_present is so_far v =
       let r = is_same_vertex root v in
       let l = list_any (has_end v) (take n all) in
       let s = is_same_vertex edge.source v in
       let t = is_same_vertex edge.target v in
       ap (stands_in v) is ∙ stands_in-push v edge.target (vertices ++ edge.source ∷ []) ∙ ap (λ b. b || t) (stands_in-push v edge.source vertices)
       ∙ ap (λ b. (b || s) || t) (so_far v) ∙ or_assoc (r || l) s t ∙ or_assoc r l (s || t)
-      ∙ ap (λ b. r || (l || (b && (s || t)))) (sym present) ∙ ap (λ b. r || b) (sym (any_more v))
+      ∙ ap (λ b. r || (l || (b && (s || t)))) (sym test_from_present) ∙ ap (λ b. r || b) (sym (any_more v))
 
   pub ends_skipped : (vertices : List Vertex) → is_present state ≡ false → HasEndsSoFar all n vertices → HasEndsSoFar all (n + 1) vertices
   ends_skipped vertices absent so_far v =
       let l = list_any (has_end v) (take n all) in
       let ends = is_same_vertex edge.source v || is_same_vertex edge.target v in
-      so_far v ∙ ap (λ b. is_same_vertex root v || b) (sym (or_none l) ∙ ap (λ b. l || (b && ends)) (sym absent) ∙ sym (any_more v))
+      so_far v ∙ ap (λ b. is_same_vertex root v || b) (sym (or_false l) ∙ ap (λ b. l || (b && ends)) (sym absent) ∙ sym (any_more v))
 
 pub all_ends : (all : Entries) (n : ℕ) (vertices : List Vertex) → length all ≡ n → HasEndsSoFar all n vertices
     → (v : Vertex) → stands_in v vertices ≡ (is_same_vertex root v || list_any (has_end v) all)
 all_ends all n vertices count so_far v = so_far v ∙ ap (λ (es : Entries). is_same_vertex root v || list_any (has_end v) es) (take_all n all (omega (arith, count)))
 
 -- ---- the graph
-
-pub present : (s : State) → s ≢ Absent → is_present s ≡ true
-present Absent some = absurd (some refl)
-present Live some = refl
-present Deleted some = refl
-
-pub not_absent : (s : State) → is_present s ≡ true → s ≢ Absent
-not_absent Absent is none = absurd cc
-not_absent Live is none = absurd cc
-not_absent Deleted is none = absurd cc
 
 pub an_end : (e : Edge) (v : Vertex) → (e.source ≡ v) ⊎ (e.target ≡ v) → (is_same_vertex e.source v || is_same_vertex e.target v) ≡ true
 an_end e v (inl from) = ap (λ b. b || is_same_vertex e.target v) (ap (λ w. is_same_vertex w v) from ∙ same_vertex_itself v)
@@ -106,7 +94,7 @@ end_held (x ∷ xs) e v some end = by_test (is_same_edge e x.0) refl some (λ la
       → (has_end v x || list_any (has_end v) xs) ≡ true
   by_test true same some _ =
       let here : has_end v x ≡ true =
-      ap (λ b. b && (is_same_vertex x.0.source v || is_same_vertex x.0.target v)) (present x.1 some) ∙ ap (λ (f : Edge). is_same_vertex f.source v || is_same_vertex f.target v) (sym (one_edge e x.0 same)) ∙ an_end e v end in
+      ap (λ b. b && (is_same_vertex x.0.source v || is_same_vertex x.0.target v)) (test_from_present x.1 some) ∙ ap (λ (f : Edge). is_same_vertex f.source v || is_same_vertex f.target v) (sym (one_edge e x.0 same)) ∙ an_end e v end in
       ap (λ b. b || list_any (has_end v) xs) here
   by_test false _ some rest = or_right (has_end v x) (rest some)
 
@@ -128,7 +116,7 @@ held_end (x ∷ xs) v once held = by_test (has_end v x) refl held (λ later. hel
   by_test : (b : Bool) → has_end v x ≡ b → (b || list_any (has_end v) xs) ≡ true → (list_any (has_end v) xs ≡ true → IsEndIn xs v) → IsEndIn (x ∷ xs) v
   by_test true here _ _ =
       let ends = is_same_vertex x.0.source v || is_same_vertex x.0.target v in
-      let some : x.1 ≢ Absent = not_absent x.1 (and_left (is_present x.1) ends here) in
+      let some : x.1 ≢ Absent = present_from_test x.1 (and_left (is_present x.1) ends here) in
       (x.0, subst (λ s. s ≢ Absent) (sym state_of_first) some, of_end x.0 v (and_right (is_present x.1) ends here))
   by_test false _ later rest = let found = rest later in (found.0, by_edge found.0 (is_same_edge found.0 x.0) refl found.1, found.2) where
     by_edge : (e : Edge) (b : Bool) → is_same_edge e x.0 ≡ b → state_in xs e ≢ Absent → state_in (x ∷ xs) e ≢ Absent

@@ -14,13 +14,12 @@ use Rattle.grove_edits.specs.Vertex.{is_same_vertex, stands_in, root}
 use Rattle.grove_edits.specs.Edge.{edge_cmp}
 use Rattle.grove_edits.specs.Graph.{is_same_edge}
 use Rattle.edge_numbers.specs.Numbered.{Numbered, edges_of, state_at, with_entry, IsEdgeNumber, BeginsWith, HasEndsIn, IsNumberOfVertex, KeepsNumbers}
-use Rattle.walks.specs.States.{Entries, state_in}
+use Rattle.walks.specs.States.{Entries, state_in, is_live}
 use Rattle.edge_numbers.proofs.Vertices.{numbered_stands}
 use Rattle.edge_lists.specs.Lists.{Listed, numbers_at, places_at}
 use Rattle.edge_lists.specs.Order.{position_first}
 use Rattle.live_graph.specs.Around.{once, is_at, idle, AreAround, HasPlace, KeepsLists, IsListed, IsStateSet, source_of, target_of}
 use Rattle.live_graph.proofs.Numbers.{is_at-number, kept_fits}
-use Rattle.live_graph.specs.Live.{is_live}
 use Rattle.live_graph.proofs.Around.{around-places, around-vertices, place-vertices, around-push}
 use Rattle.live_graph.proofs.Changes.{around-kept}
 

@@ -3,8 +3,7 @@ use Rattle.std.proofs.Common.{◌≡◌, Bool, true, false, cond, [], ◌∷◌,
 use Rattle.std.specs.Prelude.{◌||◌, unwrap_or}
 use Rattle.std.specs.List.{AllByRecursion, IsDistinct, list_any}
 use Rattle.std.specs.Map.{lookup}
-use Rattle.edge_lattice.specs.declared.state.State.{State}
-use Rattle.edge_lattice.specs.declared.state.State.TheVariants.{Absent, Live, Deleted}
+use Rattle.edge_lattice.specs.declared.state.State.TheVariants.{Absent}
 use Rattle.grove_edits.specs.declared.edge.Edge.{Edge}
 use Rattle.grove_edits.specs.Graph.{is_same_edge}
 use Rattle.grove_edits.proofs.Orders.{one_edge, same_edge_laws}
@@ -13,8 +12,9 @@ use Rattle.walks.specs.Whole.{AreLive}
 use Rattle.walks.specs.Ordered.{with_edge}
 use Rattle.walks.proofs.Ordered.{holds-with_edge, in_order-with_edge}
 use Rattle.edge_numbers.specs.Numbered.{edges_of, with_entry}
-use Rattle.walks.specs.States.{Entries, state_in}
-use Rattle.live_graph.specs.Live.{is_live, live}
+use Rattle.walks.specs.States.{Entries, state_in, is_live}
+use Rattle.live_graph.specs.Live.{live}
+use Rattle.walks.proofs.Truths.{live_from_test}
 
 pub in_order-live : (entries : Entries) → IsInEdgeOrder (live entries)
 in_order-live [] = tt
@@ -62,11 +62,6 @@ live-entered e entries = by_test (list_any (is_same_edge e) (edges_of entries)) 
   by_test false = live-push e entries
 
 -- ---- all that is live
-
-live_from_test : (s : State) → is_live s ≡ true → s ≡ Live
-live_from_test Absent h = absurd cc
-live_from_test Live h = refl
-live_from_test Deleted h = absurd cc
 
 pub are_live : (entries : Entries) → IsDistinct is_same_edge (edges_of entries) → AreLive (state_in entries) (live entries)
 are_live entries once = record {

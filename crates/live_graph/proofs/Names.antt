@@ -22,9 +22,11 @@ use Rattle.walks.specs.States.{entry_at, state_in, is_present}
 use Rattle.edge_numbers.proofs.States.{state_numbered}
 use Rattle.edge_lists.specs.Lists.{holds_number}
 use Rattle.numbers_by_name.specs.ByName.{Lists, numbers_of, is_same_name}
-use Rattle.live_graph.specs.NamedEdges.{AreNamed}
+use Rattle.walks.specs.Named.{AreNamed}
 use Rattle.live_graph.specs.ByName.{is_named, is_named_edge, KeepsNames, HasEdgeNames}
-use Rattle.live_graph.proofs.Ends.{present, not_absent, and_left, and_right, or_none}
+use Rattle.live_graph.proofs.Ends.{and_left, and_right}
+use Rattle.walks.proofs.Truths.{test_from_present, present_from_test}
+use Rattle.grove_sorts.proofs.Truths.{or_false}
 use Rattle.live_graph.proofs.Numbers.{one_number, within_edges, number_of_room}
 
 -- ---- what is found
@@ -32,11 +34,11 @@ use Rattle.live_graph.proofs.Numbers.{one_number, within_edges, number_of_room}
 pub pushed_named : (edges : Numbered) (name : Name) (n : ℕ) (found more : List Edge) (x : Edge) → is_named edges name n ≡ true → x ≡ edge_at edges n → more ≡ found ++ x ∷ []
     → (e : Edge) → holds_edge e more ≡ (holds_edge e found || is_named_edge edges name e n)
 pushed_named edges name n found more x named at is e =
-    ap (holds_edge e) is ∙ list_any-append (λ y. is_same_edge y e) found (x ∷ []) ∙ ap (λ b. holds_edge e found || b) (or_none (is_same_edge x e))
+    ap (holds_edge e) is ∙ list_any-append (λ y. is_same_edge y e) found (x ∷ []) ∙ ap (λ b. holds_edge e found || b) (or_false (is_same_edge x e))
     ∙ ap (λ y. holds_edge e found || is_same_edge y e) at ∙ ap (λ b. holds_edge e found || (b && is_same_edge (edge_at edges n) e)) (sym named)
 
 pub passed_named : (edges : Numbered) (name : Name) (n : ℕ) (found : List Edge) → is_named edges name n ≡ false → (e : Edge) → holds_edge e found ≡ (holds_edge e found || is_named_edge edges name e n)
-passed_named edges name n found not_named e = sym (or_none (holds_edge e found)) ∙ ap (λ b. holds_edge e found || (b && is_same_edge (edge_at edges n) e)) (sym not_named)
+passed_named edges name n found not_named e = sym (or_false (holds_edge e found)) ∙ ap (λ b. holds_edge e found || (b && is_same_edge (edge_at edges n) e)) (sym not_named)
 
 -- ---- the edges with a name
 
@@ -82,7 +84,7 @@ module _ (edges : Numbered) (once : IsDistinct is_same_edge (edges_of edges.entr
   told_edge name n is =
       let within : IsEdgeNumber edges n = ltb-true n (length edges.entries) (and_left (nat_lt n (length edges.entries)) (is_same_name (edge_at edges n).name name && is_present (state_at edges n)) is) in
       let both = and_right (nat_lt n (length edges.entries)) (is_same_name (edge_at edges n).name name && is_present (state_at edges n)) is in
-      let some = not_absent (state_at edges n) (and_right (is_same_name (edge_at edges n).name name) (is_present (state_at edges n)) both) in
+      let some = present_from_test (state_at edges n) (and_right (is_same_name (edge_at edges n).name name) (is_present (state_at edges n)) both) in
       (one_name (edge_at edges n).name name (and_left (is_same_name (edge_at edges n).name name) (is_present (state_at edges n)) both), subst (λ s. s ≢ Absent) (sym (state_there n within)) some)
 
   module _ (names : Lists) (has : HasEdgeNames edges names) (name : Name) where
@@ -93,7 +95,7 @@ module _ (edges : Numbered) (once : IsDistinct is_same_edge (edges_of edges.entr
         let n = number.0 in
         let at : edge_at edges n ≡ e = number.1.1 in
         let name_is : (edge_at edges n).name ≡ name = ap (λ (f : Edge). f.name) at ∙ named in
-        let present_there : is_present (state_at edges n) ≡ true = ap is_present (sym (state_there n number.1.0) ∙ ap (state_in edges.entries) at) ∙ present (state_in edges.entries e) some in (
+        let present_there : is_present (state_at edges n) ≡ true = ap is_present (sym (state_there n number.1.0) ∙ ap (state_in edges.entries) at) ∙ test_from_present (state_in edges.entries e) some in (
           n,
           at,
           ap (λ m. holds_number n (numbers_of names m)) (sym name_is) ∙ has n number.1.0,

@@ -7,7 +7,7 @@ use Rattle.std.specs.declared.cmp.Ordering.TheVariants.{Less, Equal, Greater}
 use lib.Dec.{eqb-suc-zero}
 use Rattle.std.proofs.lemmas.List.{length-map}
 use Rattle.edge_lattice.specs.declared.state.State.{State}
-use Rattle.grove_sorts.proofs.Truths.{or_swap}
+use Rattle.grove_sorts.proofs.Truths.{or_swap, or_again}
 use Rattle.grove_edits.specs.declared.vertex.Vertex.{Vertex}
 use Rattle.grove_edits.specs.declared.edge.Edge.{Edge}
 use Rattle.grove_edits.specs.Edge.{edge_cmp}
@@ -19,16 +19,12 @@ use Rattle.walks.specs.Live.{targets_of, parents_of}
 use Rattle.walks.specs.Ordered.{with_edge, put_before}
 use Rattle.walks.proofs.Ordered.{holds-with_edge, in_order-with_edge, same_lists}
 use Rattle.edge_numbers.specs.Numbered.{Numbered, edges_of, edge_at, vertex_at, IsVertexNumber}
-use Rattle.walks.specs.States.{Entries, state_in, with_state}
+use Rattle.walks.specs.States.{Entries, state_in, with_state, is_live}
 use Rattle.edge_lists.specs.Lists.{Listed, numbers_at}
-use Rattle.live_graph.specs.Live.{is_live, live}
+use Rattle.live_graph.specs.Live.{live}
 use Rattle.live_graph.specs.Around.{once, AreAround, target_of}
 use Rattle.live_graph.proofs.Children.{parents_listed}
 use Rattle.live_graph.proofs.Lives.{in_order-live, holds-live}
-
-or_twice : (b c : Bool) → (b || c) ≡ (b || (b || c))
-or_twice true c = refl
-or_twice false c = refl
 
 -- ---- which vertices are targets
 
@@ -49,7 +45,7 @@ stands-with_edge v x (y ∷ ys) = by_order (edge_cmp x y) refl (stands-with_edge
   by_order Less _ _ = stands-targets v x (y ∷ ys)
   by_order Equal tie _ =
       let st = stands_in v (targets_of ys) in
-      stands-targets v y ys ∙ or_twice (is_same_vertex y.target v) st ∙ ap (λ (e : Edge). is_same_vertex e.target v || (is_same_vertex y.target v || st)) (sym (edge_cmp_exact x y tie))
+      stands-targets v y ys ∙ or_again (is_same_vertex y.target v) st ∙ ap (λ (e : Edge). is_same_vertex e.target v || (is_same_vertex y.target v || st)) (sym (edge_cmp_exact x y tie))
       ∙ ap (λ b. is_same_vertex x.target v || b) (sym (stands-targets v y ys))
   by_order Greater _ rest =
       stands-targets v y (with_edge x ys) ∙ ap (λ b. is_same_vertex y.target v || b) rest

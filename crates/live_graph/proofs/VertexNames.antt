@@ -23,7 +23,8 @@ use Rattle.live_graph.proofs.Numbers.{is_at-number, within_edges}
 use Rattle.live_graph.proofs.Totals.{total-at}
 use Rattle.live_graph.proofs.Children.{is_at-same}
 use Rattle.live_graph.proofs.Counts.{all_at}
-use Rattle.live_graph.proofs.Ends.{held_end, present, and_left, and_right}
+use Rattle.live_graph.proofs.Ends.{held_end, and_left, and_right}
+use Rattle.walks.proofs.Truths.{test_from_present}
 use Rattle.live_graph.proofs.Names.{state_there, number_of_present, any_held, any_found, same_name, one_name}
 use Rattle.live_graph.proofs.LeastTwo.{least_two_iff}
 
@@ -32,7 +33,7 @@ or_right true h = refl
 or_right false h = h
 
 -- what counts at a number is an end there
-some_end : (present from to : Bool) → 0 < once (present && from) + once (present && to) → (present && (from || to)) ≡ true
+some_end : (test_from_present from to : Bool) → 0 < once (test_from_present && from) + once (test_from_present && to) → (test_from_present && (from || to)) ≡ true
 some_end true true to above = refl
 some_end true false true above = refl
 some_end true false false above = absurd (omega (arith, above))
@@ -87,7 +88,7 @@ module _ (edges : Numbered) (once_edges : IsDistinct is_same_edge (edges_of edge
     stands (inr to) = subst (λ w. stands_in w (take (length uses) edges.vertices) ≡ true) to has.1
 
     there : is_present (state_at edges number.0) ≡ true
-    there = ap is_present (sym (state_there edges once_edges number.0 number.1) ∙ ap (state_in edges.entries) number.2) ∙ present (state_in edges.entries end.0) end.1
+    there = ap is_present (sym (state_there edges once_edges number.0 number.1) ∙ ap (state_in edges.entries) number.2) ∙ test_from_present (state_in edges.entries end.0) end.1
 
     counts : (n : ℕ) → is_at edges.vertices v n ≡ true → (end.0.source ≡ v) ⊎ (end.0.target ≡ v) → 1 ≤ use_weight edges.vertices n (edge_at edges number.0) (state_at edges number.0)
     counts n at (inl from) =

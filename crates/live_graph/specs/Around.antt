@@ -8,10 +8,9 @@ use Rattle.grove_edits.specs.Vertex.{is_same_vertex}
 use Rattle.grove_edits.specs.Edge.{edge_cmp}
 use Rattle.walks.specs.Live.{holds_edge}
 use Rattle.edge_numbers.specs.Numbered.{Numbered, edges_of, states_of, edge_at, KeepsNumbers}
-use Rattle.walks.specs.States.{Entries, state_in, with_state}
+use Rattle.walks.specs.States.{Entries, state_in, with_state, is_live}
 use Rattle.edge_lists.specs.Lists.{Listed, numbers_at, places_at, edges_at, AreEdgeNumbers}
 use Rattle.edge_lists.specs.Order.{IsInOrder, position_first}
-use Rattle.live_graph.specs.Live.{is_live}
 
 abbrev pub once : Bool → ℕ
 once true = 1

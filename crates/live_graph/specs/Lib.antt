@@ -4,7 +4,6 @@ pub mod Around
 pub mod Listed
 pub mod Ends
 pub mod Kept
-pub mod NamedEdges
 pub mod ByName
 pub mod Uses
 pub mod Greatest

@@ -1,15 +1,9 @@
 -- The live edges of a graph that is given by the states of some edges.
-use Rattle.std.specs.Prelude.{Bool, true, false, List, [], ◌∷◌, if◌then◌else◌}
-use Rattle.edge_lattice.specs.declared.state.State.{State}
-use Rattle.edge_lattice.specs.declared.state.State.TheVariants.{Absent, Live, Deleted}
+use Rattle.std.specs.Prelude.{List, [], ◌∷◌, if◌then◌else◌}
 use Rattle.grove_edits.specs.declared.edge.Edge.{Edge}
 use Rattle.walks.specs.Ordered.{with_edge}
 use Rattle.walks.specs.States.{Entries}
-
-abbrev pub is_live : State → Bool
-is_live Absent = false
-is_live Live = true
-is_live Deleted = false
+use Rattle.walks.specs.States.{is_live}
 
 -- the live edges, in edge order
 abbrev pub live : Entries → List Edge

@@ -10,9 +10,8 @@ ghost use Rattle.walks.specs.States.{state_in, with_state, HasRoom, KeepsRoom, w
 ghost use Rattle.walks.specs.Change.{IsChange};
 ghost use Rattle.walks.specs.Names.{IsGreatest, IsNameOf};
 ghost use Rattle.live_graph.specs.Live.{live};
-ghost use Rattle.live_graph.specs.NamedEdges.{AreNamed};
+ghost use Rattle.walks.specs.Named.{AreNamed, AreLeastTwo, IsVertexNamed};
 ghost use Rattle.live_graph.specs.NumberOf.{IsNumberOf, KeepsNumbersOf};
-ghost use Rattle.walks.specs.Named.{AreLeastTwo, IsVertexNamed};
 
 use crate::by_name::{find, name_next_edge, sort_edges, with_name};
 use crate::edges::Edges;

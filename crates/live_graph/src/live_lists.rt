@@ -2,8 +2,7 @@ ghost use Rattle.std.specs.Prelude.{◌≡◌, ◌<◌, ◌^◌, length, true, f
 ghost use Rattle.edge_lattice.specs.declared.state.State.{State};
 ghost use Rattle.grove_edits.specs.declared.edge.Edge.{Edge};
 ghost use Rattle.edge_numbers.specs.Numbered.{Numbered, state_at, with_entry, edge_at, IsEdgeNumber};
-ghost use Rattle.walks.specs.States.{state_in, with_state, KeepsRoom};
-ghost use Rattle.live_graph.specs.Live.{is_live};
+ghost use Rattle.walks.specs.States.{state_in, with_state, KeepsRoom, is_live};
 ghost use Rattle.live_graph.specs.NumberOf.{IsNumberOf, KeepsNumbersOf};
 ghost use Rattle.live_graph.specs.Around.{IsListed, IsStateSet};
 ghost use Rattle.live_graph.specs.Uses.{AreUses, HasVertexNames};

@@ -14,8 +14,7 @@ use Rattle.grove_edits.specs.Graph.{Graph, graph, graph_join, IsSame}
 use Rattle.grove_edits.specs.Vertex.{is_same_vertex, stands_in}
 use Rattle.grove_edits.proofs.Vertices.{same_vertex_itself, same_vertex_exact}
 use Rattle.edge_lattice.specs.declared.state.State.TheVariants.{Absent, Live}
-use Rattle.walks.specs.declared.class.Class.{Class}
-use Rattle.walks.specs.declared.class.Class.TheVariants.{NoParent, Multi, Cycle, Inner}
+use Rattle.walks.specs.declared.class.Class.TheVariants.{Inner}
 use Rattle.walks.specs.declared.few.Few.{Few}
 use Rattle.walks.specs.declared.few.Few.TheVariants.{Zero, One, More}
 use Rattle.walks.specs.Few.{first_two, few_len}
@@ -31,7 +30,7 @@ use Rattle.kept_records.specs.Kept.{Kept, AreKept}
 use Rattle.kept_records.specs.Change.{CyclesStay}
 use Rattle.kept_records.specs.Short.{SourceAloneSees, LeadsUp}
 use Rattle.mark_store.specs.declared.record.Record.{Record}
-use Rattle.mark_store.specs.Places.{Places, value_at}
+use Rattle.mark_store.specs.Places.{Places}
 use Rattle.mark_incremental.specs.Reading.{kept_by, IsRecordOf, records_at, AreRecordsOf}
 use Rattle.kept_records.specs.Change.{AreNear, near_size}
 use Rattle.kept_records.proofs.OnWalks.{on_new_source}
@@ -50,7 +49,7 @@ use Rattle.grove_terms.proofs.OneGrove.{one_live}
 use Rattle.mark_incremental.proofs.Raised.{raised_graph}
 use Rattle.mark_incremental.proofs.Growth.{records_kept}
 use Rattle.mark_incremental.proofs.Edited.{kept_over, kept_same}
-use Rattle.mark_incremental.specs.ShortWalks.{IsSeenByOne, StoodBefore, IsAboveInner, IsApartUpTo, IsLedFrom, IsHeadAlike, IsNotPassed, IsLeaf, IsApart, MayBeShort}
+use Rattle.mark_incremental.specs.ShortWalks.{IsSeenByOne, StoodBefore, IsAboveInner, IsApartUpTo, IsLedFrom, IsLeaf, IsApart, MayBeShort}
 use Rattle.grove_edits.proofs.Orders.{one_edge}
 use Rattle.grove_edits.specs.Graph.{is_same_edge}
 use Rattle.grove_terms.proofs.WellSorted.{held_first}
@@ -242,10 +241,6 @@ way_within e old new near are ws top leads =
 
 pub some_holds : {X K : Type 0} (o : Option X) (x : X) → o ≡ Some x → IfSome o (λ y. K) → K
 some_holds {K = K} o x is there = subst (λ p. IfSome p (λ y. K)) is there
-
-pub none_holds : {X : Type 0} (o : Option X) → ((x : X) → o ≡ Some x → ⊥) → o ≡ None
-none_holds None not = refl
-none_holds (Some x) not = absurd (not x refl)
 
 pub grown_by : (marks grown : KeptMarks) → KeepsTypes marks.types grown.types → KeepsContexts marks.contexts grown.contexts → ((v : Vertex) → kept_in grown v ≡ kept_in marks v) → grown.roots ≡ marks.roots → HaveGrown marks grown
 grown_by marks grown types contexts records roots = record { types = types; contexts = contexts; records = records; roots = λ v. ap (λ places. holds places v) roots }

@@ -21,9 +21,7 @@ use Rattle.kept_records.specs.Change.{HasOneMore, Changes, same, comes, goes, St
 use Rattle.kept_records.proofs.Edits.{above_stays}
 use Rattle.kept_records.proofs.Staying.{above_unless_multi}
 use Rattle.mark_incremental.proofs.OneHead.{root_outer, one_head}
-
-clash : (b : Bool) → b ≡ true → b ≡ false → ⊥
-clash b is not_it = let e : true ≡ false = sym is ∙ not_it in cc
+use Rattle.grove_sorts.proofs.Truths.{not_both}
 
 same_source : (x y : Vertex) → Some x ≡ Some y → x ≡ y
 same_source x y is = cc
@@ -132,7 +130,7 @@ moves es fs t on off outer one =
     let a = on_above es t on in
     let root : is_cycle_root es t ≡ true = root_by (parents_of t es) (is_cycle_root es t) a.0 a.1 outer in
     let too : is_cycle_root fs t ≡ true = sym (class_is_cycle fs t) ∙ ap (λ c. is_same_class c Cycle) (sym one) ∙ class_is_cycle es t ∙ root in
-    clash (is_on_cycle fs t) (root_on fs t too) off
+    not_both (is_on_cycle fs t) (root_on fs t too) off
 
 up_none : (es : List Edge) (n : ℕ) → up es n None ≡ None
 up_none es zero = refl

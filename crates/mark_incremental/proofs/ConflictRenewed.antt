@@ -22,7 +22,7 @@ use Rattle.walks.specs.declared.class.Class.TheVariants.{Inner}
 use Rattle.walks.specs.Class.{class}
 use Rattle.walks.specs.Live.{holds_edge, children_of}
 use Rattle.walks.specs.Whole.{AreLive}
-use Rattle.walks.proofs.Chains.{IsChain}
+use Rattle.walks.proofs.Chains.{IsChain, chain_is_one}
 use Rattle.grove_terms.specs.Forest.{edges_under, StandsUnder}
 use Rattle.grove_terms.proofs.WellSorted.{live_well_formed}
 use Rattle.type_core.specs.Typ.{Typ}
@@ -43,7 +43,7 @@ use Rattle.kept_records.proofs.OnWalks.{source_on_walks}
 use Rattle.kept_records.proofs.Raised.{changed}
 use Rattle.kept_records.proofs.Children.{IsTreeOf, children_are_of, has_tree, held_under, all_held}
 use Rattle.kept_records.proofs.Standing.{stands_under, child_stands, has_place}
-use Rattle.kept_records.proofs.Line.{chain_of, one_chain}
+use Rattle.kept_records.proofs.Line.{chain_of}
 use Rattle.kept_records.proofs.Cost.{edges_leave}
 use Rattle.kept_records.proofs.Sizes.{sum_within}
 use Rattle.kept_records.proofs.Conflict.{conflict_kept, conflict_within}
@@ -242,7 +242,7 @@ module _ (edits : List Edit) (edit : Edit) (old new : List Edge) (are_old : AreL
 
         behind : member.behind ≡ e.source ∷ place.above
         behind =
-            one_chain new e.target member.behind (e.source ∷ place.above)
+            chain_is_one new e.target member.behind (e.source ∷ place.above)
             (chain_behind new v member.before e.target member.behind (subst (IsChain new v) member.are (chain_of new well (u ∷ us) v f d stands))) of_target
 
     not_left : renewal.HasToBeJudged (on false set) records e.target (demands l e.position) → IsLeft (on false set) records e.target (demands l e.position) → ⊥

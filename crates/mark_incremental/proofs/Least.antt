@@ -1,31 +1,14 @@
 -- The least of some vertices, one after the other.
 use Rattle.std.proofs.Common.{◌≡◌, ◌⊎◌, inl, inr, Bool, true, false, cond, List, [], ◌∷◌, ◌++◌, refl, sym, ap, ◌∙◌}
 use Rattle.std.specs.Prelude.{◌||◌}
-use Rattle.std.specs.declared.cmp.Ordering.{Ordering}
-use Rattle.std.specs.declared.cmp.Ordering.TheVariants.{Less, Equal, Greater}
-use Rattle.std.specs.Ordering.{is_gt, ordering_reverse}
+use Rattle.std.specs.Ordering.{is_gt}
 use Rattle.grove_edits.specs.declared.vertex.Vertex.{Vertex}
 use Rattle.grove_edits.specs.Vertex.{is_same_vertex, stands_in, vertex_cmp}
-use Rattle.grove_edits.proofs.Orders.{vertex_cmp_exact, vertex_cmp_total}
+use Rattle.grove_edits.proofs.Orders.{vertex_cmp_total}
 use Rattle.grove_edits.proofs.Vertices.{same_vertex_itself, same_vertex_exact, vertex_cmp_itself}
 use Rattle.mark_incremental.specs.Rooting.{IsLeastOf}
 use Rattle.mark_incremental.proofs.Lists.{stands_push}
-
-gt_false_from : (o p : Ordering) → o ≡ ordering_reverse p → is_gt p ≡ true → is_gt o ≡ false
-gt_false_from Less p flip gt = refl
-gt_false_from Equal p flip gt = refl
-gt_false_from Greater Less flip gt = absurd cc
-gt_false_from Greater Equal flip gt = absurd cc
-gt_false_from Greater Greater flip gt = absurd cc
-
-le_through : (a b c : Vertex) → is_gt (vertex_cmp a b) ≡ false → is_gt (vertex_cmp b c) ≡ false → is_gt (vertex_cmp a c) ≡ false
-le_through a b c first second = by_orders (vertex_cmp a b) (vertex_cmp b c) refl refl first second where
-  by_orders : (o p : Ordering) → vertex_cmp a b ≡ o → vertex_cmp b c ≡ p → is_gt o ≡ false → is_gt p ≡ false → is_gt (vertex_cmp a c) ≡ false
-  by_orders Less Less is further first second = ap is_gt (vertex_cmp_total.trans a b c is further)
-  by_orders Less Equal is further first second = ap (λ z. is_gt (vertex_cmp a z)) (sym (vertex_cmp_exact b c further)) ∙ ap is_gt is
-  by_orders Less Greater is further first second = absurd cc
-  by_orders Equal p is further first second = ap (λ z. is_gt (vertex_cmp z c)) (vertex_cmp_exact a b is) ∙ ap is_gt further ∙ second
-  by_orders Greater p is further first second = absurd cc
+use Rattle.walks.proofs.Around.{gt_false_from, le_through}
 
 or_cases : (a b : Bool) → (a || b) ≡ true → (a ≡ true) ⊎ (b ≡ true)
 or_cases true b h = inl refl

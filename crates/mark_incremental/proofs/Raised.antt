@@ -20,6 +20,7 @@ use Rattle.walks.specs.States.{with_state}
 use Rattle.walks.specs.Ordered.{with_edge, without_edge}
 use Rattle.walks.proofs.Ordered.{holds-with_edge, holds-filter, in_order-with_edge, in_order-filter}
 use Rattle.mark_incremental.specs.Raising.{followed, unfollowed}
+use Rattle.grove_sorts.proofs.Truths.{false_from}
 
 join-absent : (s : State) → state_join s (state_join Absent Absent) ≡ s
 join-absent Absent = refl
@@ -189,13 +190,9 @@ module _ (edit : Edit) (g h : Graph) (joined : IsSame h (graph_join g (graph (ed
 
 -- ---- whether the edge is held
 
-not_true : (b : Bool) → (b ≡ true → ⊥) → b ≡ false
-not_true true never = absurd (never refl)
-not_true false never = refl
-
 module _ (edit : Edit) (g : Graph) (live : List Edge) (are : AreLive g live) where
   pub new_edge : (old : State) → IsChange (g (edit_edge edit)) (state_of (edit_kind edit)) (Raised old) → edit_kind edit ≡ Insert → holds_edge (edit_edge edit) live ≡ false
-  new_edge old change is = not_true (holds_edge (edit_edge edit) live) (λ held. below (g (edit_edge edit)) (are.no_other (edit_edge edit) held) (subst (λ x. rank (g (edit_edge edit)) < rank (state_of x)) is change.1)) where
+  new_edge old change is = false_from (holds_edge (edit_edge edit) live) (λ held. below (g (edit_edge edit)) (are.no_other (edit_edge edit) held) (subst (λ x. rank (g (edit_edge edit)) < rank (state_of x)) is change.1)) where
     below : (s : State) → s ≡ Live → rank s < rank (state_of Insert) → ⊥
     below s lives less = let one = ap rank lives in omega (arith, one, less)
 
@@ -206,7 +203,7 @@ module _ (edit : Edit) (g : Graph) (live : List Edge) (are : AreLive g live) whe
   held_after is state = are.each (edit_edge edit) (state ∙ ap state_of is)
 
   pub new_after : edit_kind edit ≡ Delete → g (edit_edge edit) ≡ state_of (edit_kind edit) → holds_edge (edit_edge edit) live ≡ false
-  new_after is state = not_true (holds_edge (edit_edge edit) live) (λ held. clash (g (edit_edge edit)) (state ∙ ap state_of is) (are.no_other (edit_edge edit) held)) where
+  new_after is state = false_from (holds_edge (edit_edge edit) live) (λ held. clash (g (edit_edge edit)) (state ∙ ap state_of is) (are.no_other (edit_edge edit) held)) where
     clash : (s : State) → s ≡ Deleted → s ≡ Live → ⊥
     clash s a b = let no : Deleted ≡ Live = sym a ∙ b in cc
 

@@ -1,7 +1,7 @@
 -- The records that walks down make, put in place of the kept ones, are those of the new graph.
 use Rattle.std.proofs.Common.{◌≡◌, Bool, true, false, cond, not, List, [], ◌∷◌, refl, sym, ap, subst, ◌∙◌}
 use Rattle.std.specs.Prelude.{◌||◌, ◌&&◌, filter}
-use Rattle.walks.specs.Class.{is_same_class}
+use Rattle.walks.specs.Class.{is_same_class, class}
 use Rattle.grove_edits.specs.declared.vertex.Vertex.{Vertex}
 use Rattle.grove_edits.specs.declared.edge.Edge.{Edge}
 use Rattle.grove_edits.specs.declared.edit.Edit.{Edit}
@@ -10,7 +10,6 @@ use Rattle.grove_edits.specs.Vertex.{is_same_vertex, stands_in}
 use Rattle.grove_edits.specs.Graph.{graph}
 use Rattle.grove_edits.proofs.Vertices.{same_vertex_exact}
 use Rattle.walks.specs.declared.class.Class.TheVariants.{Inner}
-use Rattle.walks.specs.Class.{class}
 use Rattle.walks.specs.Whole.{AreLive, IsVertexOf}
 use Rattle.grove_terms.proofs.WellSorted.{live_well_formed}
 use Rattle.kept_records.specs.Kept.{Kept, Records, AreKept, Stands}
@@ -25,6 +24,7 @@ use Rattle.kept_records.proofs.Scratch.{target_vertex}
 use Rattle.kept_records.proofs.Edited.{left_keeps, edit_keeps}
 use Rattle.walks.proofs.Chains.{not_inner_from_test}
 use Rattle.mark_incremental.specs.Walking.{LeavesRight}
+use Rattle.grove_sorts.proofs.Truths.{not_true}
 
 -- ---- heads among vertices
 
@@ -67,10 +67,6 @@ once_filtered p (x ∷ xs) once = by (p x) (once_filtered p xs once.1) where
 pub both_parts : (a b : Bool) → (a && b) ≡ true → (a ≡ true) × (b ≡ true)
 both_parts true b h = (refl, h)
 both_parts false b h = absurd cc
-
-pub not_true : (b : Bool) → not b ≡ true → b ≡ false
-not_true true h = absurd cc
-not_true false h = refl
 
 -- what stands below a vertex is a vertex of the graph
 pub vertex_below : (edits : List Edit) (edit : Edit) (new : List Edge) → AreLive (graph (edit ∷ edits)) new → (u : Vertex) (us : List Vertex) (v : Vertex) (f : Forest) (d : Demanded) → Stands new (u ∷ us) v f d

@@ -1,5 +1,5 @@
 -- The records that a short walk makes, put in place of the kept ones, are those of the new graph.
-use Rattle.std.proofs.Common.{◌≡◌, ◌⊎◌, inl, inr, ℕ, ◌+◌, ◌*◌, ◌≤◌, Bool, true, false, cond, List, [], ◌∷◌, ◌++◌, Option, Some, None, refl, sym, ap, subst, ◌∙◌, append_assoc, arith}
+use Rattle.std.proofs.Common.{◌≡◌, ◌⊎◌, inl, inr, ℕ, ◌+◌, ◌*◌, ◌≤◌, Bool, true, false, List, [], ◌∷◌, ◌++◌, Option, Some, None, refl, sym, ap, subst, ◌∙◌, append_assoc, arith}
 use Rattle.std.specs.Prelude.{◌||◌, unwrap_or}
 use Rattle.std.specs.List.{AllByRecursion}
 use Rattle.std.specs.Option.{option_map}
@@ -29,21 +29,19 @@ use Rattle.mark_step.specs.Node as node
 use Rattle.judging.proofs.Running.{Agree}
 use Rattle.kept_records.specs.Kept.{Kept, Records, AreKept, Stands, kept_of}
 use Rattle.kept_records.specs.Local.{kept_demand, typ_in}
-use Rattle.kept_records.specs.Change as change
-use Rattle.kept_records.specs.Change.{CyclesStay, is_on_walks, AreNear, near_size}
-use Rattle.kept_records.specs.Renewal.{IsLeft, put}
-use Rattle.kept_records.specs.Short.{SourceAloneSees, LeadsUp, IsJudgedAnew, MakesTarget, within, on_way, left as short_left, judged, IsShortWalk, TypeStays}
+use Rattle.kept_records.specs.Change.{CyclesStay, AreNear, near_size}
+use Rattle.kept_records.specs.Renewal.{put}
+use Rattle.kept_records.specs.Short.{SourceAloneSees, LeadsUp, IsJudgedAnew, MakesTarget, within, on_way, left as short_left, judged, IsShortWalk}
 use Rattle.kept_records.proofs.OnWalks.{target_on_walks}
 use Rattle.kept_records.proofs.Edited.{near_vertex}
 use Rattle.kept_records.proofs.Raised.{vertex_was}
 use Rattle.kept_records.proofs.Standing.{has_place}
 use Rattle.mark_store.specs.declared.record.Record.{Record}
 use Rattle.mark_store.specs.Places.{Places, value_at}
-use Rattle.mark_incremental.specs.Reading.{kept_by, records_at, AreRecordsOf, demand_of}
+use Rattle.mark_incremental.specs.Reading.{kept_by, records_at, AreRecordsOf}
 use Rattle.mark_incremental.specs.Looking.{on, holds}
-use Rattle.mark_incremental.specs.Walking.{Start, start_at, IsStart, LeavesRightBelow, meant}
-use Rattle.mark_incremental.specs.Ticks.{weight_of}
-use Rattle.mark_incremental.specs.ShortWalks.{IsSeenByOne, IsDemandThere, EndsWithType, IsCameOrSource, IsAlone, MakesAlone, inner, begins, left, by_itself, LeavesRightAlone, MakesBoth, HasMadeBoth, AreBothPaid, AreBothPaidFor}
+use Rattle.mark_incremental.specs.Walking.{start_at, IsStart, LeavesRightBelow, meant}
+use Rattle.mark_incremental.specs.ShortWalks.{IsSeenByOne, IsDemandThere, EndsWithType, IsCameOrSource, IsAlone, MakesAlone, inner, begins, left, by_itself, LeavesRightAlone, MakesBoth, HasMadeBoth, AreBothPaidFor}
 use Rattle.mark_incremental.specs.Standing.{KeptMarks, records_in, put_in}
 use Rattle.mark_incremental.proofs.Growth.{records_at-kept}
 use Rattle.mark_incremental.proofs.Steps.{kept_demand_of}
@@ -51,6 +49,7 @@ use Rattle.mark_incremental.proofs.NearRenewed.{put_read}
 use Rattle.mark_incremental.proofs.NearCost.{lighter}
 use Rattle.mark_incremental.proofs.Renewed.{vertex_below}
 use Rattle.kept_records.proofs.Short.{short_kept, short_within, demand_at_top, left_below_top, left_below_target}
+use Rattle.grove_sorts.proofs.Truths.{not_both}
 
 -- ---- the way
 
@@ -83,9 +82,6 @@ or_three false false false h = absurd cc
 
 no_record : (k : Kept) (o : Option Kept) → o ≡ Some k → o ≡ None → ⊥
 no_record k o some none = let clash : Some k ≡ None = sym some ∙ none in cc
-
-not_both : (b : Bool) → b ≡ true → b ≡ false → ⊥
-not_both b is is_not = let clash : true ≡ false = sym is ∙ is_not in cc
 
 none_meant : (types : List Typ) (ctxs : List Context) (o : Option Record) → option_map (kept_by types ctxs) o ≡ None → o ≡ None
 none_meant types ctxs None is = refl

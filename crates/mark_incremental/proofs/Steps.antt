@@ -39,11 +39,12 @@ use Rattle.mark_step.specs.Node as node
 use Rattle.mark_step.specs.Node.{wanted_at}
 use Rattle.marking.specs.Types.{if_sole, child_type, tree_type}
 use Rattle.marking.specs.Marking.{judged_child, judged_in, children_types}
+use Rattle.grove_sorts.proofs.Truths.{and_true}
 use Rattle.judging.specs.declared.frame.Given.{Given}
 use Rattle.judging.specs.Machine as machine
 use Rattle.judging.specs.Frames.{given_at, opened_at, left_of, filled_with, IsOpenOf}
 use Rattle.judging.proofs.Running as running
-use Rattle.judging.proofs.Running.{Agree, after, given_tree, all_taken, gives_whole}
+use Rattle.judging.proofs.Running.{Agree, after, given_tree, gives_whole}
 use Rattle.kept_records.specs.Renewal.{MakesUnder}
 use Rattle.kept_records.specs.Kept.{Kept, Records, alone, kept_of, kept_as, expression_of, demanded_among, types_before, IsTreeIn, Stands}
 use Rattle.kept_records.specs.Local.{kept_demand}
@@ -108,9 +109,6 @@ held_one e x held = one_edge e x (only (is_same_edge e x) held) where
   only : (a : Bool) → (a || false) ≡ true → a ≡ true
   only true h = refl
   only false h = absurd cc
-
-both_true : (a b : Bool) → a ≡ true → b ≡ true → (a && b) ≡ true
-both_true a b x y = ap (λ c. c && b) x ∙ y
 
 -- what an only child that is a tree gives
 sole_gives : (s : Sort) (f : Forest) (p : Position) (d : Demanded) (e : Edge) (b : Forest) → count_at f p ≡ 1 → IsTreeIn f e b → is_same_position e.position p ≡ true
@@ -180,7 +178,7 @@ module _ (live : List Edge) (well : AllByRecursion IsWellFormed live) (types : L
     reference_nowhere outer one d b is_tree there =
         let of : IsTreeOf live l.vertex d = children_are_of live well l.vertex l.forest under.edges d b is_tree in
         let passes : (is_same_vertex d.source l.vertex && is_same_position d.position p.0) ≡ true =
-        both_true (is_same_vertex d.source l.vertex) (is_same_position d.position p.0) (ap (λ (u : Vertex). is_same_vertex u l.vertex) of.source ∙ same_vertex_itself l.vertex) there in
+        and_true (is_same_vertex d.source l.vertex) (is_same_position d.position p.0) (ap (λ (u : Vertex). is_same_vertex u l.vertex) of.source ∙ same_vertex_itself l.vertex) there in
         let among : holds_edge d (children_of l.vertex p.0 live) ≡ true = held_in (λ x. is_same_vertex x.source l.vertex && is_same_position x.position p.0) d live passes of.held in
         let same : e ≡ d = held_one e d (ap (holds_edge d) (sym (one_left was.done e rest (children_of l.vertex p.0 live) row one)) ∙ among) in
         outer (ap (λ (x : Edge). class live x.target) same ∙ tree_inner live l.forest under.children d b is_tree)

@@ -34,7 +34,8 @@ use Rattle.kept_records.proofs.Raised.{changed}
 use Rattle.kept_records.proofs.Edited.{near_vertex, root_ended, root_begun, never_on_both}
 use Rattle.kept_records.proofs.Whole.{whole_keeps}
 use Rattle.mark_incremental.specs.Rooting.{IsOnlyRoot}
-use Rattle.mark_incremental.proofs.Renewed.{stands_filtered, both_parts, not_true, not_inner}
+use Rattle.mark_incremental.proofs.Renewed.{stands_filtered, both_parts, not_inner}
+use Rattle.grove_sorts.proofs.Truths.{not_true}
 use Rattle.mark_incremental.proofs.OneHead.{has_head, reaches_head, one_head}
 use Rattle.mark_incremental.proofs.Concerned.{IsOnOne, target_concerned, parent_within}
 

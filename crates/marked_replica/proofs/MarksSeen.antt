@@ -1,6 +1,5 @@
 -- What is seen of a kept graph with marks.
 use Rattle.std.proofs.Common.{◌≡◌, List, [], sym, ap, subst}
-use Rattle.std.specs.Prelude.{Result, Ok, Err, OnErr}
 use Rattle.grove_edits.specs.declared.edge.Edge.{Edge}
 use Rattle.grove_edits.specs.Graph.{graph}
 use Rattle.walks.specs.Whole.{AreLive}
@@ -15,10 +14,6 @@ use Rattle.replica_core.specs.Shown.{Shows}
 use Rattle.replica_core.proofs.Keeping.{graph_seen}
 use Rattle.marked_replica.proofs.OneRecord.{marks_along}
 use Rattle.replica_core.proofs.Showing.{shown}
-
-pub after_error : {T E P : Type 0} (r : Result T E) → P → OnErr r P
-after_error (Ok x) p = tt
-after_error (Err e) p = p
 
 -- marks of no edits stand for a store with no entries
 pub stand_empty : (entries : Entries) (marks : KeptMarks) → entries ≡ [] → StandFor (graph []) marks → StandFor (state_in entries) marks

@@ -12,7 +12,7 @@ use Rattle.grove_edits.specs.Edit.{edit_edge, edit_kind}
 use Rattle.grove_edits.proofs.Unique.{edit_from_fields}
 use Rattle.grove_edits.proofs.WellFormed.{edge_made}
 use Rattle.user_actions.specs.PlainEdits.{plain}
-use Rattle.user_actions.proofs.Truths.{and_true}
+use Rattle.grove_sorts.proofs.Truths.{and_true}
 use Rattle.replica_core.specs.Plain.{is_vertex_in_range, is_edge_in_range, edge_in_range, edit_where, edit_of, and_some, as_edits}
 
 vertex_passes : (v : Vertex) → VertexInRange v → is_vertex_in_range v ≡ true

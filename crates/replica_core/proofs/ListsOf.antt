@@ -26,9 +26,9 @@ use Rattle.walks.specs.Whole.{AreLive, AreVertices}
 use Rattle.grove_terms.proofs.InOrder.{put, put_by}
 use Rattle.grove_terms.proofs.OneGrove.{ends_of, vertices_from}
 use Rattle.user_actions.specs.Lists.{AreListsOf, ArePresent}
-use Rattle.user_actions.specs.NamedEdges.{is_live}
+use Rattle.walks.specs.States.{is_live}
 use Rattle.user_actions.proofs.Openings.{edges_in_order, canonical_present}
-use Rattle.user_actions.proofs.SomeLists.{live_from_test}
+use Rattle.walks.proofs.Truths.{live_from_test}
 use Rattle.replica_core.specs.Lists.{is_insert, is_insertion, vertices_of, lists_of}
 use Rattle.replica_core.proofs.WithEdits.{canonical_itself}
 

@@ -1,5 +1,5 @@
 -- The edges of groups are well formed, and their lines are those of the groups.
-use Rattle.std.proofs.Common.{◌≡◌, ℕ, ◌+◌, ◌*◌, ◌%◌, ◌≤◌, List, [], ◌∷◌, length, nat_le, Bool, true, false, not, ◌&&◌, nat_lt, Option, None, Some, IsTrue, is_some, is_none, refl, sym, ap, ◌∙◌, codes, arith, lit≤}
+use Rattle.std.proofs.Common.{◌≡◌, ℕ, ◌+◌, ◌*◌, ◌%◌, ◌≤◌, List, [], ◌∷◌, length, nat_le, Bool, true, false, not, ◌&&◌, nat_lt, Option, None, Some, IsTrue, is_some, refl, sym, ap, ◌∙◌, arith}
 use Rattle.std.specs.Prelude.{if◌then◌else◌, Result, Ok, Err, IsOk, IfErr}
 use Rattle.std.proofs.lemmas.Bool.{false≢true}
 use Rattle.std.proofs.lemmas.Bool.Decides.{nat_tests}
@@ -12,32 +12,24 @@ use Rattle.grove_sorts.specs.declared.version.Version.TheVariants.{One}
 use Rattle.grove_sorts.specs.Ctor.{sort_at, sort_of_ctor}
 use Rattle.grove_sorts.specs.Ident.{ident_bytes}
 use Rattle.grove_sorts.specs.Version.{IsCtorOf}
-use Rattle.grove_sorts.proofs.Truths.{both_true}
+use Rattle.grove_sorts.proofs.Truths.{both_true, not_true, and_true}
 use Rattle.grove_edits.specs.declared.edge.Edge.{Edge}
 use Rattle.grove_edits.specs.declared.edge.EdgeFault.{EdgeFault}
 use Rattle.grove_edits.specs.declared.edge.EdgeFault.TheVariants.{BadVertex, NoPosition, WrongSort}
 use Rattle.grove_edits.specs.declared.edit.Edit.{Edit}
 use Rattle.grove_edits.specs.declared.edit.EditKind.{EditKind}
-use Rattle.grove_edits.specs.Edge.{is_sort, edge_fault, IsEdgeOf}
+use Rattle.grove_edits.specs.Edge.{is_sort, edge_fault}
 use Rattle.grove_edits.specs.Edit.{edit_edge, edit_kind}
 use Rattle.grove_edits.specs.Vertex.{is_root, is_vertex}
 use Rattle.edit_text.specs.Line.{form}
-use Rattle.session_gen.specs.Group.{name_in, vertex_in, edge_in, fits}
+use Rattle.session_gen.specs.Group.{vertex_in, edge_in, fits}
 
 is_positive : (n : ℕ) → 1 ≤ n → nat_lt 0 n ≡ true
 is_positive n some = grind (arith, nat_tests)
 
-both_hold : (a b : Bool) → a ≡ true → b ≡ true → (a && b) ≡ true
-both_hold true b h k = k
-both_hold false b h k = absurd cc
-
-not_true : (a : Bool) → not a ≡ true → a ≡ false
-not_true true h = absurd cc
-not_true false h = refl
-
 named_well : (group counter : ℕ) → 1 ≤ counter → (nat_lt 0 (1 + group % 3) && nat_lt 0 (20 * group + counter)) ≡ true
 named_well group counter some =
-    both_hold (nat_lt 0 (1 + group % 3)) (nat_lt 0 (20 * group + counter)) (is_positive (1 + group % 3) (omega arith)) (is_positive (20 * group + counter) (omega arith))
+    and_true (nat_lt 0 (1 + group % 3)) (nat_lt 0 (20 * group + counter)) (is_positive (1 + group % 3) (omega arith)) (is_positive (20 * group + counter) (omega arith))
 
 choose : (root : Bool) (a b : Bool) → root ≡ false → b ≡ true → (if root then a else b) ≡ true
 choose true a b h k = absurd cc
@@ -65,8 +57,8 @@ edge_good group number source target k l p some_source some_target h =
     let roots = both_true (not (is_root k)) (not (is_root l)) parts.0 in
     let of_source = vertex_good group source k some_source (not_true (is_root k) roots.0) in
     let of_target = vertex_good group target l some_target (not_true (is_root l) roots.1) in
-    let vertices = both_hold (nat_lt 0 (1 + group % 3) && nat_lt 0 (20 * group + (10 + number)) && is_vertex (vertex_in group source k)) (is_vertex (vertex_in group target l))
-    (both_hold (nat_lt 0 (1 + group % 3) && nat_lt 0 (20 * group + (10 + number))) (is_vertex (vertex_in group source k)) (named_well group (10 + number) (omega arith)) of_source) of_target in
+    let vertices = and_true (nat_lt 0 (1 + group % 3) && nat_lt 0 (20 * group + (10 + number)) && is_vertex (vertex_in group source k)) (is_vertex (vertex_in group target l))
+    (and_true (nat_lt 0 (1 + group % 3) && nat_lt 0 (20 * group + (10 + number))) (is_vertex (vertex_in group source k)) (named_well group (10 + number) (omega arith)) of_source) of_target in
     no_fault _ (is_some (sort_at k p)) (is_sort (sort_at k p) (sort_of_ctor l)) vertices (is_some_sort (sort_at k p) (sort_of_ctor l) parts.1) parts.1
 
 -- where an edge has no fault there is an edit of it

@@ -8,7 +8,7 @@ use Rattle.std.proofs.lemmas.List.Sums.{sum_by-cons}
 use Rattle.grove_sorts.specs.declared.ident.Ident.{Ident}
 use Rattle.grove_sorts.specs.Ident.{ident_cmp}
 use Rattle.grove_sorts.specs.declared.version.Version.{Version}
-use Rattle.grove_sorts.proofs.Truths.{or_right}
+use Rattle.grove_sorts.proofs.Truths.{or_right, false_from}
 use Rattle.grove_sorts.proofs.Orders.{ident_cmp_total, ident_cmp_exact, equal_from_test}
 use Rattle.session_script.specs.declared.author.Declared.{Declared}
 use Rattle.session_script.specs.declared.line.Line.{Line}
@@ -79,10 +79,6 @@ same_ident_exact a b e = ident_cmp_exact a b (equal_from_test (ident_cmp a b) e)
 pub same_number_exact : (a b : ℕ) → (b == a) ≡ true → a ≡ b
 same_number_exact a b e = grind (arith, nat_tests)
 
-refuted : (b : Bool) → (b ≡ true → ⊥) → b ≡ false
-refuted true not_so = absurd (not_so refl)
-refuted false not_so = refl
-
 -- a replica with a number is declared
 declared_name : (replicas : List Ident) (number : ℕ) (replica : Ident) → slice_get replicas number ≡ Some replica → list_any (is_same_ident replica) replicas ≡ true
 declared_name [] number replica is = absurd cc
@@ -108,7 +104,7 @@ not_before : {A : Type 0} → (same : A → A → Bool) → ((a b : A) → same 
     → list_any (same x) front ≡ false
 not_before same exact [] x more h = refl
 not_before same exact (y ∷ front) x more h =
-    none_of_two (same x y) (list_any (same x) front) (refuted (same x y) (λ e. other_than y x more front h.0 (sym (exact x y e)))) (not_before same exact front x more h.1)
+    none_of_two (same x y) (list_any (same x) front) (false_from (same x y) (λ e. other_than y x more front h.0 (sym (exact x y e)))) (not_before same exact front x more h.1)
 
 -- ---- the views on the way
 

@@ -9,7 +9,7 @@ use Rattle.std.proofs.lemmas.List.Sums.{sum_by-append, sum_by-cons}
 use Rattle.grove_sorts.specs.declared.ident.Ident.{Ident}
 use Rattle.grove_sorts.specs.Ident.{ident_bytes}
 use Rattle.grove_sorts.specs.declared.version.Version.{Version}
-use Rattle.grove_sorts.proofs.Truths.{both_true}
+use Rattle.grove_sorts.proofs.Truths.{both_true, not_true, neither}
 use Rattle.grove_edits.specs.declared.edit.Edit.{Edit}
 use Rattle.grove_edits.specs.Edit.{edit_edge, edit_kind}
 use Rattle.grove_edits.specs.declared.action.Action.{Action}
@@ -60,17 +60,9 @@ fine_at v s none =
 
 -- ---- tests
 
-neither : (a b : Bool) → (a || b) ≡ false → (a ≡ false) × (b ≡ false)
-neither true b h = absurd cc
-neither false b h = (refl, h)
-
 never : {P : Type 0} → (a : Bool) → (a && false) ≡ true → P
 never true h = absurd cc
 never false h = absurd cc
-
-not_true : (a : Bool) → not a ≡ true → a ≡ false
-not_true true h = absurd cc
-not_true false h = refl
 
 not_false : (a : Bool) → not a ≡ false → a ≡ true
 not_false true h = refl

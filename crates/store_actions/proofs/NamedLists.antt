@@ -19,7 +19,7 @@ use Rattle.grove_terms.proofs.InLive.{same_edge_itself}
 use Rattle.graph_store.specs.Least.{IsLeast}
 use Rattle.graph_store.specs.Named.{IsNamed, IsAfter}
 use Rattle.walks.specs.States.{Entries, state_in}
-use Rattle.user_actions.specs.NamedEdges.{AreNamed}
+use Rattle.walks.specs.Named.{AreNamed}
 use Rattle.grove_sorts.proofs.Truths.{or_left, or_right}
 
 -- ---- the order of edges

@@ -2,7 +2,7 @@ ghost use Rattle.std.specs.Prelude.{◌≡◌, ◌<◌, IfOk};
 ghost use Rattle.walks.specs.Live.{children_of};
 ghost use Rattle.edge_index.specs.Lists.{live};
 ghost use Rattle.walks.specs.States.{state_in};
-ghost use Rattle.user_actions.specs.NamedEdges.{AreNamed};
+ghost use Rattle.walks.specs.Named.{AreNamed};
 
 use crate::opening_set::OpeningSet;
 use child_index::ChildIndex;

@@ -1,5 +1,5 @@
 -- The hare and the tortoise: where they stand after some rounds, and what that says of the walk.
-use Rattle.std.proofs.Common.{◌≡◌, ℕ, zero, suc, ◌+◌, ◌-◌, ◌*◌, ◌/◌, ◌%◌, ◌<◌, ◌≤◌, Bool, true, false, length, refl, sym, ap, subst, ◌∙◌, arith}
+use Rattle.std.proofs.Common.{◌≡◌, ℕ, zero, suc, ◌+◌, ◌-◌, ◌*◌, ◌/◌, ◌%◌, ◌<◌, ◌≤◌, true, false, length, refl, sym, ap, subst, ◌∙◌, arith}
 use Rattle.std.specs.Prelude.{leb, List, Option, None, Some}
 use Rattle.std.proofs.lemmas.Bool.{leb-true, leb-false}
 use Rattle.std.specs.declared.cmp.Ordering.{Ordering}
@@ -17,6 +17,7 @@ use Rattle.walks.proofs.Returns.{AllGreater, some_same, walk_len_pos, not_itself
 use Rattle.unicycle_roots.specs.declared.step_up.StepUp.TheVariants.{ToGreater, Back, ToNoCycle}
 use Rattle.unicycle_roots.specs.StepUp.{found, found_by}
 use Rattle.walks.proofs.Roots.{root_back, root_least}
+use Rattle.grove_sorts.proofs.Truths.{false_from}
 
 -- the tortoise has gone k steps and the hare twice as many, and they have not met
 pub record IsRound (edges : List Edge) (v hare tortoise : Vertex) (k : ℕ) : Type 0 where
@@ -26,9 +27,6 @@ pub record IsRound (edges : List Edge) (v hare tortoise : Vertex) (k : ℕ) : Ty
   pub apart : (i : ℕ) → 0 < i → i ≤ k → up edges i (Some v) ≡ up edges (i + i) (Some v) → ⊥
 
 -- ---- the walk does not come back
-
-false_from : (b : Bool) → (b ≡ true → ⊥) → b ≡ false
-false_from b refuted = elim b as (λ x. b ≡ x → x ≡ false) [ true ↦ λ is. absurd (refuted is) | false ↦ λ _. refl ] refl
 
 -- the walk of a cycle's root is longer than the steps up that led to greater vertices alone
 root_beyond : (edges : List Edge) (v : Vertex) (n : ℕ) → is_cycle_root edges v ≡ true → AllGreater edges v n → walk_len edges v ≤ n → ⊥

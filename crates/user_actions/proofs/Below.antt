@@ -13,7 +13,7 @@ use Rattle.grove_sorts.specs.declared.position.Position.{Position}
 use Rattle.grove_sorts.specs.declared.ctor.Ctor.{Ctor}
 use Rattle.grove_sorts.specs.Position.{position_number, position_cmp, is_same_position}
 use Rattle.grove_sorts.specs.Ctor.{positions, sort_at, sort_in}
-use Rattle.grove_sorts.proofs.Truths.{both_true, or_left, or_right}
+use Rattle.grove_sorts.proofs.Truths.{both_true, or_left, or_right, not_true, and_true}
 use Rattle.grove_sorts.proofs.Orders.{position_same}
 use Rattle.grove_edits.specs.declared.vertex.Vertex.{Vertex}
 use Rattle.grove_edits.specs.declared.edge.Edge.{Edge}
@@ -40,7 +40,6 @@ use Rattle.user_actions.specs.PlainEdits.{PlainEdit, plain, deletions, new_verte
 use Rattle.user_actions.specs.Plan.{IsPlan, IsMade}
 use Rattle.user_actions.specs.Carried.{has_same_sort}
 use Rattle.user_actions.specs.After.{graph_after, vertex_of, targets_at, goes_along}
-use Rattle.user_actions.proofs.Truths.{and_true, not_true}
 use Rattle.user_actions.proofs.NewNames.{not_vertex_name, new_absent}
 use Rattle.user_actions.proofs.PlainGraphs.{AllEdits, HasEdit, PutsEdges, is_at, only_edge, after_edits, inserted_live, edges_left}
 use Rattle.user_actions.proofs.EditLists.{all_append, has_second, all_deletions, edge_with, held_first, held_later}

@@ -25,8 +25,7 @@ use Rattle.user_actions.specs.Place.{of_vertex}
 use Rattle.user_actions.specs.PlainEdits.{PlainEdit, plain, insertion, relocate_edits}
 use Rattle.user_actions.specs.Plan.{IsPlan}
 use Rattle.user_actions.specs.After.{graph_after, IsAccepted, moves_vertex}
-use Rattle.grove_sorts.proofs.Truths.{both_true}
-use Rattle.user_actions.proofs.Truths.{and_true, same_tests}
+use Rattle.grove_sorts.proofs.Truths.{both_true, and_true, same_tests}
 use Rattle.user_actions.proofs.Rerooted.{IsMoved, root_before}
 use Rattle.user_actions.proofs.PlainGraphs.{only_edge, plain_graph, AllEdits, after_edits, inserted_live, not_of, join_absent}
 use Rattle.user_actions.proofs.EditLists.{edge_with}

@@ -3,8 +3,8 @@ use Rattle.std.proofs.Common.{◌≡◌, ◌≢◌, ℕ, zero, suc, ◌+◌, ◌
 use Rattle.std.specs.Prelude.{◌&&◌, ◌||◌, cond}
 use Rattle.std.proofs.lemmas.List.{get_or_past, length-map, map_more, take_all}
 use Rattle.edge_lattice.specs.declared.state.State.{State}
-use Rattle.edge_lattice.specs.declared.state.State.TheVariants.{Absent, Live, Deleted}
-use Rattle.grove_sorts.proofs.Truths.{both_true, or_left, or_right}
+use Rattle.edge_lattice.specs.declared.state.State.TheVariants.{Absent}
+use Rattle.grove_sorts.proofs.Truths.{both_true, or_left, or_right, false_from, and_true, same_tests}
 use Rattle.grove_edits.specs.declared.edge.Edge.{Edge}
 use Rattle.grove_edits.specs.Graph.{is_same_edge}
 use Rattle.grove_edits.proofs.Orders.{one_edge}
@@ -19,7 +19,7 @@ use Rattle.user_actions.specs.Flags.{flagged, opening_edges, present_flags}
 use Rattle.user_actions.specs.Good.{AreOpening}
 use Rattle.user_actions.specs.Lists.{ArePresent}
 use Rattle.user_actions.proofs.SomeLists.{entries_have}
-use Rattle.user_actions.proofs.Truths.{and_true, false_from, same_tests}
+use Rattle.walks.proofs.Truths.{present_from_test, test_from_present}
 
 pub in_order-flagged : (es : List Edge) (flags : List Bool) → IsInEdgeOrder (flagged es flags)
 in_order-flagged [] flags = tt
@@ -168,22 +168,12 @@ pub flags_all : (entries : Entries) (i : ℕ) (flags : List Bool) → length ent
 flags_all entries i flags all so_far =
     so_far ∙ ap (map (λ e. is_present (state_in entries e))) (take_all i (edges_of entries) (omega (arith, all, length-map entries (λ entry. entry.0))))
 
-shown_present : (s : State) → is_present s ≡ true → s ≢ Absent
-shown_present Absent h e = cc
-shown_present Live h e = cc
-shown_present Deleted h e = cc
-
-present_shown : (s : State) → s ≢ Absent → is_present s ≡ true
-present_shown Absent h = absurd (h refl)
-present_shown Live h = refl
-present_shown Deleted h = refl
-
 -- they are the edges that are not Absent
 pub opening_present : (entries : Entries) → ArePresent (state_in entries) (opening_edges entries (present_flags entries))
 opening_present entries = record {
   in_order = in_order-flagged (edges_of entries) (present_flags entries);
-  each = λ e some. holds-flagged_by is_there (edges_of entries) e ∙ and_true (is_there e) (holds_edge e (edges_of entries)) (present_shown (state_in entries e) some) (entries_have entries e some);
-  no_other = λ e held. shown_present (state_in entries e) (both_true (is_there e) (holds_edge e (edges_of entries)) (sym (holds-flagged_by is_there (edges_of entries) e) ∙ held)).0;
+  each = λ e some. holds-flagged_by is_there (edges_of entries) e ∙ and_true (is_there e) (holds_edge e (edges_of entries)) (test_from_present (state_in entries e) some) (entries_have entries e some);
+  no_other = λ e held. present_from_test (state_in entries e) (both_true (is_there e) (holds_edge e (edges_of entries)) (sym (holds-flagged_by is_there (edges_of entries) e) ∙ held)).0;
 } where
   is_there : Edge → Bool
   is_there e = is_present (state_in entries e)

@@ -19,8 +19,7 @@ use Rattle.grove_edits.specs.Graph.{Graph}
 use Rattle.walks.specs.Whole.{IsVertexOf}
 use Rattle.grove_edits.proofs.WellFormed.{one_sort}
 use Rattle.user_actions.specs.Good.{AreWellFormed, AreInRange}
-use Rattle.grove_sorts.proofs.Truths.{both_true}
-use Rattle.user_actions.proofs.Truths.{and_true}
+use Rattle.grove_sorts.proofs.Truths.{both_true, and_true}
 
 -- ---- the sort at a position
 

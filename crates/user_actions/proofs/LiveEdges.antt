@@ -25,13 +25,15 @@ use Rattle.user_actions.specs.Faults.{first_some, other_sort, carried, else_edge
 use Rattle.user_actions.specs.Good.{AreWellFormed, AreOpening}
 use Rattle.user_actions.specs.Lists.{GraphLists, AreListsOf}
 use Rattle.user_actions.specs.Names.{is_same_name, edges_named}
-use Rattle.user_actions.specs.NamedEdges.{AreNamed, is_live, is_live_in}
+use Rattle.user_actions.specs.NamedEdges.{is_live_in}
+use Rattle.walks.specs.Named.{AreNamed}
+use Rattle.walks.specs.States.{is_live}
 use Rattle.user_actions.proofs.EditLists.{held_first}
-use Rattle.user_actions.proofs.SomeLists.{live_from_test}
+use Rattle.walks.proofs.Truths.{live_from_test}
 use Rattle.user_actions.proofs.GoodEdges.{parts_of, sort_from_test}
 use Rattle.user_actions.proofs.OnePlace.{entry_found, carried_is}
-use Rattle.grove_sorts.proofs.Truths.{both_true}
-use Rattle.user_actions.proofs.Truths.{and_true, same_tests, same_name_exact, same_name_itself}
+use Rattle.grove_sorts.proofs.Truths.{both_true, and_true, same_tests}
+use Rattle.user_actions.proofs.Truths.{same_name_exact, same_name_itself}
 use Rattle.user_actions.proofs.Openings.{held_at}
 use Rattle.user_actions.proofs.PlainGraphs.{is_at}
 

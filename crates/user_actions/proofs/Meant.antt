@@ -22,7 +22,8 @@ use Rattle.user_actions.specs.Place.{place_of}
 use Rattle.user_actions.specs.PlainEdits.{new_vertex}
 use Rattle.user_actions.specs.Plan.{answer_of, IsPlan}
 use Rattle.user_actions.specs.After.{graph_after, IsAccepted, fills_place, made_ctor, vertex_of, targets_at}
-use Rattle.user_actions.proofs.Truths.{and_true, same_name_itself}
+use Rattle.user_actions.proofs.Truths.{same_name_itself}
+use Rattle.grove_sorts.proofs.Truths.{and_true}
 use Rattle.user_actions.proofs.PlainGraphs.{only_edge}
 use Rattle.user_actions.proofs.NoFault.{only_one}
 use Rattle.user_actions.proofs.Accepted.{made}

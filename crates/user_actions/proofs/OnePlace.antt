@@ -27,8 +27,7 @@ use Rattle.user_actions.specs.Names.{is_same_name, new_name, edges_named, greate
 use Rattle.user_actions.specs.Place.{edges_at}
 use Rattle.user_actions.specs.Faults.{carried, carried_from}
 use Rattle.user_actions.specs.PlainEdits.{deletions, insertion, new_vertex, to_new_vertex, put_below, wrap_edits, become_edits, relocate_edits}
-use Rattle.grove_sorts.proofs.Truths.{both_true}
-use Rattle.user_actions.proofs.Truths.{and_true, not_true}
+use Rattle.grove_sorts.proofs.Truths.{both_true, not_true, and_true}
 use Rattle.user_actions.proofs.NewNames.{not_vertex_name, new_absent}
 use Rattle.user_actions.proofs.PlainGraphs.{only_edge, PutsOne, is_at}
 use Rattle.user_actions.proofs.EditLists.{all_append, has_first, has_second, all_deletions, has_deletion, all_put_below, all_carry_over, edge_with, held_first}

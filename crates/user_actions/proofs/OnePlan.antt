@@ -19,7 +19,7 @@ use Rattle.user_actions.specs.Lists.{GraphLists, AreListsOf, ArePresent}
 use Rattle.user_actions.specs.Faults.{first_fault}
 use Rattle.user_actions.specs.PlainEdits.{PlainEdit, plain}
 use Rattle.user_actions.specs.Plan.{Planned, plan, edits_of, answer_of, unless_refused, IsPlan, IsMade}
-use Rattle.user_actions.proofs.Truths.{same_tests}
+use Rattle.grove_sorts.proofs.Truths.{same_tests}
 
 pub one_present : (g : Graph) (a b : List Edge) → ArePresent g a → ArePresent g b → a ≡ b
 one_present g a b of_a of_b =

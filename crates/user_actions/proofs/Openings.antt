@@ -23,8 +23,7 @@ use Rattle.grove_edits.proofs.Orders.{cmp_is_edge_cmp, edge_cmp_exact, edge_cmp_
 use Rattle.walks.specs.Live.{IsInEdgeOrder, holds_edge}
 use Rattle.grove_terms.proofs.InLive.{same_edge_itself}
 use Rattle.user_actions.specs.Lists.{ArePresent}
-use Rattle.grove_sorts.proofs.Truths.{or_left, or_right}
-use Rattle.user_actions.proofs.Truths.{false_from}
+use Rattle.grove_sorts.proofs.Truths.{or_left, or_right, false_from}
 use Rattle.user_actions.proofs.SomeLists.{absent_joined, edits_have}
 
 after_all : (e : Edge) (edits : List Edit) → AllByRecursion (λ later. edge_cmp e (edit_edge later) ≡ Less) edits → AllByRecursion (λ later. edge_cmp e later ≡ Less) (map edit_edge edits)

@@ -20,8 +20,7 @@ use Rattle.walks.specs.Whole.{AreLive}
 use Rattle.grove_terms.proofs.InLive.{same_edge_itself}
 use Rattle.walks.proofs.Ordered.{holds-filter, in_order-filter, same_lists}
 use Rattle.user_actions.specs.PlainEdits.{PlainEdit, plain}
-use Rattle.grove_sorts.proofs.Truths.{both_true, or_left}
-use Rattle.user_actions.proofs.Truths.{and_true, same_tests}
+use Rattle.grove_sorts.proofs.Truths.{both_true, or_left, and_true, same_tests}
 
 -- ---- the graph
 

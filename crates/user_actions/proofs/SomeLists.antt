@@ -5,40 +5,24 @@ use Rattle.std.specs.Map.{lookup}
 use Rattle.edge_lattice.specs.declared.state.State.{State}
 use Rattle.edge_lattice.specs.declared.state.State.TheVariants.{Absent, Live, Deleted}
 use Rattle.edge_lattice.specs.State.{state_join}
-use Rattle.grove_sorts.proofs.Truths.{both_true, or_left, or_right}
+use Rattle.grove_sorts.proofs.Truths.{both_true, or_left, or_right, and_true}
 use Rattle.grove_edits.specs.declared.edge.Edge.{Edge}
 use Rattle.grove_edits.specs.declared.edit.Edit.{Edit}
 use Rattle.grove_edits.specs.Edit.{edit_edge, edit_kind}
 use Rattle.grove_edits.specs.Graph.{Graph, graph, state_of, is_same_edge}
 use Rattle.grove_edits.proofs.Orders.{one_edge}
 use Rattle.walks.specs.Live.{holds_edge}
-use Rattle.walks.specs.States.{is_present, Entries, state_in}
+use Rattle.walks.specs.States.{is_present, Entries, state_in, is_live}
 use Rattle.walks.specs.Ordered.{with_edges}
 use Rattle.walks.proofs.Ordered.{holds-with_edges, holds-filter, in_order-with_edges, in_order-filter}
 use Rattle.grove_terms.proofs.InLive.{same_edge_itself}
 use Rattle.grove_terms.proofs.OneGrove.{ends_of, vertices_from}
 use Rattle.user_actions.specs.Lists.{GraphLists, AreListsOf}
-use Rattle.user_actions.specs.NamedEdges.{is_live}
-use Rattle.user_actions.proofs.Truths.{and_true}
+use Rattle.walks.proofs.Truths.{live_from_test, present_from_test, test_from_present}
 
 -- each edge that is not Absent stands in the list
 abbrev pub HasAll : Graph → List Edge → Type 0
 HasAll g edges = (e : Edge) → g e ≢ Absent → holds_edge e edges ≡ true
-
-present_from_test : (s : State) → is_present s ≡ true → s ≢ Absent
-present_from_test Absent h e = cc
-present_from_test Live h e = cc
-present_from_test Deleted h e = cc
-
-test_from_present : (s : State) → s ≢ Absent → is_present s ≡ true
-test_from_present Absent h = absurd (h refl)
-test_from_present Live h = refl
-test_from_present Deleted h = refl
-
-pub live_from_test : (s : State) → is_live s ≡ true → s ≡ Live
-live_from_test Absent h = absurd cc
-live_from_test Live h = refl
-live_from_test Deleted h = absurd cc
 
 live_present : (s : State) → s ≡ Live → s ≢ Absent
 live_present s live absent = let both : Live ≡ Absent = sym live ∙ absent in cc

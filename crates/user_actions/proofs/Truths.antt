@@ -1,6 +1,6 @@
 -- Tests of truth values, names and sorts.
-use Rattle.std.proofs.Common.{◌≡◌, Bool, true, false, refl, sym, ap}
-use Rattle.std.specs.Prelude.{◌&&◌, not}
+use Rattle.std.proofs.Common.{◌≡◌, Bool, true, false, refl, ap}
+use Rattle.std.specs.Prelude.{not}
 use Rattle.std.specs.Ordering.{is_eq}
 use Rattle.std.proofs.lemmas.Cmp.{tied_itself}
 use Rattle.grove_names.specs.declared.name.Name.{Name}
@@ -9,26 +9,9 @@ use Rattle.grove_names.proofs.Orders.{name_cmp_total, name_cmp_exact}
 use Rattle.grove_sorts.proofs.Orders.{equal_from_test}
 use Rattle.user_actions.specs.Names.{is_same_name}
 
-pub and_true : (a b : Bool) → a ≡ true → b ≡ true → (a && b) ≡ true
-and_true true b e f = f
-and_true false b e f = absurd cc
-
-pub not_true : (a : Bool) → not a ≡ true → a ≡ false
-not_true true h = absurd cc
-not_true false h = refl
-
 pub not_false : (a : Bool) → not a ≡ false → a ≡ true
 not_false true h = refl
 not_false false h = absurd cc
-
-pub false_from : (b : Bool) → (b ≡ true → ⊥) → b ≡ false
-false_from true refuted = absurd (refuted refl)
-false_from false refuted = refl
-
-pub same_tests : (a b : Bool) → (a ≡ true → b ≡ true) → (b ≡ true → a ≡ true) → a ≡ b
-same_tests true b to from = sym (to refl)
-same_tests false true to from = from refl
-same_tests false false to from = refl
 
 pub same_name_exact : (a b : Name) → is_same_name a b ≡ true → a ≡ b
 same_name_exact a b h = name_cmp_exact a b (equal_from_test (name_cmp a b) h)

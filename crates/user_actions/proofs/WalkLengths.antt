@@ -12,8 +12,7 @@ use Rattle.walks.proofs.Endings.{AllStandIn, AreApart, length-AllStandIn, target
 use Rattle.walks.proofs.Up.{up, walk_len, up_none_along}
 use Rattle.walks.specs.Cycle.{leads_to}
 use Rattle.walks.proofs.Cycles.{Reaches, reaches_from_leads, leads_from_reaches, within_walk}
-use Rattle.user_actions.proofs.Truths.{false_from}
-use Rattle.grove_sorts.proofs.Truths.{or_left, or_right}
+use Rattle.grove_sorts.proofs.Truths.{false_from, or_left, or_right}
 
 or_both : (a b c : Bool) → a ≡ b → (a || c) ≡ (b || c)
 or_both a b c e = ap (λ x. x || c) e

@@ -1,9 +1,8 @@
 ghost use Rattle.std.specs.Prelude.{◌≡◌, length, slice_get, IfOk};
 ghost use Rattle.walks.specs.Live.{IsInEdgeOrder, children_of, holds_edge};
 ghost use Rattle.walks.specs.Names.{IsGreatest, IsNameOf};
-ghost use Rattle.walks.specs.Named.{AreLeastTwo};
+ghost use Rattle.walks.specs.Named.{AreLeastTwo, AreNamed};
 ghost use Rattle.user_actions.specs.Lists.{IsFinite};
-ghost use Rattle.user_actions.specs.NamedEdges.{AreNamed};
 ghost use Rattle.user_actions.specs.NamedVertices.{IsVertexNamed};
 
 use crate::no_memory::NoMemory;

@@ -45,7 +45,7 @@ around_first edges v start =
 abbrev lesser : Vertex → Vertex → Vertex
 lesser a b = cond (is_gt (vertex_cmp a b)) b a
 
-gt_false_from : (o p : Ordering) → o ≡ ordering_reverse p → is_gt p ≡ true → is_gt o ≡ false
+pub gt_false_from : (o p : Ordering) → o ≡ ordering_reverse p → is_gt p ≡ true → is_gt o ≡ false
 gt_false_from Less p flip gt = refl
 gt_false_from Equal p flip gt = refl
 gt_false_from Greater Less flip gt = absurd cc
@@ -53,7 +53,7 @@ gt_false_from Greater Equal flip gt = absurd cc
 gt_false_from Greater Greater flip gt = absurd cc
 
 -- what is not greater than a vertex is not greater than a greater one
-le_through : (a b c : Vertex) → is_gt (vertex_cmp a b) ≡ false → is_gt (vertex_cmp b c) ≡ false → is_gt (vertex_cmp a c) ≡ false
+pub le_through : (a b c : Vertex) → is_gt (vertex_cmp a b) ≡ false → is_gt (vertex_cmp b c) ≡ false → is_gt (vertex_cmp a c) ≡ false
 le_through a b c first second = by_orders (vertex_cmp a b) (vertex_cmp b c) refl refl first second where
   by_orders : (o p : Ordering) → vertex_cmp a b ≡ o → vertex_cmp b c ≡ p → is_gt o ≡ false → is_gt p ≡ false → is_gt (vertex_cmp a c) ≡ false
   by_orders Less Less is further first second = ap is_gt (vertex_cmp_total.trans a b c is further)

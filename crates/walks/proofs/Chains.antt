@@ -56,7 +56,7 @@ has_chain live v = let t = has_top live v in chain_to live t.steps v t.top t.at 
 one_edge_of : (e f : Edge) → e ∷ [] ≡ f ∷ [] → e ≡ f
 one_edge_of e f same = cc
 
-chain_is_one : (live : List Edge) (v : Vertex) (xs ys : List Vertex) → IsChain live v xs → IsChain live v ys → xs ≡ ys
+pub chain_is_one : (live : List Edge) (v : Vertex) (xs ys : List Vertex) → IsChain live v xs → IsChain live v ys → xs ≡ ys
 chain_is_one live v [] [] one other = refl
 chain_is_one live v [] (y ∷ ys) one other = absurd (one other.1)
 chain_is_one live v (x ∷ xs) [] one other = absurd (other one.1)

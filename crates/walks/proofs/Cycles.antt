@@ -20,6 +20,7 @@ use Rattle.walks.proofs.Up.{up, next_above, up-along, up_none_along, walk_len, w
 use Rattle.walks.specs.Cycle.{leads_to, is_on_cycle}
 use Rattle.walks.proofs.Returns.{some_same}
 use Rattle.walks.proofs.Roots.{root_back, root_least, vertex_of_some}
+use Rattle.grove_sorts.proofs.Truths.{or_true}
 
 -- ---- steps up in two parts
 
@@ -64,10 +65,6 @@ within_walk edges v (suc n) x at = by_last (up edges n (Some v)) (λ y is. withi
   by_last (Some y) within is next =
       let found = within y is in
       by_length y found.0 next found.1 found.2
-
-pub or_true : (b : Bool) → (b || true) ≡ true
-or_true true = refl
-or_true false = refl
 
 goes_stands : (edges : List Edge) (passed : List Vertex) (o : Option Vertex) (xs : List Vertex) → GoesOn edges passed o xs → (x : Vertex) (i : ℕ) → i < length xs → up edges i o ≡ Some x → stands_in x xs ≡ true
 goes_stands edges passed o [] g x i lt at = absurd (omega arith)

@@ -11,7 +11,8 @@ use Rattle.walks.specs.declared.class.Class.TheVariants.{Cycle}
 use Rattle.grove_edits.proofs.Vertices.{same_vertex_exact, same_vertex_itself}
 use Rattle.walks.specs.Met.{met_by, KeepsMet, AreNumbered, HasEnded}
 use Rattle.walks.specs.Cycle.{leads_to}
-use Rattle.walks.proofs.Cycles.{or_true, reaches_from_leads, leads_to_itself, one_root, class_is_cycle}
+use Rattle.walks.proofs.Cycles.{reaches_from_leads, leads_to_itself, one_root, class_is_cycle}
+use Rattle.grove_sorts.proofs.Truths.{or_true}
 use Rattle.walks.proofs.Meetings.{Met}
 
 -- those of the first i vertices have been walked up from

@@ -10,3 +10,4 @@ pub mod Unmet
 pub mod Meetings
 pub mod Found
 pub mod Ordered
+pub mod Truths

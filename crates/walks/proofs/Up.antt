@@ -1,9 +1,9 @@
 -- The vertices above a vertex, by number, and which of them are on its walk.
-use Rattle.std.proofs.Common.{◌≡◌, ℕ, zero, suc, ◌+◌, ◌<◌, Bool, true, false, List, [], ◌∷◌, length, refl, sym, ap, ◌∙◌, arith, inl, inr}
+use Rattle.std.proofs.Common.{◌≡◌, ℕ, zero, suc, ◌+◌, ◌<◌, true, false, List, [], ◌∷◌, length, refl, sym, ap, ◌∙◌, arith, inl, inr}
 use native.Mathlib.Numerals.{unary_clauses}
 use Rattle.std.specs.Prelude.{◌||◌, ◌&&◌, ◌⊎◌, not, Option, None, Some}
 use Rattle.std.specs.Ordering.{is_gt}
-use Rattle.grove_sorts.proofs.Truths.{both_true}
+use Rattle.grove_sorts.proofs.Truths.{both_true, not_true, or_true}
 use Rattle.grove_edits.specs.declared.vertex.Vertex.{Vertex}
 use Rattle.grove_edits.specs.declared.edge.Edge.{Edge}
 use Rattle.grove_edits.specs.Vertex.{vertex_cmp, is_same_vertex, stands_in}
@@ -46,10 +46,6 @@ goes_none edges passed o (x ∷ xs) g zero lt none = let is = g.0 in cc
 goes_none edges passed o (x ∷ xs) g (suc i) lt none =
     goes_none edges (x ∷ passed) (above edges x) xs g.2 i (omega arith) (up_after edges o x i g.0 ∙ none)
 
-or-true : (b : Bool) → (b || true) ≡ true
-or-true true = refl
-or-true false = refl
-
 -- no vertex that was passed is added
 goes_new : (edges : List Edge) (passed : List Vertex) (o : Option Vertex) (xs : List Vertex) → GoesOn edges passed o xs → (y : Vertex) → stands_in y passed ≡ true
     → (j : ℕ) → j < length xs → up edges j o ≡ Some y → ⊥
@@ -60,7 +56,7 @@ goes_new edges passed o (x ∷ xs) g y was zero lt at =
     let new : stands_in y passed ≡ false = ap (λ z. stands_in z passed) (sym one) ∙ g.1 in
     cc
 goes_new edges passed o (x ∷ xs) g y was (suc j) lt at =
-    goes_new edges (x ∷ passed) (above edges x) xs g.2 y (ap (λ b. is_same_vertex x y || b) was ∙ or-true (is_same_vertex x y)) j (omega arith) (up_after edges o x j g.0 ∙ at)
+    goes_new edges (x ∷ passed) (above edges x) xs g.2 y (ap (λ b. is_same_vertex x y || b) was ∙ or_true (is_same_vertex x y)) j (omega arith) (up_after edges o x j g.0 ∙ at)
 
 goes_apart : (edges : List Edge) (passed : List Vertex) (o : Option Vertex) (xs : List Vertex) → GoesOn edges passed o xs → (i j : ℕ) → i < j → j < length xs
     → up edges i o ≡ up edges j o → ⊥
@@ -94,10 +90,6 @@ goes_last edges passed o x [] g = up_after edges o x zero g.0
 goes_last edges passed o x (y ∷ ys) g = goes_last edges (x ∷ passed) (above edges x) y ys g.2 ∙ up_after edges o x (suc (length ys)) g.0
 
 -- ---- the least of the vertices that a walk adds
-
-not_true : (a : Bool) → not a ≡ true → a ≡ false
-not_true true h = absurd cc
-not_true false h = refl
 
 goes_least : (edges : List Edge) (passed : List Vertex) (o : Option Vertex) (xs : List Vertex) → GoesOn edges passed o xs → (v : Vertex) → is_least v xs ≡ true
     → (i : ℕ) (x : Vertex) → i < length xs → up edges i o ≡ Some x → is_gt (vertex_cmp v x) ≡ false

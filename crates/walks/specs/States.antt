@@ -35,6 +35,11 @@ with_state edge state g e = if is_same_edge edge e then state else g e
 abbrev pub well_formed : Graph → Graph
 well_formed g e = if is_none (edge_fault e) then g e else Absent
 
+abbrev pub is_live : State → Bool
+is_live Absent = false
+is_live Live = true
+is_live Deleted = false
+
 -- a state of an edge that an edit named
 abbrev pub is_present : State → Bool
 is_present Absent = false

@@ -1,13 +1,10 @@
-use Rattle.std.proofs.Common.{◌≡◌, List, [], ◌∷◌, length, refl, ◌∙◌, arith, Result, Ok, Err, OnErr}
+use Rattle.std.proofs.Common.{◌≡◌, List, [], ◌∷◌, length, refl, ◌∙◌, arith}
 use Rattle.author_desk.specs.Lines.{slots_cut}
 use Rattle.author_desk.specs.Cuts.{opening_edits}
 use Rattle.author_desk.proofs.Raising.{keeps_seat}
 use Rattle.author_desk.proofs.UnderWay.{lengths, begins, goes_on, enters_first, raises_first, turns_same, ends_entered, ends_raised, ends_made, ends_left}
+use Rattle.grove_sorts.proofs.Truths.{after_error}
 use Rattle.author_desk.proofs.lines.run_lines.Goals as goal
-
-on_err : {T E P : Type 0} (r : Result T E) → P → OnErr r P
-on_err (Ok x) h = tt
-on_err (Err e) h = h
 
 nothing : {X : Type 0} (xs : List X) → length xs ≡ 0 → xs ≡ []
 nothing [] none = refl
@@ -33,13 +30,13 @@ loop-left-preserved g c =
 
 pub returns-in_err-enter-clause-entered_first : goal.returns-in_err-enter-clause-entered_first
 returns-in_err-enter-clause-entered_first g c =
-    on_err c.from_residual.result
+    after_error c.from_residual.result
     (enters_first c.args.pass.now c.loop-left.pass c.enter.new.pass c.args.cuts.now c.loop-left.cuts c.args.lines.now c.loop-left.left.now c.start_turn.result.0.now c.start_turn.result.1.now c.loop-left.invariant.0
     c.start_turn.ensures.started.split c.in_err-enter.ensures.first)
 
 pub returns-in_err-enter-clause-raised_first : goal.returns-in_err-enter-clause-raised_first
 returns-in_err-enter-clause-raised_first g c =
-    on_err c.from_residual.result
+    after_error c.from_residual.result
     (raises_first c.args.pass.now c.loop-left.pass c.args.cuts.now c.loop-left.cuts c.start_turn.new.cuts c.args.lines.now c.loop-left.left.now c.start_turn.result.0.now c.start_turn.result.1.now c.requires.cuts
     c.loop-left.invariant.0 c.start_turn.ensures.started)
 

@@ -6,7 +6,8 @@ use Rattle.marking.specs.Added.{marked_nodes}
 use Rattle.marking.specs.Reading.{meant_nodes}
 use Rattle.marking.specs.Numbers.{AreMarkedNodesOf}
 use Rattle.grove_printer.specs.Print.{tree_marked_lines}
-use Rattle.grove_printer.proofs.Extending.{extends_further, after_error}
+use Rattle.grove_printer.proofs.Extending.{extends_further}
+use Rattle.grove_sorts.proofs.Truths.{after_error}
 use Rattle.grove_printer.proofs.Lines.{all_left, none_left}
 use Rattle.grove_printer.proofs.marked_lines.append_marked_lines_of.Goals as goal
 

@@ -1,6 +1,7 @@
 use Rattle.std.proofs.Common.{sym, subst}
 use Rattle.grove_printer.specs.Print.{Extends}
-use Rattle.grove_printer.proofs.Extending.{extends_appended, after_error}
+use Rattle.grove_printer.proofs.Extending.{extends_appended}
+use Rattle.grove_sorts.proofs.Truths.{after_error}
 use Rattle.grove_printer.proofs.marks.append_marks.Goals as goal
 
 pub returns-in_err-push-2-clause-in_part : goal.returns-in_err-push-2-clause-in_part

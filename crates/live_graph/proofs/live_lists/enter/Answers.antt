@@ -1,7 +1,7 @@
 use Rattle.std.proofs.Common.{◌<◌, ◌^◌, length, refl, sym, ap, subst, ◌∙◌}
 use Rattle.edge_numbers.specs.Numbered.{with_entry}
 use Rattle.walks.specs.States.{Entries}
-use Rattle.edge_numbers.proofs.Entered.{on_err_always}
+use Rattle.grove_sorts.proofs.Truths.{after_error}
 use Rattle.live_graph.proofs.Listed.{same_begins, listed-vertices, listed-entered}
 use Rattle.live_graph.proofs.Counts.{uses_vertices, names_vertices, uses_entered}
 use Rattle.live_graph.proofs.NumbersStay.{numbers_kept, none_moved, moved_twice}
@@ -40,7 +40,7 @@ returns-in_err-number-clause-names c =
     c.name_vertices.ensures.uses.within c.name_vertices.ensures.names
 
 pub returns-in_err-number-clause-unchanged : goal.returns-in_err-number-clause-unchanged
-returns-in_err-number-clause-unchanged c = on_err_always c.from_residual-in_err-number.result (c.in_err-number.ensures.unchanged ∙ c.make_places.ensures.entries)
+returns-in_err-number-clause-unchanged c = after_error c.from_residual-in_err-number.result (c.in_err-number.ensures.unchanged ∙ c.make_places.ensures.entries)
 
 pub returns-clause-listed : goal.returns-clause-listed
 returns-clause-listed c =

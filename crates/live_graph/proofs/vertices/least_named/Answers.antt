@@ -7,14 +7,15 @@ use Rattle.std.proofs.lemmas.List.Folds.{list_any_more}
 use Rattle.grove_edits.specs.Vertex.{is_same_vertex, root}
 use Rattle.numbers_by_name.specs.ByName.{is_same_name}
 use Rattle.live_graph.specs.Uses.{is_named_vertex}
-use Rattle.live_graph.proofs.Ends.{or_none, or_assoc}
+use Rattle.live_graph.proofs.Ends.{or_assoc}
+use Rattle.grove_sorts.proofs.Truths.{or_false}
 use Rattle.live_graph.proofs.LeastTwo.{least_two_alike}
 use Rattle.live_graph.proofs.vertices.least_named.Goals as goal
 
 pub loop-number-init : goal.loop-number-init
 loop-number-init c =
     least_two_alike (λ v. is_same_name root.name c.args.name && is_same_vertex root v) (λ v. (is_same_name root.name c.args.name && is_same_vertex root v) || false)
-    (λ v. sym (or_none (is_same_name root.name c.args.name && is_same_vertex root v))) c.root_named-found.result c.root_named-found.ensures
+    (λ v. sym (or_false (is_same_name root.name c.args.name && is_same_vertex root v))) c.root_named-found.result c.root_named-found.ensures
 
 pub loop-number-preserved : goal.loop-number-preserved
 loop-number-preserved c =

@@ -1,4 +1,5 @@
-use Rattle.grove_printer.proofs.Extending.{extends_further, after_error}
+use Rattle.grove_printer.proofs.Extending.{extends_further}
+use Rattle.grove_sorts.proofs.Truths.{after_error}
 use Rattle.whole_groves.proofs.printing.append_trees.Goals as goal
 
 pub returns-in_err-append_tree-clause-in_part : goal.returns-in_err-append_tree-clause-in_part

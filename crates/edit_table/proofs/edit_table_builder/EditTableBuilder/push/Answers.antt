@@ -1,6 +1,7 @@
 use Rattle.std.proofs.Common.{◌≡◌, ◌∷◌, [], length, ap, ◌∙◌, take, arith}
 use Rattle.edit_table.proofs.Lists.{taken_back}
-use Rattle.edit_table.proofs.Growing.{growing_back, is_growing_back, on_err}
+use Rattle.edit_table.proofs.Growing.{growing_back, is_growing_back}
+use Rattle.grove_sorts.proofs.Truths.{after_error}
 use Rattle.edit_table.proofs.edit_table_builder.EditTableBuilder.push.Goals as goal
 
 -- what was there before
@@ -33,7 +34,7 @@ invariant_of-self-then-is_err c =
 
 pub returns-then-is_err-clause-unchanged : goal.returns-then-is_err-clause-unchanged
 returns-then-is_err-clause-unchanged c =
-    on_err c.push_records-pushed.result
+    after_error c.push_records-pushed.result
     (growing_back c.self.inside.ctors.keys c.push_records-pushed.new.ctors.keys c.self.inside.keys.keys c.push_records-pushed.new.keys.keys c.truncate.new.self.keys c.self.inside.records.items
     c.truncate-then-is_err.new.self.items c.self.inside.waiting.items c.truncate-then-is_err-2.new.self.items c.push_records-pushed.ensures.ctors c.push_records-pushed.ensures.ctors_stay
     c.push_records-pushed.ensures.keys_stay c.self.invariant (keys_back c) (records_back c) (waiting_back c) ∙ c.self.view_is)

@@ -1,7 +1,8 @@
 use Rattle.std.proofs.Common.{sym, ◌∙◌, inl, ap, is_some}
 use Rattle.std.specs.BTreeMap.{is_at}
 use Rattle.std.specs.Map.{lookup}
-use Rattle.graph_store.proofs.Lookups.{gets_room, put_back, none_from_cases}
+use Rattle.graph_store.proofs.Lookups.{gets_room, put_back}
+use Rattle.grove_sorts.proofs.Truths.{none_from_cases}
 use Rattle.graph_store.proofs.room_map.RoomMap.make_room.Goals as goal
 
 pub returns-in-Some-clause-room : goal.returns-in-Some-clause-room

@@ -11,10 +11,9 @@ use Rattle.mark_incremental.specs.Standing.{StandFor}
 use Rattle.mark_incremental.specs.Applying.{WasApplied, IsApplied, IsBack}
 use Rattle.mark_incremental.proofs.Room.{leaves_room, leaves_more}
 use Rattle.mark_incremental.proofs.Stack.{if_ok_so}
-use Rattle.mark_incremental.proofs.Outcomes.{on_err_always}
+use Rattle.grove_sorts.proofs.Truths.{after_error, none_from_cases}
 use Rattle.mark_incremental.proofs.Edited.{grown_stands, nothing_grown}
 use Rattle.mark_incremental.proofs.Idle.{joined_same, nothing_applied}
-use Rattle.mark_incremental.proofs.ApartFrom.{none_holds}
 use Rattle.mark_incremental.proofs.AppliedOver.{if_ok_on, on_err_so, either_way, grown_then, joined_over, applied_over, size_over, room_over, room_over_targets}
 use Rattle.mark_incremental.proofs.marks.Marks.apply.Goals as goal
 
@@ -32,7 +31,7 @@ returns-in_err-reserve-clause-stand g c =
 
 pub returns-in_err-reserve-clause-index_room_stays : goal.returns-in_err-reserve-clause-index_room_stays
 returns-in_err-reserve-clause-index_room_stays g c =
-    on_err_always c.from_residual.result
+    after_error c.from_residual.result
     (leaves_more (edit_edge c.args.edit.now) c.args.children.now c.reserve.new.children c.args.parents.now c.reserve.new.parents c.reserve.ensures.children_room c.reserve.ensures.parents_room)
 
 -- ---- a short walk is tried
@@ -81,19 +80,19 @@ returns-in-Some-clause-ticks g c = λ n size.
 
 pub apply_whole-requires-clause-stand : goal.apply_whole-requires-clause-stand
 apply_whole-requires-clause-stand g c =
-    let back = c.in_ok-applied.ensures.back (none_holds c.in_ok-applied.field-0 c.in_default.not-Some) in
+    let back = c.in_ok-applied.ensures.back (none_from_cases c.in_ok-applied.field-0 c.in_default.not-Some) in
     grown_stands (state_in c.args.store.now) (state_in c.apply_short.new.store) c.args.self.now c.apply_short.new.self c.requires.stand (λ e. back.same e ∙ c.reserve.ensures.graph e) back.grown
 
 pub returns-clause-joined : goal.returns-clause-joined
 returns-clause-joined g c =
-    let back = c.in_ok-applied.ensures.back (none_holds c.in_ok-applied.field-0 c.in_default.not-Some) in
+    let back = c.in_ok-applied.ensures.back (none_from_cases c.in_ok-applied.field-0 c.in_default.not-Some) in
     if_ok_on c.apply_whole.result (λ (a : Applied). IsApplied c.args.edit.now a c.apply_short.new.store c.apply_short.new.self c.apply_whole.new.store c.apply_whole.new.self)
     (IsSame (state_in c.apply_whole.new.store) (graph_join (state_in c.args.store.now) (graph (c.args.edit.now ∷ []))))
     (λ a is. joined_over c.args.edit.now (state_in c.args.store.now) (state_in c.apply_short.new.store) (state_in c.apply_whole.new.store) (λ e. back.same e ∙ c.reserve.ensures.graph e) is.was.raised.joined) c.apply_whole.ensures.applied
 
 pub returns-clause-stand : goal.returns-clause-stand
 returns-clause-stand g c =
-    let back = c.in_ok-applied.ensures.back (none_holds c.in_ok-applied.field-0 c.in_default.not-Some) in
+    let back = c.in_ok-applied.ensures.back (none_from_cases c.in_ok-applied.field-0 c.in_default.not-Some) in
     either_way c.apply_whole.result (λ (a : Applied). IsApplied c.args.edit.now a c.apply_short.new.store c.apply_short.new.self c.apply_whole.new.store c.apply_whole.new.self)
     (IsBack c.apply_short.new.store c.apply_short.new.children c.apply_short.new.parents c.apply_short.new.self c.apply_whole.new.store c.apply_whole.new.children c.apply_whole.new.parents c.apply_whole.new.self)
     (StandFor (state_in c.apply_whole.new.store) c.apply_whole.new.self) (λ a is. is.stand)
@@ -102,7 +101,7 @@ returns-clause-stand g c =
 
 pub returns-clause-applied : goal.returns-clause-applied
 returns-clause-applied g c =
-    let back = c.in_ok-applied.ensures.back (none_holds c.in_ok-applied.field-0 c.in_default.not-Some) in
+    let back = c.in_ok-applied.ensures.back (none_from_cases c.in_ok-applied.field-0 c.in_default.not-Some) in
     if_ok_so c.apply_whole.result (λ (a : Applied). IsApplied c.args.edit.now a c.apply_short.new.store c.apply_short.new.self c.apply_whole.new.store c.apply_whole.new.self)
     (λ (a : Applied). WasApplied c.args.edit.now a c.args.store.now c.args.self.now c.apply_whole.new.store c.apply_whole.new.self)
     (λ a is. applied_over c.args.edit.now a c.args.store.now c.apply_short.new.store c.apply_whole.new.store c.args.self.now c.apply_short.new.self c.apply_whole.new.self (λ e. back.same e ∙ c.reserve.ensures.graph e) back.grown
@@ -110,7 +109,7 @@ returns-clause-applied g c =
 
 pub returns-clause-index_room : goal.returns-clause-index_room
 returns-clause-index_room g c =
-    let back = c.in_ok-applied.ensures.back (none_holds c.in_ok-applied.field-0 c.in_default.not-Some) in
+    let back = c.in_ok-applied.ensures.back (none_from_cases c.in_ok-applied.field-0 c.in_default.not-Some) in
     if_ok_so c.apply_whole.result
     (λ (a : Applied). MovesRoom (edit_edge c.args.edit.now) (brought_by (edit_kind c.args.edit.now) a.change) (taken_by (edit_kind c.args.edit.now) a.change) c.apply_short.new.children c.apply_whole.new.children c.apply_short.new.parents
     c.apply_whole.new.parents)
@@ -121,7 +120,7 @@ returns-clause-index_room g c =
 
 pub returns-clause-index_room_stays : goal.returns-clause-index_room_stays
 returns-clause-index_room_stays g c =
-    let back = c.in_ok-applied.ensures.back (none_holds c.in_ok-applied.field-0 c.in_default.not-Some) in
+    let back = c.in_ok-applied.ensures.back (none_from_cases c.in_ok-applied.field-0 c.in_default.not-Some) in
     on_err_so c.apply_whole.result
     (IsBack c.apply_short.new.store c.apply_short.new.children c.apply_short.new.parents c.apply_short.new.self c.apply_whole.new.store c.apply_whole.new.children c.apply_whole.new.parents c.apply_whole.new.self)
     (LeavesRoom (edit_edge c.args.edit.now) 0 0 c.args.children.now c.apply_whole.new.children c.args.parents.now c.apply_whole.new.parents)
@@ -132,7 +131,7 @@ returns-clause-index_room_stays g c =
 
 pub returns-clause-ticks : goal.returns-clause-ticks
 returns-clause-ticks g c = λ n size.
-    let back = c.in_ok-applied.ensures.back (none_holds c.in_ok-applied.field-0 c.in_default.not-Some) in
+    let back = c.in_ok-applied.ensures.back (none_from_cases c.in_ok-applied.field-0 c.in_default.not-Some) in
     let short = c.apply_short.ensures.ticks n (size_over c.args.edit.now (state_in c.args.store.now) (state_in c.reserve.new.store) n c.reserve.ensures.graph size) in
     let whole = c.apply_whole.ensures.ticks n (size_over c.args.edit.now (state_in c.args.store.now) (state_in c.apply_short.new.store) n (λ e. back.same e ∙ c.reserve.ensures.graph e) size) in
     omega (arith, short, whole)

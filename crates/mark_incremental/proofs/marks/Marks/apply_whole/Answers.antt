@@ -6,7 +6,7 @@ use Rattle.edge_index.specs.Lists.{live}
 use Rattle.mark_incremental.specs.Raising.{brought_by, taken_by}
 use Rattle.mark_incremental.proofs.Room.{moved_back}
 use Rattle.mark_incremental.proofs.SizeBound.{size_at, before_within}
-use Rattle.mark_incremental.proofs.Outcomes.{on_err_always}
+use Rattle.grove_sorts.proofs.Truths.{after_error}
 use Rattle.mark_incremental.proofs.Edited.{stands_before, nothing_grown}
 use Rattle.mark_incremental.proofs.marks.Marks.apply_whole.Goals as goal
 
@@ -22,7 +22,7 @@ returns-in-Ok-clause-applied g c = record {
 }
 
 pub returns-in_err-before-clause-unchanged : goal.returns-in_err-before-clause-unchanged
-returns-in_err-before-clause-unchanged g c = on_err_always c.from_residual.result (record { same = λ e. refl; grown = nothing_grown c.args.self.now; at_origins = λ v p. refl; at_targets = λ v. refl })
+returns-in_err-before-clause-unchanged g c = after_error c.from_residual.result (record { same = λ e. refl; grown = nothing_grown c.args.self.now; at_origins = λ v p. refl; at_targets = λ v. refl })
 
 pub returns-clause-unchanged : goal.returns-clause-unchanged
 returns-clause-unchanged g c =

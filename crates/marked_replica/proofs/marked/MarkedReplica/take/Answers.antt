@@ -2,7 +2,7 @@ use Rattle.walks.specs.States.{state_in}
 use Rattle.marked_replica.specs.MarkingCost.{edits_marking_cost}
 use Rattle.replica_core.proofs.Keeping.{seen_unchanged, seen_taken, graph_seen}
 use Rattle.marked_replica.proofs.MarkingCosts.{edits_marking_cost_is}
-use Rattle.marked_replica.proofs.MarksSeen.{after_error}
+use Rattle.grove_sorts.proofs.Truths.{after_error}
 use Rattle.marked_replica.proofs.marked.MarkedReplica.take.Goals as goal
 
 pub invariant_of-self : goal.invariant_of-self
