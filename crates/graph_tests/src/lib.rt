@@ -1,4 +1,5 @@
-//! Tests of graphs: walks, stores, indexes, live graphs, tables, and the trees they decompose into. Each test calls what a crate makes public.
+//! Tests of graphs: walks, stores, indexes, live graphs, and the trees they decompose into. Each test calls what a crate makes public. Tables, and
+//! the trees of their graphs, are looked at on the built program.
 #![tactic(auto)]
 
 #[cfg(test)]
@@ -8,11 +9,9 @@ mod edge_index_tests;
 #[cfg(test)]
 mod edge_lists_tests;
 #[cfg(test)]
-mod edit_table_tests;
+mod edge_numbers_tests;
 #[cfg(test)]
 mod graph_store_tests;
-#[cfg(test)]
-mod graph_table_tests;
 #[cfg(test)]
 mod grove_decompose_tests;
 #[cfg(test)]
@@ -25,8 +24,6 @@ mod numbers_by_name_tests;
 mod parent_index_tests;
 #[cfg(test)]
 mod seeded_hash_tests;
-#[cfg(test)]
-mod table_text_tests;
 #[cfg(test)]
 mod unicycle_roots_tests;
 #[cfg(test)]

@@ -1,4 +1,5 @@
-//! Tests of marks: types, contexts, single steps, whole trees, kept marks, and how they print. Each test calls what a crate makes public.
+//! Tests of marks: types, contexts, whole trees, kept marks, and how they print. Each test calls what a crate makes public. What is demanded of
+//! each constructor, and what it shows, is looked at on the built program.
 #![tactic(auto)]
 
 #[cfg(test)]
@@ -8,16 +9,10 @@ mod grove_answers_tests;
 #[cfg(test)]
 mod grove_printer_tests;
 #[cfg(test)]
-mod judging_tests;
-#[cfg(test)]
 mod mark_incremental_tests;
 #[cfg(test)]
 mod mark_rules_tests;
 #[cfg(test)]
-mod mark_step_tests;
-#[cfg(test)]
 mod mark_store_tests;
-#[cfg(test)]
-mod plain_typing_tests;
 #[cfg(test)]
 mod type_core_tests;

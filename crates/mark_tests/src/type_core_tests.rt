@@ -3,7 +3,7 @@ ghost use Rattle.type_core.specs.TypeTable.{IsTypeOf, KeepsTypes};
 
 use std::alloc::Global;
 use std::test::Fail;
-use type_core::{NoMemory, TypeId, TypePrinter, TypeTable};
+use type_core::{NoMemory, TypeId, TypeTable};
 
 // The product of a type with itself, of that product with itself, and so on.
 fn doubled(table: &mut TypeTable, from: TypeId, times: u32) -> Result<TypeId, NoMemory>
@@ -32,69 +32,6 @@ fn chain(table: &mut TypeTable, from: TypeId, times: u32) -> Result<TypeId, NoMe
     Ok(t)
 }
 
-// Prints a type down to so many levels.
-fn print_type(
-    alloc: Global,
-    table: &TypeTable,
-    t: TypeId,
-    levels: u8,
-    text: &mut Vec<u8>,
-) -> Result<(), Fail>
-    requires { IsTypeOf table.now t }
-{
-    TypePrinter::new(alloc, table).write_type(t, levels, text)?;
-    Ok(())
-}
-
-fn print_chain(alloc: Global, text: &mut Vec<u8>) -> Result<(), Fail> {
-    let mut table = TypeTable::new(alloc)?;
-    let num = table.num();
-    let t = chain(&mut table, num, 9)?;
-    print_type(alloc, &table, t, 8, text)
-}
-
-#[test]
-fn text_goes_down_to_the_levels(rt: HostRuntime) -> Result<(), Fail> {
-    let mut text = Vec::new(rt.alloc());
-    print_chain(rt.alloc(), &mut text)?;
-    let wanted = b"((((((((..->num)->num)->num)->num)->num)->num)->num)->num)";
-    assert!(rt; text.as_slice() == wanted.as_slice());
-    Ok(())
-}
-
-// The sum of a pair and a number.
-fn sum_of_pair(table: &mut TypeTable) -> Result<TypeId, NoMemory>
-    ensures { IfOk result (IsTypeOf table.new) }
-{
-    let pair = table.product(table.unknown(), table.boolean())?;
-    let num = table.num();
-    table.sum(pair, num)
-}
-
-// Prints a type down to two levels and to none, by one printer.
-fn print_twice(alloc: Global, table: &TypeTable, t: TypeId, text: &mut Vec<u8>) -> Result<(), Fail>
-    requires { IsTypeOf table.now t }
-{
-    let mut printer = TypePrinter::new(alloc, table);
-    printer.write_type(t, 2, text)?;
-    printer.write_type(t, 0, text)?;
-    Ok(())
-}
-
-fn print_sum_of_pair(alloc: Global, text: &mut Vec<u8>) -> Result<(), Fail> {
-    let mut table = TypeTable::new(alloc)?;
-    let t = sum_of_pair(&mut table)?;
-    print_twice(alloc, &table, t, text)
-}
-
-#[test]
-fn text_names_each_form(rt: HostRuntime) -> Result<(), Fail> {
-    let mut text = Vec::new(rt.alloc());
-    print_sum_of_pair(rt.alloc(), &mut text)?;
-    assert!(rt; text.as_slice() == b"((?*bool)+num)..".as_slice());
-    Ok(())
-}
-
 // The type of functions of numbers, made twice.
 fn arrows(table: &mut TypeTable) -> Result<[TypeId; 2], NoMemory> {
     let num = table.num();
@@ -110,32 +47,6 @@ fn a_type_has_one_number(rt: HostRuntime) -> Result<(), Fail> {
     assert!(rt; second == first);
     let unknown = table.unknown();
     assert!(rt; unknown != table.num());
-    Ok(())
-}
-
-// The meet of a function from numbers and a function to truth values.
-fn meet_of_functions(alloc: Global, table: &mut TypeTable) -> Result<TypeId, Fail>
-    ensures { IfOk result (IsTypeOf table.new) }
-{
-    let left = table.arrow(table.num(), table.unknown())?;
-    let right = table.arrow(table.unknown(), table.boolean())?;
-    match table.meet(alloc, left, right)? {
-        Some(m) => Ok(m),
-        None => Err(Fail::from("no meet")),
-    }
-}
-
-fn print_meet_of_functions(alloc: Global, text: &mut Vec<u8>) -> Result<(), Fail> {
-    let mut table = TypeTable::new(alloc)?;
-    let m = meet_of_functions(alloc, &mut table)?;
-    print_type(alloc, &table, m, 8, text)
-}
-
-#[test]
-fn the_meet_has_what_either_knows(rt: HostRuntime) -> Result<(), Fail> {
-    let mut text = Vec::new(rt.alloc());
-    print_meet_of_functions(rt.alloc(), &mut text)?;
-    assert!(rt; text.as_slice() == b"(num->bool)".as_slice());
     Ok(())
 }
 

@@ -1,5 +1,5 @@
-//! Tests of replicas and commands: actions, a live replica with and without kept marks, answers, and the commands' output. Each test calls
-//! what a crate makes public.
+//! Tests of replicas and commands: actions, a live replica with and without kept marks, and commands on sources and sinks that fail. Each test
+//! calls what a crate makes public. What commands write is looked at on the built program.
 #![tactic(auto)]
 
 #[cfg(test)]
@@ -8,7 +8,5 @@ mod grove_top_tests;
 mod marked_replica_tests;
 #[cfg(test)]
 mod replica_core_tests;
-#[cfg(test)]
-mod session_answers_tests;
 #[cfg(test)]
 mod user_actions_tests;

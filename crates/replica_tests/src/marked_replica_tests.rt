@@ -19,49 +19,53 @@ const SUM: [&str; 3] = [
     "+1.6 1.1 plus right 1.5 true",
 ];
 
-// The replica after it took the edits of lines.
-fn after_counting<L: Ledger>(
+// Takes the edits of lines.
+fn take<L: Ledger>(
     alloc: Global,
-    mut marked: MarkedReplica,
+    marked: &mut MarkedReplica,
     lines: &[&str],
+    steps: &mut Steps<L>,
+) -> Result<(), Fail> {
+    for line in lines {
+        let edit = read_line(Version::Two, line.as_bytes())?;
+        marked.apply(alloc, &edit, steps)?;
+    }
+    Ok(())
+}
+
+// The mark that is kept of the vertex to which the edge of a line leads, and whether its type is that of truth values.
+fn kept(marked: &mut MarkedReplica, line: &str) -> Result<Option<(Mark, bool)>, Fail> {
+    let edge = read_line(Version::Two, line.as_bytes())?.edge();
+    let boolean = marked.types().boolean();
+    let record = marked.kept(&edge.target);
+    Ok(record.map(|record| (record.mark, record.typ == Some(boolean))))
+}
+
+// What is kept once the edits of lines are taken, the last of them in a block that opened before.
+fn kept_counting<L: Ledger>(
+    alloc: Global,
+    marked: &mut MarkedReplica,
+    lines: &[&str],
+    last: &str,
+    line: &str,
     blank: Blank,
-) -> Result<MarkedReplica, Fail>
+) -> Result<Option<(Mark, bool)>, Fail>
     requires name { blank.name ≡ L.name }
     requires parts { blank.parts ≡ L.parts }
     requires some { 0 < blank.parts }
 {
     let mut steps = Steps::<L>::new(blank);
-    for line in lines {
-        let edit = read_line(Version::Two, line.as_bytes())?;
-        marked.apply(alloc, &edit, &mut steps)?;
-    }
-    Ok(marked)
-}
-
-fn after(alloc: Global, marked: MarkedReplica, lines: &[&str]) -> Result<MarkedReplica, Fail> {
-    after_counting::<Brand>(alloc, marked, lines, Blank::new(1))
-}
-
-// A replica that took the edits of these lines before its block opened.
-fn opened(alloc: Global, lines: &[&str]) -> Result<MarkedReplica, Fail> {
-    let mut marked = after(alloc, MarkedReplica::new(alloc)?, lines)?;
+    take(alloc, marked, lines, &mut steps)?;
     marked.begin_block(alloc)?;
-    Ok(marked)
+    take(alloc, marked, &[last], &mut steps)?;
+    kept(marked, line)
 }
 
-// The mark that a replica keeps of the vertex to which the edge of a line leads.
-fn mark_at(marked: &mut MarkedReplica, line: &str) -> Result<Option<Mark>, Fail> {
-    let edge = read_line(Version::One, line.as_bytes())?.edge();
-    Ok(marked.kept(&edge.target).map(|record| record.mark))
-}
-
-fn mark_in(mut marked: MarkedReplica, line: &str) -> Result<Option<Mark>, Fail> {
-    mark_at(&mut marked, line)
-}
-
-// The mark that is kept once the edits of lines are taken, the last of them in a block that opened before.
 fn mark_after(alloc: Global, lines: &[&str], last: &str, line: &str) -> Result<Option<Mark>, Fail> {
-    mark_in(after(alloc, opened(alloc, lines)?, &[last])?, line)
+    let mut marked = MarkedReplica::new(alloc)?;
+    let told = kept_counting::<Brand>(alloc, &mut marked, lines, last, line, Blank::new(1));
+    drop(marked);
+    Ok(told?.map(|(mark, _)| mark))
 }
 
 #[test]
@@ -91,24 +95,34 @@ fn nothing_is_kept_of_what_is_no_vertex(rt: HostRuntime) -> Result<(), Fail> {
     Ok(())
 }
 
-// The replica after an action of the first author.
+// What is kept after an action of the first author.
 fn acted_counting<L: Ledger>(
     alloc: Global,
-    mut marked: MarkedReplica,
+    marked: &mut MarkedReplica,
+    lines: &[&str],
     action: &Action,
+    line: &str,
     blank: Blank,
-) -> Result<MarkedReplica, Fail>
+) -> Result<Option<(Mark, bool)>, Fail>
     requires name { blank.name ≡ L.name }
     requires parts { blank.parts ≡ L.parts }
     requires some { 0 < blank.parts }
 {
     let mut steps = Steps::<L>::new(blank);
+    take(alloc, marked, lines, &mut steps)?;
+    marked.begin_block(alloc)?;
     let (_edits, _answer) = marked.act(alloc, 1, action, &mut steps)?;
-    Ok(marked)
+    kept(marked, line)
 }
 
-fn acted(alloc: Global, marked: MarkedReplica, action: &Action) -> Result<MarkedReplica, Fail> {
-    acted_counting::<Brand>(alloc, marked, action, Blank::new(1))
+fn kept_once_acted(
+    alloc: Global,
+    lines: &[&str],
+    action: &Action,
+    line: &str,
+) -> Result<Option<(Mark, bool)>, Fail> {
+    let mut marked = MarkedReplica::new(alloc)?;
+    acted_counting::<Brand>(alloc, &mut marked, lines, action, line, Blank::new(1))
 }
 
 #[test]
@@ -119,34 +133,20 @@ fn what_an_action_leaves_is_marked(rt: HostRuntime) -> Result<(), Fail> {
             counter: 6,
         },
     };
-    let mended = acted(rt.alloc(), opened(rt.alloc(), &SUM)?, &cut)?;
-    let mark = mark_in(mended, SUM[2])?;
-    assert!(rt; mark == Some(Mark::None));
+    let mended = kept_once_acted(rt.alloc(), &SUM, &cut, SUM[2])?;
+    assert!(rt; mended == Some((Mark::None, true)));
     Ok(())
 }
 
-// Whether the vertex to which the edge of a line leads has the type of truth values, by its kept record.
-fn is_boolean(marked: &mut MarkedReplica, line: &str) -> Result<bool, Fail> {
-    let edge = read_line(Version::Two, line.as_bytes())?.edge();
-    let boolean = marked.types().boolean();
-    Ok(match marked.kept(&edge.target) {
-        Some(record) => record.typ == Some(boolean),
-        None => false,
-    })
-}
-
-fn has_boolean_type(mut marked: MarkedReplica, line: &str) -> Result<bool, Fail> {
-    is_boolean(&mut marked, line)
-}
+const DEFINITION: [&str; 4] = [
+    "+1.2 0.0 root main 1.1 let",
+    "+1.4 1.1 let param 1.3 pvar:x",
+    "+1.6 1.1 let def 1.5 num:7",
+    "+1.8 1.1 let body 1.7 var:x",
+];
 
 #[test]
 fn a_use_takes_the_type_of_what_comes_in_place(rt: HostRuntime) -> Result<(), Fail> {
-    let definition = [
-        "+1.2 0.0 root main 1.1 let",
-        "+1.4 1.1 let param 1.3 pvar:x",
-        "+1.6 1.1 let def 1.5 num:7",
-        "+1.8 1.1 let body 1.7 var:x",
-    ];
     let literal = Action::Become {
         place: Place {
             name: Name {
@@ -157,9 +157,8 @@ fn a_use_takes_the_type_of_what_comes_in_place(rt: HostRuntime) -> Result<(), Fa
         },
         ctor: Ctor::LitTrue,
     };
-    let defined = acted(rt.alloc(), opened(rt.alloc(), &definition)?, &literal)?;
-    let boolean = has_boolean_type(defined, definition[3])?;
-    assert!(rt; boolean == true);
+    let defined = kept_once_acted(rt.alloc(), &DEFINITION, &literal, DEFINITION[3])?;
+    assert!(rt; defined == Some((Mark::None, true)));
     Ok(())
 }
 
@@ -172,44 +171,43 @@ fn edits_of(alloc: Global, lines: &[&str]) -> Result<EditList, Fail> {
     Ok(edits)
 }
 
-// The answer to edits that a send brings.
+// The answer to edits that a send brings. The canonical text then is appended.
 fn sent_counting<L: Ledger>(
     alloc: Global,
     marked: &mut MarkedReplica,
-    edits: EditList,
+    command: &Command,
     blank: Blank,
+    text: &mut Vec<u8>,
 ) -> Result<Answer, Fail>
     requires name { blank.name ≡ L.name }
     requires parts { blank.parts ≡ L.parts }
     requires some { 0 < blank.parts }
 {
     let mut steps = Steps::<L>::new(blank);
+    let (_edits, answer) = marked.step(alloc, Actor::Send(1), command, &mut steps)?;
+    marked.canonical(alloc, text)?;
+    Ok(answer)
+}
+
+fn sent(alloc: Global, command: &Command, text: &mut Vec<u8>) -> Result<Answer, Fail> {
+    let mut marked = MarkedReplica::new(alloc)?;
+    sent_counting::<Brand>(alloc, &mut marked, command, Blank::new(1), text)
+}
+
+fn text_once_sent(alloc: Global, lines: &[&str], text: &mut Vec<u8>) -> Result<Answer, Fail> {
+    let edits = edits_of(alloc, lines)?;
     let command = Command::Take {
         piece: 1,
         bytes: Bytes::of(Vec::new(alloc)),
         edits,
     };
-    let (_edits, answer) = marked.step(alloc, Actor::Send(1), &command, &mut steps)?;
-    Ok(answer)
-}
-
-// The answer to edits that a send brings, and the canonical text then.
-fn text_once_sent(
-    alloc: Global,
-    mut marked: MarkedReplica,
-    edits: EditList,
-) -> Result<(Answer, Vec<u8>), Fail> {
-    let answer = sent_counting::<Brand>(alloc, &mut marked, edits, Blank::new(1))?;
-    let mut text = Vec::new(alloc);
-    marked.canonical(alloc, &mut text)?;
-    Ok((answer, text))
+    sent(alloc, &command, text)
 }
 
 #[test]
 fn a_step_takes_edits(rt: HostRuntime) -> Result<(), Fail> {
-    let alloc = rt.alloc();
-    let edits = edits_of(alloc, &[SUM[0], SUM[2]])?;
-    let (answer, text) = text_once_sent(alloc, MarkedReplica::new(alloc)?, edits)?;
+    let mut text = Vec::new(rt.alloc());
+    let answer = text_once_sent(rt.alloc(), &[SUM[0], SUM[2]], &mut text)?;
     assert!(rt; answer == Answer::Taken { edits: 2 });
     assert!(rt;
         text.as_slice() == b"+1.2 0.0 root main 1.1 plus\n+1.6 1.1 plus right 1.5 true\n".as_slice()

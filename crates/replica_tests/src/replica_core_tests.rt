@@ -1,221 +1,217 @@
 ghost use Rattle.std.specs.Prelude.{◌≡◌, ◌<◌};
 
-use edit_text::read_line;
-use grove_edits::{ActFault, Action, Actor, Answer, Bytes, Command, EditList, Place, Vertex};
+use edit_text::{read_line, write_edits};
+use grove_edits::{Action, Actor, Answer, Bytes, Command, EditList};
 use grove_names::Name;
-use grove_sorts::{Ctor, Position, Version};
+use grove_sorts::Version;
 use replica_core::*;
-use shared_replica::Solo;
+use shared_replica::Machine;
 use std::alloc::Global;
 use std::marker::Brand;
 use std::sync::ledger::{Blank, Ledger};
 use std::test::Fail;
 use walks::Steps;
 
-fn name(author: u32, counter: u64) -> Name {
-    Name { author, counter }
-}
-
-fn place(author: u32, counter: u64, position: Position) -> Place {
-    Place {
-        name: name(author, counter),
-        position,
-    }
-}
-
-// A replica that took the edits of these lines before its block opened.
-fn opened_counting<L: Ledger>(alloc: Global, lines: &[&str], blank: Blank) -> Result<Replica, Fail>
-    requires name { blank.name ≡ L.name }
-    requires parts { blank.parts ≡ L.parts }
-    requires some { 0 < blank.parts }
-{
-    let mut steps = Steps::<L>::new(blank);
-    let mut replica = Replica::new(alloc)?;
+// Takes the edits of lines.
+fn take<L: Ledger>(
+    alloc: Global,
+    replica: &mut Replica,
+    lines: &[&str],
+    steps: &mut Steps<L>,
+) -> Result<(), Fail> {
     for line in lines {
         let edit = read_line(Version::One, line.as_bytes())?;
-        replica.apply(alloc, &edit, &mut steps)?;
+        replica.apply(alloc, &edit, steps)?;
     }
-    replica.begin_block(alloc)?;
-    Ok(replica)
+    Ok(())
 }
 
-fn opened(alloc: Global, lines: &[&str]) -> Result<Replica, Fail> {
-    opened_counting::<Brand>(alloc, lines, Blank::new(1))
-}
-
-// Whether actions have the answers that are due, and the print text after them.
-fn acted_counting<L: Ledger>(
+// Appends the edits of a cut of an edge, and answers its answer.
+fn append_cut<L: Ledger>(
     alloc: Global,
-    mut replica: Replica,
-    calls: &[(u32, Action, Answer)],
+    replica: &mut Replica,
+    author: u32,
+    steps: &mut Steps<L>,
+    text: &mut Vec<u8>,
+) -> Result<Answer, Fail>
+    requires { 0 < author }
+{
+    let edge = Name {
+        author: 3,
+        counter: 2,
+    };
+    let (edits, answer) = replica.act(alloc, author, &Action::Cut { edge }, steps)?;
+    write_edits(edits.as_slice(), text)?;
+    Ok(answer)
+}
+
+// Appends the edits of two cuts of an edge, in a block that opened before the later lines came. Tells whether both are done.
+fn cut_counting<L: Ledger>(
+    alloc: Global,
+    replica: &mut Replica,
+    opened: &[&str],
+    later: &[&str],
     blank: Blank,
-) -> Result<(bool, Vec<u8>), Fail>
+    text: &mut Vec<u8>,
+) -> Result<bool, Fail>
     requires name { blank.name ≡ L.name }
     requires parts { blank.parts ≡ L.parts }
     requires some { 0 < blank.parts }
 {
     let mut steps = Steps::<L>::new(blank);
-    let mut are_due = true;
-    for (author, action, due) in calls {
-        if *author == 0 {
-            return Err("no author".into());
-        }
-        let (_edits, answer) = replica.act(alloc, *author, action, &mut steps)?;
-        are_due = are_due && answer == *due;
-    }
-    let mut text = Vec::new(alloc);
-    replica.print(alloc, &mut text)?;
-    Ok((are_due, text))
+    take(alloc, replica, opened, &mut steps)?;
+    replica.begin_block(alloc)?;
+    take(alloc, replica, later, &mut steps)?;
+    let first = append_cut(alloc, replica, 1, &mut steps, text)?;
+    let again = append_cut(alloc, replica, 2, &mut steps, text)?;
+    Ok(first == Answer::Done && again == Answer::Done)
 }
 
-fn acted(
+fn cut(alloc: Global, opened: &[&str], later: &[&str], text: &mut Vec<u8>) -> Result<bool, Fail> {
+    let mut replica = Replica::new(alloc)?;
+    cut_counting::<Brand>(alloc, &mut replica, opened, later, Blank::new(1), text)
+}
+
+const FIRST: &str = "+3.2 0.0 root main 3.1 num:7";
+
+const NO_FIRST: &str = "-3.2 0.0 root main 3.1 num:7";
+
+const SECOND: &str = "+3.2 0.0 root main 4.1 num:8";
+
+const CUT_FIRST: &[u8] = b"-3.2 0.0 root main 3.1 num:7
+-3.2 0.0 root main 3.1 num:7
+";
+
+const CUT_SECOND: &[u8] = b"-3.2 0.0 root main 4.1 num:8
+-3.2 0.0 root main 4.1 num:8
+";
+
+const CUT_BOTH: &[u8] = b"-3.2 0.0 root main 3.1 num:7
+-3.2 0.0 root main 4.1 num:8
+-3.2 0.0 root main 3.1 num:7
+-3.2 0.0 root main 4.1 num:8
+";
+
+// An edge is open where an edit named it before the block, be it deleted then, in the block or never.
+const CUTS: [(&[&str], &[&str], &[u8]); 7] = [
+    (&[FIRST], &[NO_FIRST, SECOND], CUT_FIRST),
+    (&[NO_FIRST], &[SECOND], CUT_FIRST),
+    (&[SECOND], &[FIRST, NO_FIRST], CUT_SECOND),
+    (&[FIRST, NO_FIRST, SECOND], &[NO_FIRST], CUT_BOTH),
+    (&[], &[FIRST, NO_FIRST, SECOND], CUT_BOTH),
+    (&[FIRST, SECOND], &[], CUT_BOTH),
+    (&[FIRST], &[SECOND], CUT_FIRST),
+];
+
+#[test]
+fn a_cut_takes_the_edges_that_the_block_opened_with(rt: HostRuntime) -> Result<(), Fail> {
+    let mut text = Vec::new(rt.alloc());
+    for (opened, later, wanted) in CUTS {
+        text.clear();
+        let are_done = cut(rt.alloc(), opened, later, &mut text)?;
+        assert!(rt; are_done);
+        assert!(rt; text.as_slice() == wanted);
+    }
+    Ok(())
+}
+
+// Opens a block on the replica of lines, and tells whether the list that it opens with is the one in order, and how long it is.
+fn opened_counting<L: Ledger>(
     alloc: Global,
+    replica: &mut Replica,
     lines: &[&str],
-    calls: &[(u32, Action, Answer)],
-) -> Result<(bool, Vec<u8>), Fail> {
-    acted_counting::<Brand>(alloc, opened(alloc, lines)?, calls, Blank::new(1))
+    blank: Blank,
+) -> Result<(bool, usize), Fail>
+    requires name { blank.name ≡ L.name }
+    requires parts { blank.parts ≡ L.parts }
+    requires some { 0 < blank.parts }
+{
+    let mut steps = Steps::<L>::new(blank);
+    take(alloc, replica, lines, &mut steps)?;
+    let list = replica.open_block(alloc)?;
+    let is_listed = replica.is_listed(alloc, list.as_slice())?;
+    Ok((is_listed, list.len()))
+}
+
+fn opened(alloc: Global, lines: &[&str]) -> Result<(bool, usize), Fail> {
+    let mut replica = Replica::new(alloc)?;
+    opened_counting::<Brand>(alloc, &mut replica, lines, Blank::new(1))
 }
 
 #[test]
 fn a_block_opens_with_the_list_of_the_graph(rt: HostRuntime) -> Result<(), Fail> {
-    let alloc = rt.alloc();
     let lines = [
         "+1.3 1.1 plus left 1.4 num:1",
         "+1.2 0.0 root main 1.1 plus",
     ];
-    let mut replica = opened(alloc, &lines)?;
-    let list = replica.open_block(alloc)?;
-    assert!(rt; list.len() == 2);
-    assert!(rt; list.as_slice() == replica.in_order(alloc)?.as_slice());
+    let (is_listed, length) = opened(rt.alloc(), &lines)?;
+    assert!(rt; is_listed);
+    assert!(rt; length == 2);
     Ok(())
 }
 
-#[test]
-fn a_vertex_is_not_moved_below_itself(rt: HostRuntime) -> Result<(), Fail> {
-    let first = Vertex {
-        name: name(1, 1),
-        ctor: Ctor::Fst,
-    };
-    let (are_due, text) = acted(
-        rt.alloc(),
-        &["+1.2 0.0 root main 1.1 fst", "+1.4 1.1 fst of 1.3 snd"],
-        &[(
-            1,
-            Action::Relocate {
-                edge: name(1, 2),
-                place: place(1, 3, Position::Operand),
-            },
-            Answer::Refused(ActFault::IntoItself { vertex: first }),
-        )],
-    )?;
-    assert!(rt; are_due);
-    assert!(rt;
-        text.as_slice()
-            == b"none 1
-0 - - 0.0 root top - -
-1 main 1.2 1.1 fst syn ? -
-2 of 1.4 1.3 snd syn ? -
-3 of - - hole syn ? -
-multi 0
-cycle 0
-"
-                .as_slice()
-    );
-    Ok(())
-}
-
-#[test]
-fn a_conflict_is_wrapped_whole(rt: HostRuntime) -> Result<(), Fail> {
-    let main = place(0, 0, Position::Main);
-    let (are_due, text) = acted(
-        rt.alloc(),
-        &[
-            "+1.2 0.0 root main 1.1 num:7",
-            "+2.2 0.0 root main 2.1 true",
-        ],
-        &[
-            (
-                3,
-                Action::Wrap {
-                    place: main,
-                    ctor: Ctor::Num(3),
-                },
-                Answer::Refused(ActFault::CannotWrap { ctor: Ctor::Num(3) }),
-            ),
-            (
-                3,
-                Action::Wrap {
-                    place: main,
-                    ctor: Ctor::Plus,
-                },
-                Answer::Made { vertex: name(3, 1) },
-            ),
-        ],
-    )?;
-    assert!(rt; are_due);
-    assert!(rt;
-        text.as_slice()
-            == b"none 1
-0 - - 0.0 root top - -
-1 main 3.2 3.1 plus syn num -
-2 left - - conflict:2 ana:num ? -
-3 left 3.3 1.1 num:7 syn num -
-3 left 3.4 2.1 true syn bool -
-2 right - - hole ana:num ? -
-multi 0
-cycle 0
-"
-                .as_slice()
-    );
-    Ok(())
-}
-
-#[test]
-fn an_edge_is_cut_twice(rt: HostRuntime) -> Result<(), Fail> {
-    let cut = Action::Cut { edge: name(3, 2) };
-    let (are_due, text) = acted(
-        rt.alloc(),
-        &["+3.2 0.0 root main 3.1 num:7"],
-        &[(1, cut, Answer::Done), (2, cut, Answer::Done)],
-    )?;
-    assert!(rt; are_due);
-    assert!(rt;
-        text.as_slice()
-            == b"none 2
-0 - - 0.0 root top - -
-1 main - - hole syn ? -
-0 - - 3.1 num:7 syn num -
-multi 0
-cycle 0
-"
-                .as_slice()
-    );
-    Ok(())
-}
-
-// A sent edit of a deleted edge comes to nothing.
-#[test]
-fn a_journal_takes_edits(rt: HostRuntime) -> Result<(), Fail> {
-    let alloc = rt.alloc();
-    let lines = ["-3.2 0.0 root main 3.1 num:7"];
+fn edits_of(alloc: Global, lines: &[&str]) -> Result<EditList, Fail> {
     let mut edits = EditList::new(alloc);
-    edits.push(read_line(Version::One, b"+3.2 0.0 root main 3.1 num:7")?)?;
-    edits.push(read_line(Version::One, b"+2.2 0.0 root main 2.1 true")?)?;
-    let Ok(mut solo) = Solo::new(alloc, opened(alloc, &lines)?, 1) else {
-        panic!(rt; "no memory")
-    };
+    for line in lines {
+        edits.push(read_line(Version::One, line.as_bytes())?)?;
+    }
+    Ok(edits)
+}
+
+// The answer to edits that a send brings.
+fn sent<L: Ledger>(
+    alloc: Global,
+    replica: &mut Replica,
+    lines: &[&str],
+    steps: &mut Steps<L>,
+) -> Result<Answer, Fail> {
+    let edits = edits_of(alloc, lines)?;
     let command = Command::Take {
         piece: 1,
         bytes: Bytes::of(Vec::new(alloc)),
         edits,
     };
-    let Ok(answer) = solo.act(alloc, Actor::Send(1), command) else {
-        panic!(rt; "no memory")
-    };
+    let (_edits, answer) = replica.step(alloc, Actor::Send(1), &command, steps)?;
+    Ok(answer)
+}
+
+// The answer to further lines that a send brings to the replica of lines. The canonical text then is appended.
+fn sent_counting<L: Ledger>(
+    alloc: Global,
+    replica: &mut Replica,
+    lines: &[&str],
+    further: &[&str],
+    blank: Blank,
+    text: &mut Vec<u8>,
+) -> Result<Answer, Fail>
+    requires name { blank.name ≡ L.name }
+    requires parts { blank.parts ≡ L.parts }
+    requires some { 0 < blank.parts }
+{
+    let mut steps = Steps::<L>::new(blank);
+    take(alloc, replica, lines, &mut steps)?;
+    let answer = sent(alloc, replica, further, &mut steps)?;
+    replica.canonical(alloc, text)?;
+    Ok(answer)
+}
+
+fn text_once_sent(
+    alloc: Global,
+    lines: &[&str],
+    further: &[&str],
+    text: &mut Vec<u8>,
+) -> Result<Answer, Fail> {
+    let mut replica = Replica::new(alloc)?;
+    sent_counting::<Brand>(alloc, &mut replica, lines, further, Blank::new(1), text)
+}
+
+// A sent edit of a deleted edge comes to nothing.
+#[test]
+fn a_step_takes_edits(rt: HostRuntime) -> Result<(), Fail> {
+    let truth = "+2.2 0.0 root main 2.1 true";
+    let mut text = Vec::new(rt.alloc());
+    let answer = text_once_sent(rt.alloc(), &[NO_FIRST], &[FIRST, truth], &mut text)?;
     assert!(rt; answer == Answer::Taken { edits: 2 });
-    let (replica, _journal) = solo.close();
-    let mut text = Vec::new(alloc);
-    replica.canonical(alloc, &mut text)?;
     assert!(rt;
         text.as_slice() == b"+2.2 0.0 root main 2.1 true\n-3.2 0.0 root main 3.1 num:7\n".as_slice()
     );

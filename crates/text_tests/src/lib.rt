@@ -5,8 +5,6 @@
 #[cfg(test)]
 mod edge_lattice_tests;
 #[cfg(test)]
-mod edit_merge_tests;
-#[cfg(test)]
 mod edit_stream_tests;
 #[cfg(test)]
 mod edit_text_tests;
