@@ -12,12 +12,12 @@ use Rattle.grove_names.specs.contracts.name.NameOrd.TheImpl.Laws as names
 use Rattle.grove_sorts.specs.declared.ctor.Ctor.{Ctor}
 use Rattle.grove_sorts.specs.declared.position.Position.{Position}
 use Rattle.grove_sorts.specs.contracts.position.PositionOrd.TheImpl as position_impl
-use Rattle.grove_sorts.specs.contracts.branch.BranchOrd.TheImpl as branch_impl
+use Rattle.grove_sorts.specs.contracts.plain.PlainOrd.TheImpl as plain_impl
 use Rattle.grove_names.proofs.Orders.{name_cmp_total, name_cmp_exact}
 use Rattle.grove_sorts.specs.Ctor.{ctor_cmp}
-use Rattle.grove_sorts.specs.Branch.{branch_ctor}
+use Rattle.grove_sorts.specs.Plain.{plain_ctor}
 use Rattle.grove_sorts.specs.Position.{position_cmp}
-use Rattle.grove_sorts.proofs.Branches.{cmp_is_branch_cmp}
+use Rattle.grove_sorts.proofs.Plains.{cmp_is_plain_cmp}
 use Rattle.grove_sorts.proofs.Orders.{ctor_cmp_total, ctor_cmp_exact, cmp_is_ctor_cmp, equal_from_test, position_cmp_total, position_cmp_exact, cmp_is_position_cmp}
 use Rattle.grove_edits.specs.declared.vertex.Vertex.{Vertex}
 use Rattle.grove_edits.specs.declared.edge.Edge.{Edge}
@@ -122,13 +122,13 @@ pub cmp_is_edit_cmp : (a b : Edit) → edit_impl.ghosts.cmp a b ≡ edit_cmp a b
 cmp_is_edit_cmp a b =
     let name = name_cmp a.name b.name in
     let source = name_cmp a.source b.source in
-    let branch = ctor_cmp (branch_ctor a.branch) (branch_ctor b.branch) in
+    let branch = ctor_cmp (plain_ctor a.branch) (plain_ctor b.branch) in
     let position = position_cmp a.position b.position in
     let target = vertex_cmp a.target b.target in
     let kind = nat_cmp (kind_number (edit_kind a)) (kind_number (edit_kind b)) in
     let last = same_then (vertex_impl.ghosts.cmp a.target b.target) target (kind_impl.ghosts.cmp a.kind b.kind) kind (cmp_is_vertex_cmp a.target b.target) (kind_cmp a.kind b.kind) in
     let placed = same_then (position_impl.ghosts.cmp a.position b.position) position _ (ordering_then target kind) (cmp_is_position_cmp a.position b.position) last in
-    let whole = same_then (branch_impl.ghosts.cmp a.branch b.branch) branch _ (ordering_then position (ordering_then target kind)) (cmp_is_branch_cmp a.branch b.branch) placed in
+    let whole = same_then (plain_impl.ghosts.cmp a.branch b.branch) branch _ (ordering_then position (ordering_then target kind)) (cmp_is_plain_cmp a.branch b.branch) placed in
     ap (λ o. ordering_then name (ordering_then source o)) whole
     ∙ sym (then_assoc name (ordering_then (ordering_then source branch) (ordering_then position target)) kind
     ∙ ap (ordering_then name) (then_assoc (ordering_then source branch) (ordering_then position target) kind

@@ -12,9 +12,9 @@ use Rattle.edge_lattice.specs.declared.state.State.TheVariants.{Absent}
 use Rattle.edge_lattice.specs.State.{state_join}
 use Rattle.edge_lattice.proofs.States.{state_join_comm, Absent-state_join}
 use Rattle.grove_names.specs.declared.name.Name.{Name}
-use Rattle.grove_sorts.specs.declared.branch.Branch.{Branch}
+use Rattle.grove_sorts.specs.declared.plain.Plain.{Plain}
 use Rattle.grove_sorts.specs.declared.position.Position.{Position}
-use Rattle.grove_sorts.proofs.Branches.{one_branch}
+use Rattle.grove_sorts.proofs.Plains.{one_plain}
 use Rattle.grove_edits.specs.declared.vertex.Vertex.{Vertex}
 use Rattle.grove_edits.specs.declared.edge.Edge.{Edge}
 use Rattle.grove_edits.specs.declared.edit.Edit.{Edit}
@@ -38,7 +38,7 @@ Kept-prop edge = hlevel props
 record Parts : Type 0 where
   name : Name
   source : Name
-  branch : Branch
+  branch : Plain
   position : Position
   target : Vertex
   kind : EditKind
@@ -53,16 +53,16 @@ made parts kept =
 made_same : (a b : Parts) → a ≡ b → (kept : Kept (edge_in a)) (held : Kept (edge_in b)) → made a kept ≡ made b held
 made_same a b same kept = subst (λ x. (held : Kept (edge_in x)) → made a kept ≡ made x held) same (λ held. ap (made a) (Kept-prop (edge_in a) kept held))
 
-abbrev parts_from : Name → Name → Branch → Position → Vertex → EditKind → Parts
+abbrev parts_from : Name → Name → Plain → Position → Vertex → EditKind → Parts
 parts_from n s b p t k = record { name = n; source = s; branch = b; position = p; target = t; kind = k }
 
-same_parts : (n m s z : Name) (b c : Branch) (p q : Position) (t u : Vertex) (k l : EditKind) → n ≡ m → s ≡ z → b ≡ c → p ≡ q → t ≡ u → k ≡ l
+same_parts : (n m s z : Name) (b c : Plain) (p q : Position) (t u : Vertex) (k l : EditKind) → n ≡ m → s ≡ z → b ≡ c → p ≡ q → t ≡ u → k ≡ l
     → parts_from n s b p t k ≡ parts_from m z c q u l
 same_parts n m s z b c p q t u k l name source branch position target kind = rw name (rw source (rw branch (rw position (rw target (rw kind refl)))))
 
 pub edit_from_fields : (a b : Edit) → edit_kind a ≡ edit_kind b → edit_edge a ≡ edit_edge b → a ≡ b
 edit_from_fields a b kind edge =
-    let branch : a.branch ≡ b.branch = one_branch a.branch b.branch (ap (λ (e : Edge). e.source.ctor) edge) in
+    let branch : a.branch ≡ b.branch = one_plain a.branch b.branch (ap (λ (e : Edge). e.source.ctor) edge) in
     let parts = same_parts a.name b.name a.source b.source a.branch b.branch a.position b.position a.target b.target a.kind b.kind
     (ap (λ (e : Edge). e.name) edge) (ap (λ (e : Edge). e.source.name) edge) branch (ap (λ (e : Edge). e.position) edge) (ap (λ (e : Edge). e.target) edge) kind in
     made_same (parts_from a.name a.source a.branch a.position a.target a.kind) (parts_from b.name b.source b.branch b.position b.target b.kind) parts

@@ -4,8 +4,8 @@ use Rattle.grove_sorts.specs.declared.sort.Sort.{Sort}
 use Rattle.grove_sorts.specs.declared.sort.Sort.TheVariants.{Top, Exp, Pat, Typ}
 use Rattle.grove_sorts.specs.declared.ctor.Ctor.{Ctor}
 use Rattle.grove_sorts.specs.Ctor.{sort_of_ctor, sort_at}
-use Rattle.grove_sorts.specs.Branch.{branch_of}
-use Rattle.grove_sorts.proofs.Branches.{is_branch}
+use Rattle.grove_sorts.specs.Plain.{plain_of}
+use Rattle.grove_sorts.proofs.Plains.{has_plain}
 use Rattle.grove_edits.specs.declared.edge.Edge.{Edge}
 use Rattle.grove_edits.specs.declared.edge.EdgeFault.TheVariants.{BadVertex, NoPosition, WrongSort}
 use Rattle.grove_edits.specs.declared.edit.Edit.{Edit}
@@ -43,17 +43,17 @@ place_fits e well =
     (all_pass (has_good_vertices e) (has_position e) (has_sort e) well).2
 
 -- a well-formed edge is the edge of its parts
-pub remade : (e : Edge) → IsWellFormed e → edge_from e.name e.source.name (branch_of e.source.ctor) e.position e.target ≡ e
+pub remade : (e : Edge) → IsWellFormed e → edge_from e.name e.source.name (plain_of e.source.ctor) e.position e.target ≡ e
 remade e well =
     ap (λ (c : Ctor). record { name = e.name; source = record { name = e.source.name; ctor = c }; position = e.position; target = e.target })
-    (is_branch e.source.ctor e.position (all_pass (has_good_vertices e) (has_position e) (has_sort e) well).1)
+    (has_plain e.source.ctor e.position (all_pass (has_good_vertices e) (has_position e) (has_sort e) well).1)
 
 -- the edit of a kind of an edge that has one
 abbrev pub edit_made : EditKind → (e : Edge) → IsWellFormed e → EdgeInRange e → Edit
 edit_made kind e well within = record {
   name = e.name;
   source = e.source.name;
-  branch = branch_of e.source.ctor;
+  branch = plain_of e.source.ctor;
   position = e.position;
   target = e.target;
   kind = kind;

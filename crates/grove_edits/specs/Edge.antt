@@ -6,9 +6,9 @@ use Rattle.grove_names.specs.declared.name.Name.{Name}
 use Rattle.grove_names.specs.Name.{name_cmp}
 use Rattle.grove_sorts.specs.declared.sort.Sort.{Sort}
 use Rattle.grove_sorts.specs.declared.sort.Sort.TheVariants.{Top, Exp, Pat, Typ}
-use Rattle.grove_sorts.specs.declared.branch.Branch.{Branch}
+use Rattle.grove_sorts.specs.declared.plain.Plain.{Plain}
 use Rattle.grove_sorts.specs.declared.position.Position.{Position}
-use Rattle.grove_sorts.specs.Branch.{branch_ctor}
+use Rattle.grove_sorts.specs.Plain.{plain_ctor}
 use Rattle.grove_sorts.specs.Position.{position_cmp}
 use Rattle.grove_sorts.specs.Ctor.{sort_of_ctor, sort_at}
 use Rattle.grove_sorts.specs.declared.version.Version.{Version}
@@ -57,9 +57,9 @@ abbrev pub IsEdgeOf : Version → Edge → Type 0
 IsEdgeOf version e = IsCtorOf version e.source.ctor × IsPositionOf version e.position × IsCtorOf version e.target.ctor
 
 -- the edge of these parts, whose source has a constructor with positions
-abbrev pub edge_from : Name → Name → Branch → Position → Vertex → Edge
+abbrev pub edge_from : Name → Name → Plain → Position → Vertex → Edge
 edge_from name source branch position target =
-    record { name = name; source = record { name = source; ctor = branch_ctor branch }; position = position; target = target }
+    record { name = name; source = record { name = source; ctor = plain_ctor branch }; position = position; target = target }
 
 -- edges are ordered by name, source, position and target
 abbrev pub edge_cmp : Edge → Edge → Ordering

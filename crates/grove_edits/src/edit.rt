@@ -4,7 +4,7 @@ ghost use Rattle.grove_edits.specs.Edge.{IsWellFormed, EdgeInRange, edge_fault, 
 use crate::edge::{Edge, EdgeFault, check_edge};
 use crate::vertex::Vertex;
 use grove_names::Name;
-use grove_sorts::{Branch, Position};
+use grove_sorts::{Plain, Position};
 
 /// What an edit does to its edge.
 #[derive(Clone, Copy, Debug, PartialEq, Eq, PartialOrd, Ord, Hash)]
@@ -20,7 +20,7 @@ pub struct Edit {
     // wide as its edge.
     pub(crate) name: Name,
     pub(crate) source: Name,
-    pub(crate) branch: Branch,
+    pub(crate) branch: Plain,
     pub(crate) position: Position,
     pub(crate) target: Vertex,
     pub(crate) kind: EditKind,
@@ -39,7 +39,7 @@ impl Edit {
         ensures first_fault { IfErr result (λ fault. edge_fault edge ≡ Some fault) }
     {
         check_edge(&edge)?;
-        let branch = Branch::of(&edge.source.ctor).ok_or(EdgeFault::NoPosition)?;
+        let branch = Plain::of(&edge.source.ctor).ok_or(EdgeFault::NoPosition)?;
         Ok(Edit {
             name: edge.name,
             source: edge.source.name,

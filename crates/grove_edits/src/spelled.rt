@@ -1,6 +1,6 @@
 ghost use Rattle.std.specs.Prelude.{◌≡◌, [], IfOk, IfErr, IfSome, IfNone, None, Some};
 ghost use Rattle.grove_sorts.specs.Ctor.{positions};
-ghost use Rattle.grove_sorts.specs.Branch.{branch_ctor};
+ghost use Rattle.grove_sorts.specs.Plain.{plain_ctor};
 ghost use Rattle.grove_sorts.specs.Spelled.{spelled_ctor};
 ghost use Rattle.grove_edits.specs.Edge.{edge_fault, edge_from, EdgeInRange, IsWellFormed};
 ghost use Rattle.grove_edits.specs.Vertex.{is_vertex, VertexInRange};
@@ -10,7 +10,7 @@ use crate::edge::{Edge, EdgeFault};
 use crate::edit::{Edit, EditKind};
 use crate::vertex::Vertex;
 use grove_names::Name;
-use grove_sorts::{Branch, Plain, Position, SpelledCtor, position_sort};
+use grove_sorts::{Plain, Position, SpelledCtor};
 
 /// A vertex as a text spells it.
 #[derive(Clone, Copy, Debug)]
@@ -81,23 +81,23 @@ fn is_well_formed(vertex: &SpelledVertex) -> bool
     }
 }
 
-// The branch that a constructor is, or None where it has no positions.
+// The plain constructor that one is, or None where it carries something, and so has no positions.
 #[inline(always)]
-fn branch_of(ctor: SpelledCtor) -> Option<Branch>
-    ensures branch { IfSome result (λ branch. branch_ctor branch ≡ spelled_ctor ctor.entry) }
+fn branch_of(ctor: SpelledCtor) -> Option<Plain>
+    ensures branch { IfSome result (λ branch. plain_ctor branch ≡ spelled_ctor ctor.entry) }
     ensures none { IfNone result (positions (spelled_ctor ctor.entry) ≡ []) }
 {
     match ctor {
-        SpelledCtor::Plain(plain) => plain.branch(),
+        SpelledCtor::Plain(plain) => Some(plain),
         SpelledCtor::Num(_) | SpelledCtor::Var(_) | SpelledCtor::PVar(_) => None,
     }
 }
 
-/// The branch that the source of a well-formed edge is, or the first fault that applies, in the order of `EdgeFault`.
+/// The constructor of the source of a well-formed edge, or the first fault that applies, in the order of `EdgeFault`.
 #[inline(always)]
-pub(crate) fn check_spelled(edge: &SpelledEdge) -> Result<Branch, EdgeFault>
+pub(crate) fn check_spelled(edge: &SpelledEdge) -> Result<Plain, EdgeFault>
     ensures well_formed { IfOk result (λ branch. edge_fault (spelled_edge edge.now) ≡ None) }
-    ensures branch { IfOk result (λ branch. branch_ctor branch ≡ (spelled_edge edge.now).source.ctor) }
+    ensures branch { IfOk result (λ branch. plain_ctor branch ≡ (spelled_edge edge.now).source.ctor) }
     ensures first_fault { IfErr result (λ fault. edge_fault (spelled_edge edge.now) ≡ Some fault) }
     ensures in_range { EdgeInRange (spelled_edge edge.now) }
 {
@@ -109,7 +109,7 @@ pub(crate) fn check_spelled(edge: &SpelledEdge) -> Result<Branch, EdgeFault>
         return Err(EdgeFault::BadVertex);
     }
     let branch = branch_of(edge.source.ctor).ok_or(EdgeFault::NoPosition)?;
-    match position_sort(&branch.ctor(), edge.position) {
+    match branch.position_sort(edge.position) {
         None => Err(EdgeFault::NoPosition),
         Some(sort) => {
             if sort == edge.target.ctor.sort() {
@@ -126,7 +126,7 @@ pub(crate) fn check_spelled(edge: &SpelledEdge) -> Result<Branch, EdgeFault>
 pub struct SpelledEdit<'t> {
     name: Name,
     source: Name,
-    branch: Branch,
+    branch: Plain,
     position: Position,
     kind: EditKind,
     target: SpelledVertex<'t>,
@@ -201,8 +201,8 @@ impl<'t> SpelledEdit<'t> {
     }
 
     /// The constructor of that vertex, which has the position.
-    pub fn branch(&self) -> Branch
-        ensures { branch_ctor result ≡ (edit_edge (spelled_edit self.now)).source.ctor }
+    pub fn branch(&self) -> Plain
+        ensures { plain_ctor result ≡ (edit_edge (spelled_edit self.now)).source.ctor }
     {
         self.branch
     }

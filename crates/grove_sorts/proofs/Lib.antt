@@ -3,5 +3,4 @@ pub mod Orders
 pub mod Texts
 pub mod Rows
 pub mod Truths
-pub mod Branches
 pub mod Plains

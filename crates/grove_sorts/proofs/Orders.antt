@@ -15,7 +15,7 @@ use Rattle.grove_sorts.specs.Position.{position_number, position_cmp, is_same_po
 use Rattle.grove_sorts.specs.declared.position.Position.{Position}
 use Rattle.grove_sorts.specs.declared.position.Position.TheVariants.{Main, Param, Annot, Def, Body, Fun, Arg, Left, Right, Test, WhenTrue, WhenFalse, First, Second, Operand, Dom, Cod, On, LeftParam, LeftBody, RightParam, RightBody}
 use Rattle.grove_sorts.specs.declared.ctor.Ctor.{Ctor}
-use Rattle.grove_sorts.specs.declared.ctor.Ctor.TheVariants.{Root, Var, Lam, Ap, Num, Plus, LitTrue, LitFalse, Choose, Pair, Fst, Snd, PVar, TNum, TBool, TArrow, TProd, Let, Inl, Inr, Case, TSum}
+use Rattle.grove_sorts.specs.declared.ctor.Ctor.TheVariants.{Root, Var, Num, PVar}
 use Rattle.grove_sorts.specs.contracts.ctor.CtorOrd.TheImpl as ctor_impl
 use Rattle.grove_sorts.specs.contracts.position.PositionOrd.TheImpl as position_impl
 use Rattle.grove_sorts.proofs.Identifiers.{ident_exact}
@@ -47,29 +47,11 @@ ident_cmp_exact a b e = ident_exact a b (slice_cmp_equal _ _ e)
 
 -- constructors of one number and one payload are one
 ctor_same : (a b : Ctor) → IsTrue (nat_eq (ctor_number a) (ctor_number b)) → payload a ≡ payload b → a ≡ b
-ctor_same Root Root t e = refl
 ctor_same (Var x) (Var y) t e = ap Var (ident_exact x y e)
-ctor_same Lam Lam t e = refl
-ctor_same Ap Ap t e = refl
 ctor_same (Num m) (Num n) t e = let h : m ≡ n = cc in ap Num h
-ctor_same Plus Plus t e = refl
-ctor_same LitTrue LitTrue t e = refl
-ctor_same LitFalse LitFalse t e = refl
-ctor_same Choose Choose t e = refl
-ctor_same Pair Pair t e = refl
-ctor_same Fst Fst t e = refl
-ctor_same Snd Snd t e = refl
 ctor_same (PVar x) (PVar y) t e = ap PVar (ident_exact x y e)
-ctor_same TNum TNum t e = refl
-ctor_same TBool TBool t e = refl
-ctor_same TArrow TArrow t e = refl
-ctor_same TProd TProd t e = refl
-ctor_same Let Let t e = refl
-ctor_same Inl Inl t e = refl
-ctor_same Inr Inr t e = refl
-ctor_same Case Case t e = refl
-ctor_same TSum TSum t e = refl
-ctor_same _ _ t e = absurd (false≢true t)
+ctor_same _ Root t e = cc
+ctor_same _ _ t e = cc
 
 -- constructors that the order finds equal are one
 pub ctor_cmp_exact : (a b : Ctor) → ctor_cmp a b ≡ Equal → a ≡ b
@@ -85,28 +67,8 @@ nat_cmp_alone m n = elim (nat_cmp m n) as (λ o. o ≡ ordering_then o Equal) [ 
 
 -- the comparison of the code is the order of the table
 pub cmp_is_ctor_cmp : (a b : Ctor) → ctor_impl.ghosts.cmp a b ≡ ctor_cmp a b
-cmp_is_ctor_cmp Root Root = refl
-cmp_is_ctor_cmp (Var x) (Var y) = refl
-cmp_is_ctor_cmp Lam Lam = refl
-cmp_is_ctor_cmp Ap Ap = refl
 cmp_is_ctor_cmp (Num m) (Num n) = nat_cmp_alone m n
-cmp_is_ctor_cmp Plus Plus = refl
-cmp_is_ctor_cmp LitTrue LitTrue = refl
-cmp_is_ctor_cmp LitFalse LitFalse = refl
-cmp_is_ctor_cmp Choose Choose = refl
-cmp_is_ctor_cmp Pair Pair = refl
-cmp_is_ctor_cmp Fst Fst = refl
-cmp_is_ctor_cmp Snd Snd = refl
-cmp_is_ctor_cmp (PVar x) (PVar y) = refl
-cmp_is_ctor_cmp TNum TNum = refl
-cmp_is_ctor_cmp TBool TBool = refl
-cmp_is_ctor_cmp TArrow TArrow = refl
-cmp_is_ctor_cmp TProd TProd = refl
-cmp_is_ctor_cmp Let Let = refl
-cmp_is_ctor_cmp Inl Inl = refl
-cmp_is_ctor_cmp Inr Inr = refl
-cmp_is_ctor_cmp Case Case = refl
-cmp_is_ctor_cmp TSum TSum = refl
+cmp_is_ctor_cmp _ Root = refl
 cmp_is_ctor_cmp _ _ = refl
 
 -- positions of one number are one

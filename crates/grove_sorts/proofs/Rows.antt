@@ -1,60 +1,44 @@
 -- Look-ups in the row of a constructor: what they find is an entry of the row, and the first position of a sort stands before each other.
-use Rattle.std.proofs.Common.{◌≡◌, ◌≢◌, ℕ, suc, ◌≤◌, length, List, [], ◌∷◌, Bool, true, false, cond, eqb, nat_eq, Option, Some, None, IfSome, IfNone, Contains, ◌⊎◌, ⊎_elim, inl, inr, refl, sym, ap, subst, ◌∙◌, arith, lit≤}
-use Rattle.std.proofs.lemmas.Bool.{eqb-true, eq-eqb, both_ways}
+use Rattle.std.proofs.Common.{◌≡◌, ◌≢◌, ℕ, suc, ◌≤◌, length, List, [], ◌∷◌, Bool, true, false, ◌&&◌, cond, eqb, nat_eq, nat_le, Option, Some, None, IfSome, IfNone, Contains, ◌⊎◌, ⊎_elim, inl, inr, refl, sym, ap, subst, ◌∙◌, arith, lit≤}
+use Rattle.std.proofs.lemmas.Bool.{eqb-true, eq-eqb, both_ways, false≢true}
+use Rattle.std.proofs.lemmas.Bool.Decides.{nat_tests}
 use Rattle.std.proofs.lemmas.List.Elements.{Contains-append_left, Contains-append_right, Contains-append_cases, Contains-push, Contains-push_cases}
 use Rattle.std.specs.List.{AllByRecursion}
 use Rattle.grove_sorts.specs.Ctor.{positions, Rises, sort_in, sort_at, first_in, first_position}
 use Rattle.grove_sorts.specs.Position.{position_number}
 use Rattle.grove_sorts.specs.Sort.{sort_number}
+use Rattle.grove_sorts.proofs.Truths.{both_true}
 use Rattle.grove_sorts.proofs.Orders.{position_same}
 use Rattle.grove_sorts.specs.declared.sort.Sort.{Sort}
-use Rattle.grove_sorts.specs.declared.sort.Sort.TheVariants.{Exp, Pat, Typ}
+use Rattle.grove_sorts.specs.declared.sort.Sort.TheVariants.{Top, Exp, Pat, Typ}
 use Rattle.grove_sorts.specs.declared.position.Position.{Position}
 use Rattle.grove_sorts.specs.declared.ctor.Ctor.{Ctor}
-use Rattle.grove_sorts.specs.declared.ctor.Ctor.TheVariants.{Root, Var, Lam, Ap, Num, Plus, LitTrue, LitFalse, Choose, Pair, Fst, Snd, PVar, TNum, TBool, TArrow, TProd, Let, Inl, Inr, Case, TSum}
+use Rattle.grove_sorts.specs.declared.ctor.Ctor.TheVariants.{Root}
+
+-- the test whether the numbers of some positions rise
+rise : ℕ → List (Position × Sort) → Bool
+rise low [] = true
+rise low (entry ∷ entries) = nat_le low (position_number entry.0) && rise (suc (position_number entry.0)) entries
+
+rises_from : (low : ℕ) (entries : List (Position × Sort)) → rise low entries ≡ true → Rises low entries
+unfolding rise
+rises_from low [] e = tt
+rises_from low (entry ∷ entries) e =
+    let both = both_true (nat_le low (position_number entry.0)) (rise (suc (position_number entry.0)) entries) e in
+    (grind (arith, nat_tests), rises_from (suc (position_number entry.0)) entries both.1)
+
+row_rises : (ctor : Ctor) → rise 0 (positions ctor) ≡ true
+unfolding rise
+row_rises Root = refl
+row_rises _ = refl
 
 pub positions_rise : (ctor : Ctor) → Rises 0 (positions ctor)
-positions_rise Root = (lit≤ tt, tt)
-positions_rise Lam = (lit≤ tt, (lit≤ tt, (lit≤ tt, tt)))
-positions_rise Ap = (lit≤ tt, (lit≤ tt, tt))
-positions_rise Plus = (lit≤ tt, (lit≤ tt, tt))
-positions_rise Choose = (lit≤ tt, (lit≤ tt, (lit≤ tt, tt)))
-positions_rise Pair = (lit≤ tt, (lit≤ tt, tt))
-positions_rise Fst = (lit≤ tt, tt)
-positions_rise Snd = (lit≤ tt, tt)
-positions_rise TArrow = (lit≤ tt, (lit≤ tt, tt))
-positions_rise TProd = (lit≤ tt, (lit≤ tt, tt))
-positions_rise Let = (lit≤ tt, (lit≤ tt, (lit≤ tt, tt)))
-positions_rise Inl = (lit≤ tt, tt)
-positions_rise Inr = (lit≤ tt, tt)
-positions_rise Case = (lit≤ tt, (lit≤ tt, (lit≤ tt, (lit≤ tt, (lit≤ tt, tt)))))
-positions_rise TSum = (lit≤ tt, (lit≤ tt, tt))
-positions_rise _ = tt
+positions_rise ctor = rises_from 0 (positions ctor) (row_rises ctor)
 
 -- no row has more than five
 pub row_short : (ctor : Ctor) → length (positions ctor) ≤ 5
 row_short Root = lit≤ tt
-row_short (Var x) = lit≤ tt
-row_short Lam = lit≤ tt
-row_short Ap = lit≤ tt
-row_short (Num n) = lit≤ tt
-row_short Plus = lit≤ tt
-row_short LitTrue = lit≤ tt
-row_short LitFalse = lit≤ tt
-row_short Choose = lit≤ tt
-row_short Pair = lit≤ tt
-row_short Fst = lit≤ tt
-row_short Snd = lit≤ tt
-row_short (PVar x) = lit≤ tt
-row_short TNum = lit≤ tt
-row_short TBool = lit≤ tt
-row_short TArrow = lit≤ tt
-row_short TProd = lit≤ tt
-row_short Let = lit≤ tt
-row_short Inl = lit≤ tt
-row_short Inr = lit≤ tt
-row_short Case = lit≤ tt
-row_short TSum = lit≤ tt
+row_short _ = lit≤ tt
 
 -- a look-up answers at the first entry, or in the rest
 looked_up : {X : Type 0} (test : Bool) (x y : X) (rest : Option X) → cond test (Some x) rest ≡ Some y → ((test ≡ true) × (x ≡ y)) ⊎ ((test ≡ false) × (rest ≡ Some y))
@@ -75,6 +59,13 @@ passed_over false x rest e = (refl, e)
 
 other_sort : (a b : Sort) → nat_eq (sort_number a) (sort_number b) ≡ false → a ≡ b → ⊥
 other_sort a b differs e = both_ways _ differs (eq-eqb _ _ (ap sort_number e))
+
+one_sort : (a b : Sort) → nat_eq (sort_number a) (sort_number b) ≡ true → a ≡ b
+one_sort Top Top e = refl
+one_sort Exp Exp e = refl
+one_sort Pat Pat e = refl
+one_sort Typ Typ e = refl
+one_sort _ _ e = absurd (false≢true e)
 
 -- where no first position is found, no position has the sort
 first_in_none : (entries : List (Position × Sort)) (sort : Sort) → first_in entries sort ≡ None → (other : Position) → sort_in entries other ≢ Some sort
@@ -104,28 +95,6 @@ first_in_first low (entry ∷ entries) rises sort found f other e =
     (λ later. first_in_first (suc (position_number entry.0)) entries rises.1 sort found further.1 other later.1)
     at_other)
     (looked_up _ entry.0 found (first_in entries sort) f)
-
-pub first_position_found : (ctor : Ctor) (sort : Sort) → IfSome (first_position ctor sort) (λ position. sort_at ctor position ≡ Some sort)
-first_position_found Root Exp = refl
-first_position_found Lam Exp = refl
-first_position_found Lam Pat = refl
-first_position_found Lam Typ = refl
-first_position_found Ap Exp = refl
-first_position_found Plus Exp = refl
-first_position_found Choose Exp = refl
-first_position_found Pair Exp = refl
-first_position_found Fst Exp = refl
-first_position_found Snd Exp = refl
-first_position_found TArrow Typ = refl
-first_position_found TProd Typ = refl
-first_position_found Let Exp = refl
-first_position_found Let Pat = refl
-first_position_found Inl Exp = refl
-first_position_found Inr Exp = refl
-first_position_found Case Exp = refl
-first_position_found Case Pat = refl
-first_position_found TSum Typ = refl
-first_position_found _ _ = tt
 
 if_some : {X : Type 0} (P : X → Type 0) (answer : Option X) → ((x : X) → answer ≡ Some x → P x) → IfSome answer P
 if_some P None h = tt
@@ -206,3 +175,19 @@ all_found low (entry ∷ entries) rises =
 -- each place of a row is found in it with its sort
 pub places_found : (ctor : Ctor) → AllByRecursion (λ place. sort_at ctor place.0 ≡ Some place.1) (positions ctor)
 places_found ctor = all_found 0 (positions ctor) (positions_rise ctor)
+
+-- ---- and so is the first position of a sort
+
+first_in_found : (low : ℕ) (entries : List (Position × Sort)) → Rises low entries → (sort : Sort) (found : Position) → first_in entries sort ≡ Some found → sort_in entries found ≡ Some sort
+first_in_found low [] rises sort found f = absurd cc
+first_in_found low (entry ∷ entries) rises sort found f =
+    ⊎_elim
+    (λ here.
+    let itself : eqb (position_number entry.0) (position_number found) ≡ true = eq-eqb _ _ (ap position_number here.1) in
+    ap (λ b. cond b (Some entry.1) (sort_in entries found)) itself ∙ ap Some (one_sort entry.1 sort here.0))
+    (λ later. found_behind entry entries found sort rises.1 (first_in_found (suc (position_number entry.0)) entries rises.1 sort found later.1))
+    (looked_up _ entry.0 found (first_in entries sort) f)
+
+pub first_position_found : (ctor : Ctor) (sort : Sort) → IfSome (first_position ctor sort) (λ position. sort_at ctor position ≡ Some sort)
+first_position_found ctor sort =
+    if_some (λ position. sort_at ctor position ≡ Some sort) (first_position ctor sort) (first_in_found 0 (positions ctor) (positions_rise ctor) sort)

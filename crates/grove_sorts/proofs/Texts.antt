@@ -15,7 +15,7 @@ use Rattle.grove_sorts.specs.Ctor.{InRange, ctor_text}
 use Rattle.grove_sorts.specs.Position.{position_text}
 use Rattle.grove_sorts.specs.declared.ident.Ident.{Ident}
 use Rattle.grove_sorts.specs.declared.ctor.Ctor.{Ctor}
-use Rattle.grove_sorts.specs.declared.ctor.Ctor.TheVariants.{Root, Var, Lam, Ap, Num, Plus, LitTrue, LitFalse, Choose, Pair, Fst, Snd, PVar, TNum, TBool, TArrow, TProd, Let, Inl, Inr, Case, TSum}
+use Rattle.grove_sorts.specs.declared.ctor.Ctor.TheVariants.{Root, Var, Num, PVar}
 use Rattle.grove_sorts.specs.declared.position.Position.{Position}
 use Rattle.grove_sorts.specs.declared.position.Position.TheVariants.{Main, Param, Annot, Def, Body, Fun, Arg, Left, Right, Test, WhenTrue, WhenFalse, First, Second, Operand, Dom, Cod, On, LeftParam, LeftBody, RightParam, RightBody}
 use Rattle.grove_sorts.proofs.Identifiers.{ident_exact}
@@ -24,31 +24,17 @@ use Rattle.grove_sorts.proofs.Identifiers.{ident_exact}
 abbrev text_key : List ℕ → ℕ
 text_key text = (get_or text 0 0 * 256 + get_or text 1 0) * 256 + get_or text 2 0
 
+-- one text has one key
+one_key : (a b : Ctor) → ctor_text a ≡ ctor_text b → nat_eq (text_key (ctor_text a)) (text_key (ctor_text a)) ≡ nat_eq (text_key (ctor_text a)) (text_key (ctor_text b))
+one_key a b e = ap (λ text. nat_eq (text_key (ctor_text a)) (text_key text)) e
+
 -- a constructor is its text
 pub ctor_text_injective : (a b : Ctor) → InRange a → InRange b → ctor_text a ≡ ctor_text b → a ≡ b
-ctor_text_injective Root Root i j e = refl
 ctor_text_injective (Var x) (Var y) i j e = ap Var (ident_exact x y cc)
-ctor_text_injective Lam Lam i j e = refl
-ctor_text_injective Ap Ap i j e = refl
 ctor_text_injective (Num m) (Num n) i j e = ap Num (decimal_injective m n i j cc)
-ctor_text_injective Plus Plus i j e = refl
-ctor_text_injective LitTrue LitTrue i j e = refl
-ctor_text_injective LitFalse LitFalse i j e = refl
-ctor_text_injective Choose Choose i j e = refl
-ctor_text_injective Pair Pair i j e = refl
-ctor_text_injective Fst Fst i j e = refl
-ctor_text_injective Snd Snd i j e = refl
 ctor_text_injective (PVar x) (PVar y) i j e = ap PVar (ident_exact x y cc)
-ctor_text_injective TNum TNum i j e = refl
-ctor_text_injective TBool TBool i j e = refl
-ctor_text_injective TArrow TArrow i j e = refl
-ctor_text_injective TProd TProd i j e = refl
-ctor_text_injective Let Let i j e = refl
-ctor_text_injective Inl Inl i j e = refl
-ctor_text_injective Inr Inr i j e = refl
-ctor_text_injective Case Case i j e = refl
-ctor_text_injective TSum TSum i j e = refl
-ctor_text_injective _ b i j e = absurd (false≢true (ap (λ text. nat_eq (text_key text) (text_key (ctor_text b))) e))
+ctor_text_injective a Root i j e = let key = one_key a Root e in cc
+ctor_text_injective a b i j e = let key = one_key a b e in cc
 
 -- a position is its word
 pub position_text_injective : (a b : Position) → position_text a ≡ position_text b → a ≡ b

@@ -1,10 +1,10 @@
 pub mod Identifier
 pub mod Ident
 pub mod Sort
+pub mod Row
 pub mod Ctor
 pub mod Position
 pub mod Version
-pub mod Branch
 pub mod Plain
 pub mod Padded
 pub mod Spelled

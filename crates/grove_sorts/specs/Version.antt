@@ -8,17 +8,21 @@ use Rattle.grove_sorts.specs.declared.ctor.Ctor.{Ctor}
 use Rattle.grove_sorts.specs.declared.ctor.Ctor.TheVariants.{Var, PVar}
 use Rattle.grove_sorts.specs.Ident.{ident_bytes}
 use Rattle.grove_sorts.specs.Identifier.{longest}
-use Rattle.grove_sorts.specs.Ctor.{ctor_number}
+use Rattle.grove_sorts.specs.Row.{row}
 use Rattle.grove_sorts.specs.Position.{position_number}
+
+abbrev is_one : Version → Bool
+is_one One = true
+is_one Two = false
 
 abbrev identifier_of : Ctor → List ℕ
 identifier_of (Var x) = ident_bytes x
 identifier_of (PVar x) = ident_bytes x
 identifier_of _ = []
 
--- version one has the first 17 constructors, and identifiers of up to 32 bytes; version two has all
+-- version one has the constructors whose rows say so, and identifiers of up to 32 bytes; version two has all
 abbrev pub knows_ctor : Version → Ctor → Bool
-knows_ctor One ctor = nat_le (ctor_number ctor) 16 && nat_le (length (identifier_of ctor)) (longest One)
+knows_ctor One ctor = is_one (row ctor).first && nat_le (length (identifier_of ctor)) (longest One)
 knows_ctor Two ctor = true
 
 -- version one has the first 17 positions but for `def`, version two has all

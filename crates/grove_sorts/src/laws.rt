@@ -1,22 +1,22 @@
-ghost use Rattle.std.specs.Prelude.{◌≡◌, ℕ, ◌<◌, ◌≤◌, length, Some, IsTrue, is_some};
+ghost use Rattle.std.specs.Prelude.{◌≡◌, ℕ, ◌<◌, ◌≤◌, length, Some, IsTrue, slice_get, is_some};
 ghost use Rattle.std.specs.List.{AllByRecursion};
 ghost use Rattle.std.specs.Cmp.{IsTotalOrder};
 ghost use Rattle.std.specs.declared.cmp.Ordering.TheVariants.{Equal};
 ghost use Rattle.text_parts.specs.Separated.{Lacks};
 ghost use Rattle.grove_sorts.specs.declared.ident.Ident.{Ident};
 ghost use Rattle.grove_sorts.specs.declared.version.Version.TheVariants.{Two};
-ghost use Rattle.grove_sorts.specs.declared.branch.Branch.{Branch};
 ghost use Rattle.grove_sorts.specs.declared.ctor.Ctor.{Ctor};
+ghost use Rattle.grove_sorts.specs.declared.plain.Plain.{Plain};
 ghost use Rattle.grove_sorts.specs.declared.position.Position.{Position};
 ghost use Rattle.grove_sorts.specs.Identifier.{IsIdentifier};
 ghost use Rattle.grove_sorts.specs.Ident.{ident_bytes, ident_cmp};
 ghost use Rattle.grove_sorts.specs.Ctor.{InRange, ctor_text, ctor_cmp, positions, Rises, sort_at};
-ghost use Rattle.grove_sorts.specs.Branch.{branch_ctor, branch_of};
+ghost use Rattle.grove_sorts.specs.Plain.{plain_ctor, plain_of, plain_number, plains};
 ghost use Rattle.grove_sorts.specs.Position.{position_text, position_cmp};
 
-use crate::branch::Branch;
 use crate::ctor::Ctor;
 use crate::ident::Ident;
+use crate::plain::Plain;
 use crate::position::Position;
 
 /// An identifier is its bytes, in which none stands below the digits; identifiers are ordered by them, and only equal ones tie.
@@ -36,11 +36,13 @@ pub fn constructors_are_ordered()
     ensures compared { (a b : Ctor) → ⟦<Ctor as Ord>⟧.cmp a b ≡ ctor_cmp a b }
 {}
 
-/// Each constructor that has a position is a branch, and branches are ordered as their constructors, so only equal ones tie.
-pub fn branches_are_their_constructors()
-    ensures one { (a b : Branch) → branch_ctor a ≡ branch_ctor b → a ≡ b }
-    ensures each { (ctor : Ctor) (position : Position) → IsTrue (is_some (sort_at ctor position)) → branch_ctor (branch_of ctor) ≡ ctor }
-    ensures compared { (a b : Branch) → ⟦<Branch as Ord>⟧.cmp a b ≡ ctor_cmp (branch_ctor a) (branch_ctor b) }
+/// Each constructor that has a position is a plain one. Plain ones are ordered as their constructors, so only equal ones tie, and each
+/// stands among all at the index that is its number.
+pub fn plain_constructors_are_their_constructors()
+    ensures one { (a b : Plain) → plain_ctor a ≡ plain_ctor b → a ≡ b }
+    ensures each { (ctor : Ctor) (position : Position) → IsTrue (is_some (sort_at ctor position)) → plain_ctor (plain_of ctor) ≡ ctor }
+    ensures compared { (a b : Plain) → ⟦<Plain as Ord>⟧.cmp a b ≡ ctor_cmp (plain_ctor a) (plain_ctor b) }
+    ensures numbered { (a : Plain) → slice_get plains (plain_number a) ≡ Some a }
 {}
 
 /// Positions are ordered by the table, and only equal ones tie.

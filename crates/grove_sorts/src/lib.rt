@@ -2,7 +2,6 @@
 //! The table of constructors and positions is the one definition that every other crate cites.
 #![tactic(auto)]
 
-mod branch;
 mod ctor;
 mod ident;
 mod laws;
@@ -16,15 +15,15 @@ mod table;
 mod version;
 mod write;
 
-pub use branch::Branch;
 pub use ctor::Ctor;
 pub use ident::{Ident, IdentFault};
 pub use laws::{
-    branches_are_their_constructors, constructors_are_ordered, constructors_are_their_texts,
-    identifiers_are_ordered, positions_are_ordered, positions_are_their_words, rows_are_in_order,
+    constructors_are_ordered, constructors_are_their_texts, identifiers_are_ordered,
+    plain_constructors_are_their_constructors, positions_are_ordered, positions_are_their_words,
+    rows_are_in_order,
 };
 pub use no_memory::NoMemory;
-pub use plain::Plain;
+pub use plain::{Plain, all_plain};
 pub use position::Position;
 pub use read::{read_ctor, read_ident, read_position, read_spelled};
 pub use sort::Sort;

@@ -112,37 +112,8 @@ fn read_plain_ctor(bytes: &[u8]) -> Option<SpelledCtor<'static>>
     ensures plain { IfSome result (λ spelled. IsPlain (spelled_ctor spelled)) }
     ensures none { IfNone result ((ctor : Ctor) → IsPlain ctor → bytes.now ≢ ctor_text ctor) }
 {
-    let plain = read_plain(bytes)?;
+    let plain = Plain::named(bytes)?;
     Some(SpelledCtor::Plain(plain))
-}
-
-#[inline(always)]
-fn read_plain(bytes: &[u8]) -> Option<Plain>
-    ensures found { IfSome result (λ plain. bytes.now ≡ ctor_text (plain_ctor plain)) }
-    ensures none { IfNone result ((plain : Plain) → bytes.now ≢ ctor_text (plain_ctor plain)) }
-{
-    match bytes {
-        b"root" => Some(Plain::Root),
-        b"lam" => Some(Plain::Lam),
-        b"ap" => Some(Plain::Ap),
-        b"plus" => Some(Plain::Plus),
-        b"true" => Some(Plain::LitTrue),
-        b"false" => Some(Plain::LitFalse),
-        b"if" => Some(Plain::Choose),
-        b"pair" => Some(Plain::Pair),
-        b"fst" => Some(Plain::Fst),
-        b"snd" => Some(Plain::Snd),
-        b"tnum" => Some(Plain::TNum),
-        b"tbool" => Some(Plain::TBool),
-        b"tarrow" => Some(Plain::TArrow),
-        b"tprod" => Some(Plain::TProd),
-        b"let" => Some(Plain::Let),
-        b"inl" => Some(Plain::Inl),
-        b"inr" => Some(Plain::Inr),
-        b"case" => Some(Plain::Case),
-        b"tsum" => Some(Plain::TSum),
-        _ => None,
-    }
 }
 
 /// Reads the word of a position of the version.

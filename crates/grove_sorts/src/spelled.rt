@@ -68,28 +68,10 @@ impl<'t> SpelledCtor<'t> {
         ensures { spelled_ctor result ≡ ctor.now }
     {
         match ctor {
-            Ctor::Root => SpelledCtor::Plain(Plain::Root),
             Ctor::Var(ident) => SpelledCtor::Var(Spelling::of(ident)),
-            Ctor::Lam => SpelledCtor::Plain(Plain::Lam),
-            Ctor::Ap => SpelledCtor::Plain(Plain::Ap),
             Ctor::Num(literal) => SpelledCtor::Num(*literal),
-            Ctor::Plus => SpelledCtor::Plain(Plain::Plus),
-            Ctor::LitTrue => SpelledCtor::Plain(Plain::LitTrue),
-            Ctor::LitFalse => SpelledCtor::Plain(Plain::LitFalse),
-            Ctor::Choose => SpelledCtor::Plain(Plain::Choose),
-            Ctor::Pair => SpelledCtor::Plain(Plain::Pair),
-            Ctor::Fst => SpelledCtor::Plain(Plain::Fst),
-            Ctor::Snd => SpelledCtor::Plain(Plain::Snd),
             Ctor::PVar(ident) => SpelledCtor::PVar(Spelling::of(ident)),
-            Ctor::TNum => SpelledCtor::Plain(Plain::TNum),
-            Ctor::TBool => SpelledCtor::Plain(Plain::TBool),
-            Ctor::TArrow => SpelledCtor::Plain(Plain::TArrow),
-            Ctor::TProd => SpelledCtor::Plain(Plain::TProd),
-            Ctor::Let => SpelledCtor::Plain(Plain::Let),
-            Ctor::Inl => SpelledCtor::Plain(Plain::Inl),
-            Ctor::Inr => SpelledCtor::Plain(Plain::Inr),
-            Ctor::Case => SpelledCtor::Plain(Plain::Case),
-            Ctor::TSum => SpelledCtor::Plain(Plain::TSum),
+            _ => SpelledCtor::Plain(Plain::known(ctor)),
         }
     }
 

@@ -7,6 +7,7 @@ ghost use Rattle.grove_sorts.specs.declared.position.Position.{Position};
 ghost use Rattle.grove_sorts.specs.declared.sort.Sort.{Sort};
 
 use crate::ctor::Ctor;
+use crate::plain::Plain;
 use crate::position::Position;
 use crate::sort::Sort;
 
@@ -15,15 +16,9 @@ pub fn sort_of(ctor: &Ctor) -> Sort
     ensures { result ≡ sort_of_ctor ctor.now }
 {
     match ctor {
-        Ctor::Root => Sort::Top,
-        Ctor::Var(_) | Ctor::Lam | Ctor::Ap => Sort::Exp,
-        Ctor::Num(_) | Ctor::Plus => Sort::Exp,
-        Ctor::LitTrue | Ctor::LitFalse | Ctor::Choose => Sort::Exp,
-        Ctor::Pair | Ctor::Fst | Ctor::Snd => Sort::Exp,
-        Ctor::Let | Ctor::Inl | Ctor::Inr | Ctor::Case => Sort::Exp,
+        Ctor::Var(_) | Ctor::Num(_) => Sort::Exp,
         Ctor::PVar(_) => Sort::Pat,
-        Ctor::TNum | Ctor::TBool => Sort::Typ,
-        Ctor::TArrow | Ctor::TProd | Ctor::TSum => Sort::Typ,
+        _ => Plain::known(ctor).sort(),
     }
 }
 
@@ -31,39 +26,9 @@ pub fn sort_of(ctor: &Ctor) -> Sort
 fn positions(ctor: &Ctor) -> &'static [(Position, Sort)]
     ensures { result.now ≡ positions ctor.now }
 {
-    match ctor {
-        Ctor::Root => &[(Position::Main, Sort::Exp)],
-        Ctor::Lam => &[
-            (Position::Param, Sort::Pat),
-            (Position::Annot, Sort::Typ),
-            (Position::Body, Sort::Exp),
-        ],
-        Ctor::Ap => &[(Position::Fun, Sort::Exp), (Position::Arg, Sort::Exp)],
-        Ctor::Plus => &[(Position::Left, Sort::Exp), (Position::Right, Sort::Exp)],
-        Ctor::Choose => &[
-            (Position::Test, Sort::Exp),
-            (Position::WhenTrue, Sort::Exp),
-            (Position::WhenFalse, Sort::Exp),
-        ],
-        Ctor::Pair => &[(Position::First, Sort::Exp), (Position::Second, Sort::Exp)],
-        Ctor::Fst | Ctor::Snd => &[(Position::Operand, Sort::Exp)],
-        Ctor::Inl | Ctor::Inr => &[(Position::Operand, Sort::Exp)],
-        Ctor::Let => &[
-            (Position::Param, Sort::Pat),
-            (Position::Def, Sort::Exp),
-            (Position::Body, Sort::Exp),
-        ],
-        Ctor::Case => &[
-            (Position::On, Sort::Exp),
-            (Position::LeftParam, Sort::Pat),
-            (Position::LeftBody, Sort::Exp),
-            (Position::RightParam, Sort::Pat),
-            (Position::RightBody, Sort::Exp),
-        ],
-        Ctor::TArrow => &[(Position::Dom, Sort::Typ), (Position::Cod, Sort::Typ)],
-        Ctor::TProd | Ctor::TSum => &[(Position::Left, Sort::Typ), (Position::Right, Sort::Typ)],
-        Ctor::Var(_) | Ctor::Num(_) | Ctor::LitTrue | Ctor::LitFalse => &[],
-        Ctor::PVar(_) | Ctor::TNum | Ctor::TBool => &[],
+    match Plain::of(ctor) {
+        Some(plain) => plain.row().places,
+        None => &[],
     }
 }
 
@@ -115,7 +80,7 @@ pub fn first_position_of_sort(ctor: &Ctor, sort: Sort) -> Option<Position>
     first_in(positions(ctor), sort)
 }
 
-fn sort_in(entries: &[(Position, Sort)], position: Position) -> Option<Sort>
+pub(crate) fn sort_in(entries: &[(Position, Sort)], position: Position) -> Option<Sort>
     ensures { result ≡ sort_in entries.now position }
 {
     for (place, sort) in entries {

@@ -4,7 +4,6 @@ ghost use Rattle.grove_sorts.specs.Spelled.{spelled_ctor};
 ghost use Rattle.grove_sorts.specs.Version.{knows_ctor, knows_position};
 ghost use Rattle.grove_sorts.specs.declared.version.Version.TheVariants.{One};
 
-use crate::plain::Plain;
 use crate::position::Position;
 use crate::spelled::SpelledCtor;
 
@@ -46,10 +45,7 @@ fn is_of_version_one(ctor: &SpelledCtor) -> bool
         SpelledCtor::Var(spelling) | SpelledCtor::PVar(spelling) => {
             spelling.len() <= longest_identifier(Version::One)
         }
-        SpelledCtor::Plain(plain) => !matches!(
-            plain,
-            Plain::Let | Plain::Inl | Plain::Inr | Plain::Case | Plain::TSum
-        ),
+        SpelledCtor::Plain(plain) => matches!(plain.row().first, Version::One),
         SpelledCtor::Num(_literal) => true,
     }
 }

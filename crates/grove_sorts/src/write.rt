@@ -7,6 +7,7 @@ ghost use Rattle.grove_sorts.specs.Sort.{sort_text};
 use crate::ctor::Ctor;
 use crate::ident::Ident;
 use crate::no_memory::NoMemory;
+use crate::plain::Plain;
 use crate::position::Position;
 use crate::sort::Sort;
 use text_parts::{write_number, write_short};
@@ -68,28 +69,10 @@ pub(crate) fn keyword(ctor: &Ctor) -> &'static [u8]
     ensures { result.now ≡ keyword ctor.now }
 {
     match ctor {
-        Ctor::Root => b"root",
         Ctor::Var(_) => b"var:",
-        Ctor::Lam => b"lam",
-        Ctor::Ap => b"ap",
         Ctor::Num(_) => b"num:",
-        Ctor::Plus => b"plus",
-        Ctor::LitTrue => b"true",
-        Ctor::LitFalse => b"false",
-        Ctor::Choose => b"if",
-        Ctor::Pair => b"pair",
-        Ctor::Fst => b"fst",
-        Ctor::Snd => b"snd",
         Ctor::PVar(_) => b"pvar:",
-        Ctor::TNum => b"tnum",
-        Ctor::TBool => b"tbool",
-        Ctor::TArrow => b"tarrow",
-        Ctor::TProd => b"tprod",
-        Ctor::Let => b"let",
-        Ctor::Inl => b"inl",
-        Ctor::Inr => b"inr",
-        Ctor::Case => b"case",
-        Ctor::TSum => b"tsum",
+        _ => Plain::known(ctor).row().word,
     }
 }
 
