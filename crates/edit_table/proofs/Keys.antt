@@ -8,8 +8,8 @@ use Rattle.std.proofs.lemmas.Map.Keys.{IsDistinct-push}
 use Rattle.indexmap.specs.IndexSet.{insert_key}
 use Rattle.grove_sorts.specs.declared.ctor.Ctor.{Ctor}
 use Rattle.grove_sorts.specs.declared.ctor.Ctor.TheVariants.{Root, Num}
-use Rattle.grove_sorts.specs.declared.branch.Branch.{Branch}
-use Rattle.grove_sorts.specs.Branch.{branch_ctor}
+use Rattle.grove_sorts.specs.declared.plain.Plain.{Plain}
+use Rattle.grove_sorts.specs.Plain.{plain_ctor, plain_number}
 use Rattle.grove_edits.specs.declared.vertex.Vertex.{Vertex}
 use Rattle.grove_edits.specs.Vertex.{is_same_vertex, literal, stands_in}
 use Rattle.std.proofs.lemmas.Bool.{lt-ltb}
@@ -18,9 +18,9 @@ use Rattle.grove_edits.proofs.Vertices.{same_vertex_laws, same_vertex_exact, sam
 use Rattle.edit_table.specs.declared.vertex_key.CtorKey.{CtorKey}
 use Rattle.edit_table.specs.declared.vertex_key.CtorKey.TheVariants as keys
 use Rattle.edit_table.specs.declared.vertex_key.VertexKey.{VertexKey}
-use Rattle.edit_table.specs.Keys.{branch_key, ctor_at, vertex_of, vertices_of, with_vertex, AreCtors, AreKeys, BeginsWith, HasCtor, branch_number, ctor_of, is_short, root_key, IsCtorKeyOf, IsMet}
+use Rattle.edit_table.specs.Keys.{plain_key, ctor_at, vertex_of, vertices_of, with_vertex, AreCtors, AreKeys, BeginsWith, HasCtor, ctor_of, is_short, root_key, IsCtorKeyOf, IsMet}
 use Rattle.edit_table.proofs.Lists.{all_pushed, read_at, read_stays, stands_within, within_from, all_at, begins_inserted, still_stands_at}
-use Rattle.edit_table.proofs.Ctors.{branch_stands}
+use Rattle.edit_table.proofs.Ctors.{plain_has_number}
 use Rattle.edit_table.proofs.KeyEq.{key_eq, key_exact, key_itself}
 use Rattle.grove_sorts.proofs.Truths.{same_tests}
 
@@ -165,12 +165,18 @@ pub on_ok_both : {X E : Type 0} (r : Result X E) {P Q S R : Type 0} → (P → Q
 on_ok_both (Ok x) f p q s = f p q s
 on_ok_both (Err e) f p q s = tt
 
--- the key of a vertex whose constructor is a branch
-pub branch_key_is : (ctors : List Ctor) (key : VertexKey) (v : Vertex) → AreCtors ctors → (branch : Branch) × (key ≡ branch_key v.name branch) × (branch_ctor branch ≡ v.ctor) → IsKeyOf ctors key v
-branch_key_is ctors key v are found = (
+-- the key of a vertex whose constructor carries nothing
+pub plain_key_is : (ctors : List Ctor) (key : VertexKey) (v : Vertex) → AreCtors ctors → (plain : Plain) × (key ≡ plain_key v.name plain) × (plain_ctor plain ≡ v.ctor) → IsKeyOf ctors key v
+plain_key_is ctors key v are found = (
   ap (λ (k : VertexKey). k.name) found.1,
   subst (λ (k : CtorKey). IsCtorKeyOf ctors k v.ctor) (sym (ap (λ (k : VertexKey). k.ctor) found.1))
-      (within_from ctors (branch_number found.0) (branch_ctor found.0) stands, read_at ctors (branch_number found.0) Root (branch_ctor found.0) stands ∙ found.2),
+      (within_from ctors (plain_number found.0) (plain_ctor found.0) stands, read_at ctors (plain_number found.0) Root (plain_ctor found.0) stands ∙ found.2),
 ) where
-  stands : slice_get ctors (branch_number found.0) ≡ Some (branch_ctor found.0)
-  stands = branch_stands ctors found.0 are
+  stands : slice_get ctors (plain_number found.0) ≡ Some (plain_ctor found.0)
+  stands = plain_has_number ctors found.0 are
+
+-- the key of a constructor that carries nothing
+pub plain_is_met : (ctors : List Ctor) (n : ℕ) (p : Plain) → n ≡ plain_number p → AreCtors ctors → IsCtorKeyOf ctors (keys.At n) (plain_ctor p)
+plain_is_met ctors n p is are = (within_from ctors n (plain_ctor p) stands, read_at ctors n Root (plain_ctor p) stands) where
+  stands : slice_get ctors n ≡ Some (plain_ctor p)
+  stands = ap (slice_get ctors) is ∙ plain_has_number ctors p are

@@ -3,9 +3,9 @@ use Rattle.std.proofs.Common.{◌≡◌, ◌^◌, Bool, true, false, refl, ap, �
 use Rattle.std.specs.Prelude.{is_none, nat_lt}
 use Rattle.std.proofs.lemmas.Bool.{lt-ltb}
 use Rattle.grove_names.specs.declared.name.Name.{Name}
-use Rattle.grove_sorts.specs.declared.branch.Branch.{Branch}
+use Rattle.grove_sorts.specs.declared.plain.Plain.{Plain}
 use Rattle.grove_sorts.specs.declared.position.Position.{Position}
-use Rattle.grove_sorts.specs.Branch.{branch_of}
+use Rattle.grove_sorts.specs.Plain.{plain_of}
 use Rattle.grove_sorts.proofs.Truths.{both_true, and_true}
 use Rattle.grove_edits.specs.declared.vertex.Vertex.{Vertex}
 use Rattle.grove_edits.specs.declared.edge.Edge.{Edge}
@@ -18,7 +18,7 @@ use Rattle.grove_edits.proofs.WellFormed.{remade}
 use Rattle.grove_edits.proofs.Unique.{edit_from_fields}
 use Rattle.edit_table.specs.Made.{is_good, lies_in_range, made, made_by}
 
-by_good : (kind : EditKind) (name source : Name) (branch : Branch) (position : Position) (target : Vertex) (good : Bool) (is : is_good (edge_from name source branch position target) ≡ good)
+by_good : (kind : EditKind) (name source : Name) (branch : Plain) (position : Position) (target : Vertex) (good : Bool) (is : is_good (edge_from name source branch position target) ≡ good)
     → good ≡ true
     → (edit_edge (made_by kind name source branch position target good is) ≡ edge_from name source branch position target)
     × (edit_kind (made_by kind name source branch position target good is) ≡ kind)
@@ -27,12 +27,12 @@ by_good kind name source branch position target true is good = (refl, refl)
 by_good kind name source branch position target false is good = absurd cc
 
 module _ (kind : EditKind) (e : Edge) (good : is_good e ≡ true) where
-  again : edge_from e.name e.source.name (branch_of e.source.ctor) e.position e.target ≡ e
+  again : edge_from e.name e.source.name (plain_of e.source.ctor) e.position e.target ≡ e
   again = remade e (both_true (is_none (edge_fault e)) _ good).0
 
-  both : (edit_edge (made kind e) ≡ edge_from e.name e.source.name (branch_of e.source.ctor) e.position e.target) × (edit_kind (made kind e) ≡ kind)
+  both : (edit_edge (made kind e) ≡ edge_from e.name e.source.name (plain_of e.source.ctor) e.position e.target) × (edit_kind (made kind e) ≡ kind)
   unfolding made
-  both = by_good kind e.name e.source.name (branch_of e.source.ctor) e.position e.target _ refl (ap is_good again ∙ good)
+  both = by_good kind e.name e.source.name (plain_of e.source.ctor) e.position e.target _ refl (ap is_good again ∙ good)
 
   pub made-edge : edit_edge (made kind e) ≡ e
   made-edge = both.0 ∙ again

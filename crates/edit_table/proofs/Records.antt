@@ -5,7 +5,6 @@ use Rattle.std.specs.Result.{is_err}
 use Rattle.std.specs.List.{AllByRecursion, IsDistinct}
 use Rattle.indexmap.specs.IndexSet.{insert_key}
 use Rattle.grove_sorts.specs.declared.ctor.Ctor.TheVariants.{Root}
-use Rattle.grove_sorts.specs.declared.branch.Branch.TheVariants as branch
 use Rattle.std.proofs.lemmas.List.{length-append, map-append}
 use Rattle.grove_sorts.specs.declared.ctor.Ctor.{Ctor}
 use Rattle.grove_edits.specs.declared.vertex.Vertex.{Vertex}
@@ -22,7 +21,7 @@ use Rattle.edit_table.specs.Records.{edge_of, edit_of, edits_of, table_of, AreOf
 use Rattle.edit_table.specs.Table.{AreEnds}
 use Rattle.edit_table.proofs.Lists.{all_pushed, begins_alike, begins_further, read_at, read_stays, within_from}
 use Rattle.edit_table.proofs.Keys.{keys_stay, same_vertices}
-use Rattle.edit_table.proofs.Ctors.{branch_stands}
+use Rattle.edit_table.proofs.Ctors.{root_stands}
 use Rattle.edit_table.proofs.KeyEq.{key_eq}
 use Rattle.edit_table.proofs.Ends.{begins_with_before, ends_after, ends_of_none}
 use Rattle.edit_table.proofs.Made.{edit_is_good, made_again}
@@ -142,7 +141,7 @@ module _ (ctors : List Ctor) (none keys : List VertexKey) (records : List Record
   key_alone = one ∙ ap (λ ks. insert_key key_eq ks root_key) empty
 
   root_is : vertices_of ctors (root_key ∷ []) ≡ root ∷ []
-  root_is = ap (λ (c : Ctor). record { name = record { author = 0; counter = 0 }; ctor = c } ∷ []) (read_at ctors 0 Root Root (branch_stands ctors branch.Root are))
+  root_is = ap (λ (c : Ctor). record { name = record { author = 0; counter = 0 }; ctor = c } ∷ []) (read_at ctors 0 Root Root (root_stands ctors are))
 
   pub root_alone : vertices_of ctors keys ≡ root ∷ []
   root_alone = ap (vertices_of ctors) key_alone ∙ root_is
@@ -151,7 +150,7 @@ module _ (ctors : List Ctor) (none keys : List VertexKey) (records : List Record
   alone = record {
     keys_are = record {
       ctors_are = are;
-      have_ctors = (within_from ctors 0 Root (branch_stands ctors branch.Root are), tt);
+      have_ctors = (within_from ctors 0 Root (root_stands ctors are), tt);
       once = subst (IsDistinct is_same_vertex) (sym root_is) ends_of_none.once;
       few = omega arith;
       first = refl;

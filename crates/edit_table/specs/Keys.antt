@@ -2,43 +2,19 @@
 use Rattle.std.specs.Prelude.{◌≡◌, ℕ, ◌<◌, ◌^◌, ◌++◌, Bool, false, nat_lt, List, [], ◌∷◌, Some, map, length, slice_get, slice_index_or, if◌then◌else◌}
 use Rattle.std.specs.List.{AllByRecursion, IsDistinct}
 use Rattle.grove_names.specs.declared.name.Name.{Name}
-use Rattle.grove_sorts.specs.declared.branch.Branch.{Branch}
-use Rattle.grove_sorts.specs.declared.branch.Branch.TheVariants as branch
+use Rattle.grove_sorts.specs.declared.plain.Plain.{Plain}
 use Rattle.grove_sorts.specs.declared.ctor.Ctor.{Ctor}
 use Rattle.grove_sorts.specs.declared.ctor.Ctor.TheVariants.{Root, Num}
-use Rattle.grove_sorts.specs.Branch.{branch_ctor}
+use Rattle.grove_sorts.specs.Plain.{plain_ctor, plain_number, plains}
 use Rattle.grove_edits.specs.declared.vertex.Vertex.{Vertex}
 use Rattle.grove_edits.specs.Vertex.{is_same_vertex, stands_in}
 use Rattle.edit_table.specs.declared.vertex_key.CtorKey.{CtorKey}
 use Rattle.edit_table.specs.declared.vertex_key.CtorKey.TheVariants.{At, Short}
 use Rattle.edit_table.specs.declared.vertex_key.VertexKey.{VertexKey}
 
--- the branches, each at the index that is its number
-abbrev pub branches : List Branch
-branches =
-    branch.Root ∷ branch.Lam ∷ branch.Ap ∷ branch.Plus ∷ branch.Choose ∷ branch.Pair ∷ branch.Fst ∷ branch.Snd ∷ branch.TArrow ∷ branch.TProd ∷ branch.Let
-    ∷ branch.Inl ∷ branch.Inr ∷ branch.Case ∷ branch.TSum ∷ []
-
-abbrev pub branch_number : Branch → ℕ
-branch_number branch.Root = 0
-branch_number branch.Lam = 1
-branch_number branch.Ap = 2
-branch_number branch.Plus = 3
-branch_number branch.Choose = 4
-branch_number branch.Pair = 5
-branch_number branch.Fst = 6
-branch_number branch.Snd = 7
-branch_number branch.TArrow = 8
-branch_number branch.TProd = 9
-branch_number branch.Let = 10
-branch_number branch.Inl = 11
-branch_number branch.Inr = 12
-branch_number branch.Case = 13
-branch_number branch.TSum = 14
-
--- the constructors that are branches, each at the index that is its number
-abbrev pub branch_ctors : List Ctor
-branch_ctors = map branch_ctor branches
+-- the constructors that carry nothing, each at the index that is its number
+abbrev pub plain_ctors : List Ctor
+plain_ctors = map plain_ctor plains
 
 -- the constructor with a number
 abbrev pub ctor_at : List Ctor → ℕ → Ctor
@@ -62,9 +38,9 @@ vertex_of ctors key = record { name = key.name; ctor = ctor_of ctors key.ctor }
 abbrev pub vertices_of : List Ctor → List VertexKey → List Vertex
 vertices_of ctors keys = map (vertex_of ctors) keys
 
--- the key of a vertex whose constructor is a branch
-abbrev pub branch_key : Name → Branch → VertexKey
-branch_key name branch = record { name = name; ctor = At (branch_number branch) }
+-- the key of a vertex whose constructor carries nothing
+abbrev pub plain_key : Name → Plain → VertexKey
+plain_key name plain = record { name = name; ctor = At (plain_number plain) }
 
 -- the key of the root
 abbrev pub root_key : VertexKey
@@ -90,9 +66,9 @@ HasCtor ctors key = IsMet ctors key.ctor
 abbrev pub IsCtorKeyOf : List Ctor → CtorKey → Ctor → Type 0
 IsCtorKeyOf ctors key ctor = IsMet ctors key × (ctor_of ctors key ≡ ctor)
 
--- the constructors begin with the branches, none stands twice, and none is a short literal
+-- the constructors begin with those that carry nothing, none stands twice, and none is a short literal
 pub record AreCtors (ctors : List Ctor) : Type 0 where
-  pub begin : BeginsWith ctors branch_ctors
+  pub begin : BeginsWith ctors plain_ctors
   pub once : StandOnce ctors
   pub long : AllByRecursion (λ ctor. is_short ctor ≡ false) ctors
 

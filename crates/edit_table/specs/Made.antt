@@ -2,12 +2,12 @@
 use Rattle.std.specs.Prelude.{◌≡◌, ◌^◌, Bool, true, false, ◌&&◌, nat_lt, is_none, refl}
 use Rattle.std.proofs.lemmas.Bool.{ltb-true}
 use Rattle.grove_names.specs.declared.name.Name.{Name}
-use Rattle.grove_sorts.specs.declared.branch.Branch.{Branch}
-use Rattle.grove_sorts.specs.declared.branch.Branch.TheVariants.{Root}
+use Rattle.grove_sorts.specs.declared.plain.Plain.{Plain}
+use Rattle.grove_sorts.specs.declared.plain.Plain.TheVariants.{Root}
 use Rattle.grove_sorts.specs.declared.ctor.Ctor.TheVariants.{LitTrue}
 use Rattle.grove_sorts.specs.declared.position.Position.{Position}
 use Rattle.grove_sorts.specs.declared.position.Position.TheVariants.{Main}
-use Rattle.grove_sorts.specs.Branch.{branch_of}
+use Rattle.grove_sorts.specs.Plain.{plain_of}
 use Rattle.grove_sorts.proofs.Truths.{both_true}
 use Rattle.grove_edits.specs.declared.vertex.Vertex.{Vertex}
 use Rattle.grove_edits.specs.declared.edge.Edge.{Edge}
@@ -58,7 +58,7 @@ some_edit = record {
   in_range = edge_range (edge_from some_name (record { author = 0; counter = 0 }) Root Main some_target) refl;
 }
 
-unfoldable pub made_by : EditKind → (name source : Name) (branch : Branch) (position : Position) (target : Vertex) (good : Bool)
+unfoldable pub made_by : EditKind → (name source : Name) (branch : Plain) (position : Position) (target : Vertex) (good : Bool)
     → is_good (edge_from name source branch position target) ≡ good → Edit
 made_by kind name source branch position target true is = record {
   name = name;
@@ -74,4 +74,4 @@ made_by kind name source branch position target false is = some_edit
 
 -- the edit of this kind and a good edge
 unfoldable pub made : EditKind → Edge → Edit
-made kind e = made_by kind e.name e.source.name (branch_of e.source.ctor) e.position e.target _ refl
+made kind e = made_by kind e.name e.source.name (plain_of e.source.ctor) e.position e.target _ refl

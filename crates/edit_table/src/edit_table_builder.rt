@@ -6,7 +6,7 @@ ghost use Rattle.grove_edits.specs.Vertex.{root};
 use crate::edit_table::EditTable;
 use crate::likely_ends::WAITING;
 use crate::no_memory::NoMemory;
-use crate::numbering::{branch_ctors, push_records};
+use crate::numbering::{plain_ctors, push_records};
 use crate::ranking::rank_ctors;
 use crate::record::Record;
 use crate::renumbering::renumber;
@@ -48,7 +48,7 @@ impl<'t> EditTableBuilder<'t> {
         ensures edits { IfOk result (λ table. table.edits ≡ []) }
         ensures vertices { IfOk result (λ table. table.vertices ≡ root ∷ []) }
     {
-        let ctors = branch_ctors(alloc, seed)?;
+        let ctors = plain_ctors(alloc, seed)?;
         let mut keys = IndexSet::with_hasher(alloc, seed);
         keys.insert(VertexKey {
             name: Vertex::ROOT.name,

@@ -1,12 +1,13 @@
 ghost use Rattle.std.specs.Prelude.{◌≡◌, ◌<◌, ◌^◌, [], ◌∷◌, ◌++◌, List, Some, map, IsTrue, length, slice_get, IfOk, IfSome, IfNone, OnOk, OnErr, false};
 ghost use Rattle.indexmap.specs.IndexSet.{insert_key};
-ghost use Rattle.grove_sorts.specs.Branch.{branch_ctor};
+ghost use Rattle.grove_sorts.specs.declared.plain.Plain.{Plain};
+ghost use Rattle.grove_sorts.specs.Plain.{plain_ctor};
 ghost use Rattle.grove_sorts.specs.Spelled.{spelled_ctor};
 ghost use Rattle.grove_edits.specs.Edit.{edit_edge};
 ghost use Rattle.grove_edits.specs.SpelledEdge.{spelled_vertex};
 ghost use Rattle.grove_edits.specs.SpelledEdit.{spelled_edit};
 ghost use Rattle.edit_table.specs.declared.vertex_key.VertexKey.{VertexKey};
-ghost use Rattle.edit_table.specs.Keys.{branch_key, branch_number, is_short, vertices_of, with_vertex, AreCtors, AreKeys, BeginsWith, IsCtorKeyOf};
+ghost use Rattle.edit_table.specs.Keys.{plain_key, is_short, vertices_of, with_vertex, AreCtors, AreKeys, BeginsWith, IsCtorKeyOf};
 ghost use Rattle.edit_table.specs.Records.{edits_of, AreRecords};
 
 use crate::likely_ends::LikelyEnds;
@@ -14,46 +15,22 @@ use crate::no_memory::NoMemory;
 use crate::record::Record;
 use crate::vertex_key::{CtorKey, NONE, VertexKey};
 use grove_edits::{SpelledEdit, SpelledVertex};
-use grove_sorts::{Branch, Ctor, SpelledCtor};
+use grove_sorts::{Ctor, SpelledCtor, all_plain};
 use indexmap::IndexSet;
 use seeded_hash::HashSeed;
 use std::alloc::Global;
 
-// The branches, each at the index that is its number.
-const BRANCHES: [Branch; 15] = [
-    Branch::Root,
-    Branch::Lam,
-    Branch::Ap,
-    Branch::Plus,
-    Branch::Choose,
-    Branch::Pair,
-    Branch::Fst,
-    Branch::Snd,
-    Branch::TArrow,
-    Branch::TProd,
-    Branch::Let,
-    Branch::Inl,
-    Branch::Inr,
-    Branch::Case,
-    Branch::TSum,
-];
-
-fn number_of_branch(branch: Branch) -> u32
-    ensures { result ≡ branch_number branch }
-{
-    branch as u32
-}
-
-/// The constructors that are branches, each at the index that is its number.
-pub(crate) fn branch_ctors(
+/// The constructors that carry nothing, each at the index that is its number.
+pub(crate) fn plain_ctors(
     alloc: Global,
     seed: HashSeed,
 ) -> Result<IndexSet<Ctor, HashSeed>, NoMemory>
     ensures { IfOk result (λ ctors. AreCtors ctors.keys) }
 {
     let mut ctors = IndexSet::with_hasher(alloc, seed);
-    for number in 0..BRANCHES.len() {
-        ctors.insert(BRANCHES[number].ctor())?;
+    let plains = all_plain();
+    for number in 0..plains.len() {
+        ctors.insert(plains[number].ctor())?;
     }
     Ok(ctors)
 }
@@ -124,12 +101,12 @@ fn push_record(
 /// The key of the source of an edit.
 #[inline(always)]
 pub(crate) fn source_key(edit: &SpelledEdit) -> VertexKey
-    ensures { (branch : Branch) × (result ≡ branch_key (edit_edge (spelled_edit edit.now)).source.name branch)
-        × (branch_ctor branch ≡ (edit_edge (spelled_edit edit.now)).source.ctor) }
+    ensures { (plain : Plain) × (result ≡ plain_key (edit_edge (spelled_edit edit.now)).source.name plain)
+        × (plain_ctor plain ≡ (edit_edge (spelled_edit edit.now)).source.ctor) }
 {
     VertexKey {
         name: edit.source_name(),
-        ctor: CtorKey::At(number_of_branch(edit.branch())),
+        ctor: CtorKey::At(edit.branch().number()),
     }
 }
 
@@ -204,17 +181,14 @@ fn is_at(keys: &IndexSet<VertexKey, HashSeed>, number: u32, key: &VertexKey) -> 
     }
 }
 
-/// The key of a constructor that has it without a look-up: a branch, or a literal that is short.
+/// The key of a constructor that has it without a look-up: one that carries nothing, or a literal that is short.
 #[inline(always)]
 pub(crate) fn fixed_key(ctor: &SpelledCtor) -> Option<CtorKey>
     ensures key { IfSome result (λ key. (ctors : List Ctor) → AreCtors ctors → IsCtorKeyOf ctors key (spelled_ctor ctor.now)) }
     ensures none { IfNone result (is_short (spelled_ctor ctor.now) ≡ false) }
 {
     match ctor {
-        SpelledCtor::Plain(plain) => {
-            let branch = plain.branch()?;
-            Some(CtorKey::At(number_of_branch(branch)))
-        }
+        SpelledCtor::Plain(plain) => Some(CtorKey::At(plain.number())),
         SpelledCtor::Num(literal) => {
             let literal = u32::try_from(*literal).ok()?;
             Some(CtorKey::Short(literal))

@@ -1,14 +1,14 @@
 -- Look-ups in the row of a constructor: what they find is an entry of the row, and the first position of a sort stands before each other.
-use Rattle.std.proofs.Common.{◌≡◌, ◌≢◌, ℕ, suc, ◌≤◌, length, List, [], ◌∷◌, Bool, true, false, ◌&&◌, cond, eqb, nat_eq, nat_le, Option, Some, None, IfSome, IfNone, Contains, ◌⊎◌, ⊎_elim, inl, inr, refl, sym, ap, subst, ◌∙◌, arith, lit≤}
+use Rattle.std.proofs.Common.{◌≡◌, ◌≢◌, ℕ, suc, ◌≤◌, length, List, [], ◌∷◌, Bool, true, false, ◌&&◌, not, cond, eqb, nat_eq, nat_le, Option, Some, None, IfSome, IfNone, Contains, ◌⊎◌, ⊎_elim, inl, inr, refl, sym, ap, subst, ◌∙◌, arith, lit≤}
 use Rattle.std.proofs.lemmas.Bool.{eqb-true, eq-eqb, both_ways, false≢true}
 use Rattle.std.proofs.lemmas.Bool.Decides.{nat_tests}
 use Rattle.std.proofs.lemmas.List.Elements.{Contains-append_left, Contains-append_right, Contains-append_cases, Contains-push, Contains-push_cases}
 use Rattle.std.specs.List.{AllByRecursion}
-use Rattle.grove_sorts.specs.Ctor.{positions, Rises, sort_in, sort_at, first_in, first_position}
-use Rattle.grove_sorts.specs.Position.{position_number}
+use Rattle.grove_sorts.specs.Ctor.{sort_of_ctor, positions, Rises, sort_in, sort_at, first_in, first_position}
+use Rattle.grove_sorts.specs.Position.{position_number, is_same_position}
 use Rattle.grove_sorts.specs.Sort.{sort_number}
 use Rattle.grove_sorts.proofs.Truths.{both_true}
-use Rattle.grove_sorts.proofs.Orders.{position_same}
+use Rattle.grove_sorts.proofs.Orders.{position_same, other_position}
 use Rattle.grove_sorts.specs.declared.sort.Sort.{Sort}
 use Rattle.grove_sorts.specs.declared.sort.Sort.TheVariants.{Top, Exp, Pat, Typ}
 use Rattle.grove_sorts.specs.declared.position.Position.{Position}
@@ -151,8 +151,14 @@ sort_at_none ctor position =
 not_below : (low : ℕ) (entries : List (Position × Sort)) → Rises low entries → (p : Position) (sort : Sort) → suc (position_number p) ≤ low → sort_in entries p ≡ Some sort → ⊥
 not_below low entries rises p sort below e = absurd (omega (arith, sort_in_above low entries rises p sort e))
 
+-- what is found behind an entry stands at another position
+pub other_behind : (entry : Position × Sort) (entries : List (Position × Sort)) (p : Position) (sort : Sort) → Rises (suc (position_number entry.0)) entries → sort_in entries p ≡ Some sort → is_same_position entry.0 p ≡ false
+other_behind entry entries p sort rises e =
+    let above = sort_in_above (suc (position_number entry.0)) entries rises p sort e in
+    other_position entry.0 p (λ same. omega (arith, above, same))
+
 -- what a later entry is found with, it is found with behind an earlier one too
-found_behind : (entry : Position × Sort) (entries : List (Position × Sort)) (p : Position) (sort : Sort) → Rises (suc (position_number entry.0)) entries → sort_in entries p ≡ Some sort → sort_in (entry ∷ entries) p ≡ Some sort
+pub found_behind : (entry : Position × Sort) (entries : List (Position × Sort)) (p : Position) (sort : Sort) → Rises (suc (position_number entry.0)) entries → sort_in entries p ≡ Some sort → sort_in (entry ∷ entries) p ≡ Some sort
 found_behind entry entries p sort rises e = by_test (eqb (position_number entry.0) (position_number p)) refl where
   by_test : (b : Bool) → eqb (position_number entry.0) (position_number p) ≡ b → cond b (Some entry.1) (sort_in entries p) ≡ Some sort
   by_test true here =
@@ -166,11 +172,14 @@ all_behind entry entries [] rises all = tt
 all_behind entry entries (place ∷ places) rises all =
     (found_behind entry entries place.0 place.1 rises all.0, all_behind entry entries places rises all.1)
 
+-- an entry is found first
+pub found_first : (entry : Position × Sort) (entries : List (Position × Sort)) → sort_in (entry ∷ entries) entry.0 ≡ Some entry.1
+found_first entry entries = ap (λ b. cond b (Some entry.1) (sort_in entries entry.0)) (eq-eqb (position_number entry.0) (position_number entry.0) refl)
+
 all_found : (low : ℕ) (entries : List (Position × Sort)) → Rises low entries → AllByRecursion (λ place. sort_in entries place.0 ≡ Some place.1) entries
 all_found low [] rises = tt
 all_found low (entry ∷ entries) rises =
-    let itself : eqb (position_number entry.0) (position_number entry.0) ≡ true = eq-eqb _ _ refl in
-    (ap (λ b. cond b (Some entry.1) (sort_in entries entry.0)) itself, all_behind entry entries entries rises.1 (all_found (suc (position_number entry.0)) entries rises.1))
+    (found_first entry entries, all_behind entry entries entries rises.1 (all_found (suc (position_number entry.0)) entries rises.1))
 
 -- each place of a row is found in it with its sort
 pub places_found : (ctor : Ctor) → AllByRecursion (λ place. sort_at ctor place.0 ≡ Some place.1) (positions ctor)
@@ -191,3 +200,86 @@ first_in_found low (entry ∷ entries) rises sort found f =
 pub first_position_found : (ctor : Ctor) (sort : Sort) → IfSome (first_position ctor sort) (λ position. sort_at ctor position ≡ Some sort)
 first_position_found ctor sort =
     if_some (λ position. sort_at ctor position ≡ Some sort) (first_position ctor sort) (first_in_found 0 (positions ctor) (positions_rise ctor) sort)
+
+-- ---- the children of types and of patterns
+
+is_typ : Sort → Bool
+is_typ Top = false
+is_typ Exp = false
+is_typ Pat = false
+is_typ Typ = true
+
+-- the test that types alone stand below a type, and nothing below a pattern
+are_below : Sort → List (Position × Sort) → Bool
+are_below Top entries = true
+are_below Exp entries = true
+are_below Pat [] = true
+are_below Pat (entry ∷ entries) = false
+are_below Typ [] = true
+are_below Typ (entry ∷ entries) = is_typ entry.1 && are_below Typ entries
+
+row_below : (ctor : Ctor) → are_below (sort_of_ctor ctor) (positions ctor) ≡ true
+unfolding are_below is_typ
+row_below Root = refl
+row_below _ = refl
+
+typ_from : (s : Sort) → is_typ s ≡ true → s ≡ Typ
+unfolding is_typ
+typ_from Top is = absurd (false≢true is)
+typ_from Exp is = absurd (false≢true is)
+typ_from Pat is = absurd (false≢true is)
+typ_from Typ is = refl
+
+all_types : (entries : List (Position × Sort)) → are_below Typ entries ≡ true → AllByRecursion (λ place. place.1 ≡ Typ) entries
+unfolding are_below
+all_types [] are = tt
+all_types (entry ∷ entries) are =
+    let both = both_true (is_typ entry.1) (are_below Typ entries) are in
+    (typ_from entry.1 both.0, all_types entries both.1)
+
+-- the children of a type are types
+pub types_below : (ctor : Ctor) → sort_of_ctor ctor ≡ Typ → AllByRecursion (λ place. place.1 ≡ Typ) (positions ctor)
+types_below ctor is = all_types (positions ctor) (subst (λ s. are_below s (positions ctor) ≡ true) is (row_below ctor))
+
+no_entries : (entries : List (Position × Sort)) → are_below Pat entries ≡ true → entries ≡ []
+unfolding are_below
+no_entries [] are = refl
+no_entries (entry ∷ entries) are = absurd (false≢true are)
+
+-- a pattern has no children
+pub none_below : (ctor : Ctor) → sort_of_ctor ctor ≡ Pat → positions ctor ≡ []
+none_below ctor is = no_entries (positions ctor) (subst (λ s. are_below s (positions ctor) ≡ true) is (row_below ctor))
+
+-- ---- no child is a whole program
+
+is_top : Sort → Bool
+is_top Top = true
+is_top Exp = false
+is_top Pat = false
+is_top Typ = false
+
+have_no_top : List (Position × Sort) → Bool
+have_no_top [] = true
+have_no_top (entry ∷ entries) = not (is_top entry.1) && have_no_top entries
+
+row_has_no_top : (ctor : Ctor) → have_no_top (positions ctor) ≡ true
+unfolding have_no_top is_top
+row_has_no_top Root = refl
+row_has_no_top _ = refl
+
+other_than_top : (s : Sort) → not (is_top s) ≡ true → s ≢ Top
+unfolding is_top
+other_than_top Top not_so e = false≢true not_so
+other_than_top Exp not_so e = cc
+other_than_top Pat not_so e = cc
+other_than_top Typ not_so e = cc
+
+none_is_top : (entries : List (Position × Sort)) → have_no_top entries ≡ true → AllByRecursion (λ place. place.1 ≢ Top) entries
+unfolding have_no_top
+none_is_top [] are = tt
+none_is_top (entry ∷ entries) are =
+    let both = both_true (not (is_top entry.1)) (have_no_top entries) are in
+    (other_than_top entry.1 both.0, none_is_top entries both.1)
+
+pub no_top_below : (ctor : Ctor) → AllByRecursion (λ place. place.1 ≢ Top) (positions ctor)
+no_top_below ctor = none_is_top (positions ctor) (row_has_no_top ctor)

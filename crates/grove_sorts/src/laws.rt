@@ -1,4 +1,4 @@
-ghost use Rattle.std.specs.Prelude.{◌≡◌, ℕ, ◌<◌, ◌≤◌, length, Some, IsTrue, slice_get, is_some};
+ghost use Rattle.std.specs.Prelude.{◌≡◌, ◌≢◌, ℕ, ◌<◌, ◌≤◌, length, [], Some, IsTrue, slice_get, is_some};
 ghost use Rattle.std.specs.List.{AllByRecursion};
 ghost use Rattle.std.specs.Cmp.{IsTotalOrder};
 ghost use Rattle.std.specs.declared.cmp.Ordering.TheVariants.{Equal};
@@ -8,9 +8,10 @@ ghost use Rattle.grove_sorts.specs.declared.version.Version.TheVariants.{Two};
 ghost use Rattle.grove_sorts.specs.declared.ctor.Ctor.{Ctor};
 ghost use Rattle.grove_sorts.specs.declared.plain.Plain.{Plain};
 ghost use Rattle.grove_sorts.specs.declared.position.Position.{Position};
+ghost use Rattle.grove_sorts.specs.declared.sort.Sort.TheVariants.{Top, Pat, Typ};
 ghost use Rattle.grove_sorts.specs.Identifier.{IsIdentifier};
 ghost use Rattle.grove_sorts.specs.Ident.{ident_bytes, ident_cmp};
-ghost use Rattle.grove_sorts.specs.Ctor.{InRange, ctor_text, ctor_cmp, positions, Rises, sort_at};
+ghost use Rattle.grove_sorts.specs.Ctor.{InRange, ctor_text, ctor_cmp, positions, Rises, sort_at, sort_of_ctor};
 ghost use Rattle.grove_sorts.specs.Plain.{plain_ctor, plain_of, plain_number, plains};
 ghost use Rattle.grove_sorts.specs.Position.{position_text, position_cmp};
 
@@ -64,9 +65,13 @@ pub fn positions_are_their_words()
     ensures unbroken { (c : ℕ) (position : Position) → c < 48 → Lacks c (position_text position) }
 {}
 
-/// The positions of each row rise, so none stands twice; a row has at most five; and each is found with its sort.
+/// What all rows have in common. The positions of each rise, so none stands twice; a row has at most five; and each is found with its
+/// sort. No child is a whole program, the children of a type are types, and a pattern has none.
 pub fn rows_are_in_order()
     ensures rise { (ctor : Ctor) → Rises 0 (positions ctor) }
     ensures few { (ctor : Ctor) → length (positions ctor) ≤ 5 }
     ensures found { (ctor : Ctor) → AllByRecursion (λ place. sort_at ctor place.0 ≡ Some place.1) (positions ctor) }
+    ensures no_top { (ctor : Ctor) → AllByRecursion (λ place. place.1 ≢ Top) (positions ctor) }
+    ensures types { (ctor : Ctor) → sort_of_ctor ctor ≡ Typ → AllByRecursion (λ place. place.1 ≡ Typ) (positions ctor) }
+    ensures patterns { (ctor : Ctor) → sort_of_ctor ctor ≡ Pat → positions ctor ≡ [] }
 {}

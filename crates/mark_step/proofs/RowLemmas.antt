@@ -32,56 +32,32 @@ case_children scope b w on when_left when_right o =
 -- a row of synthesis demands what the functions do
 synthesis_demands : (scope : Scope) (b : Bound) (ctor : Ctor) (js : List Judgement) (t : Typ) (m : Mark)
     → Synthesises scope b ctor js t m → js ≡ judgements (expression ctor scope b Synthesise) (child_types js)
-synthesis_demands scope b ctor js t m (syn_var x _ h) = refl
-synthesis_demands scope b ctor js t m (syn_var_free x h) = refl
-synthesis_demands scope b ctor js t m (syn_lam body) = refl
 synthesis_demands scope b ctor js t m (syn_ap f from to arg h) = ap (λ o. syn scope f ∷ ana scope (known o).0 arg ∷ []) (sym h)
 synthesis_demands scope b ctor js t m (syn_ap_not_arrow f arg h) = ap (λ o. syn scope f ∷ ana scope (known o).0 arg ∷ []) (sym h)
-synthesis_demands scope b ctor js t m (syn_num n) = refl
-synthesis_demands scope b ctor js t m (syn_plus left right) = refl
-synthesis_demands scope b ctor js t m syn_true = refl
-synthesis_demands scope b ctor js t m syn_false = refl
-synthesis_demands scope b ctor js t m (syn_if test when_true when_false both h) = refl
-synthesis_demands scope b ctor js t m (syn_if_branches test when_true when_false h) = refl
-synthesis_demands scope b ctor js t m (syn_pair first second) = refl
-synthesis_demands scope b ctor js t m (syn_fst of first second h) = refl
-synthesis_demands scope b ctor js t m (syn_fst_not_product of h) = refl
-synthesis_demands scope b ctor js t m (syn_snd of first second h) = refl
-synthesis_demands scope b ctor js t m (syn_snd_not_product of h) = refl
-synthesis_demands scope b ctor js t m (syn_let definition body) = refl
-synthesis_demands scope b ctor js t m (syn_inl of) = refl
-synthesis_demands scope b ctor js t m (syn_inr of) = refl
 synthesis_demands scope b ctor js t m (syn_case on left right when_left when_right both h e) = ap (case_children scope b Synthesise on when_left when_right) (sym h)
 synthesis_demands scope b ctor js t m (syn_case_not_sum on when_left when_right h) = ap (case_children scope b Synthesise on when_left when_right) (sym h)
 synthesis_demands scope b ctor js t m (syn_case_branches on left right when_left when_right h e) = ap (case_children scope b Synthesise on when_left when_right) (sym h)
+synthesis_demands scope b ctor js t m _ = refl
 
 -- a row of synthesis gives what the functions give
 synthesis_gives : (scope : Scope) (b : Bound) (ctor : Ctor) (js : List Judgement) (t : Typ) (m : Mark)
     → Synthesises scope b ctor js t m → marked t m ≡ synthesised ctor scope b (child_types js)
 synthesis_gives scope b ctor js t m (syn_var x _ h) = ap (λ o. or_mark o mark.Free) (sym h)
 synthesis_gives scope b ctor js t m (syn_var_free x h) = ap (λ o. or_mark o mark.Free) (sym h)
-synthesis_gives scope b ctor js t m (syn_lam body) = refl
 synthesis_gives scope b ctor js t m (syn_ap f from to arg h) = ap (λ (o : Option (Typ × Typ)). or_mark (option_map (λ p. p.1) o) mark.NotArrow) (sym h)
 synthesis_gives scope b ctor js t m (syn_ap_not_arrow f arg h) = ap (λ (o : Option (Typ × Typ)). or_mark (option_map (λ p. p.1) o) mark.NotArrow) (sym h)
-synthesis_gives scope b ctor js t m (syn_num n) = refl
-synthesis_gives scope b ctor js t m (syn_plus left right) = refl
-synthesis_gives scope b ctor js t m syn_true = refl
-synthesis_gives scope b ctor js t m syn_false = refl
 synthesis_gives scope b ctor js t m (syn_if test when_true when_false both h) = ap (λ o. or_mark o mark.Branches) (sym h)
 synthesis_gives scope b ctor js t m (syn_if_branches test when_true when_false h) = ap (λ o. or_mark o mark.Branches) (sym (meet-inconsistent when_true when_false h))
-synthesis_gives scope b ctor js t m (syn_pair first second) = refl
 synthesis_gives scope b ctor js t m (syn_fst of first second h) = ap (λ (o : Option (Typ × Typ)). or_mark (option_map (λ p. p.0) o) mark.NotProduct) (sym h)
 synthesis_gives scope b ctor js t m (syn_fst_not_product of h) = ap (λ (o : Option (Typ × Typ)). or_mark (option_map (λ p. p.0) o) mark.NotProduct) (sym h)
 synthesis_gives scope b ctor js t m (syn_snd of first second h) = ap (λ (o : Option (Typ × Typ)). or_mark (option_map (λ p. p.1) o) mark.NotProduct) (sym h)
 synthesis_gives scope b ctor js t m (syn_snd_not_product of h) = ap (λ (o : Option (Typ × Typ)). or_mark (option_map (λ p. p.1) o) mark.NotProduct) (sym h)
-synthesis_gives scope b ctor js t m (syn_let definition body) = refl
-synthesis_gives scope b ctor js t m (syn_inl of) = refl
-synthesis_gives scope b ctor js t m (syn_inr of) = refl
 synthesis_gives scope b ctor js t m (syn_case on left right when_left when_right both h e) =
     ap (λ o. or_mark o mark.Branches) (sym e) ∙ ap (λ o. case_result o (meet when_left when_right)) (sym h)
 synthesis_gives scope b ctor js t m (syn_case_not_sum on when_left when_right h) = ap (λ o. case_result o (meet when_left when_right)) (sym h)
 synthesis_gives scope b ctor js t m (syn_case_branches on left right when_left when_right h e) =
     ap (λ o. or_mark o mark.Branches) (sym (meet-inconsistent when_left when_right e)) ∙ ap (λ o. case_result o (meet when_left when_right)) (sym h)
+synthesis_gives scope b ctor js t m _ = refl
 
 -- of the children of other constructors the same is wanted in analysis as in synthesis
 wanted_next-other : (ctor : Ctor) (t : Typ) (before : List Typ) → IsOther ctor → wanted_next ctor Synthesise before ≡ wanted_next ctor (Analyse t) before
@@ -124,10 +100,8 @@ analysis_demands : (scope : Scope) (b : Bound) (t : Typ) (ctor : Ctor) (js : Lis
 analysis_demands scope b t ctor js s m (ana_lam from to body h same) = ap (λ o. ana (body_scope b scope) (known o).1 body ∷ []) (sym h)
 analysis_demands scope b t ctor js s m (ana_lam_ascription from to body h differ) = ap (λ o. ana (body_scope b scope) (known o).1 body ∷ []) (sym h)
 analysis_demands scope b t ctor js s m (ana_lam_against body h) = ap (λ o. ana (body_scope b scope) (known o).1 body ∷ []) (sym h)
-analysis_demands scope b t ctor js s m (ana_if test when_true when_false) = refl
 analysis_demands scope b t ctor js s m (ana_pair left right first second h) = ap (λ o. ana scope (known o).0 first ∷ ana scope (known o).1 second ∷ []) (sym h)
 analysis_demands scope b t ctor js s m (ana_pair_against first second h) = ap (λ o. ana scope (known o).0 first ∷ ana scope (known o).1 second ∷ []) (sym h)
-analysis_demands scope b t ctor js s m (ana_let definition body) = refl
 analysis_demands scope b t ctor js s m (ana_inl left right of h) = ap (λ o. ana scope (known o).0 of ∷ []) (sym h)
 analysis_demands scope b t ctor js s m (ana_inl_against of h) = ap (λ o. ana scope (known o).0 of ∷ []) (sym h)
 analysis_demands scope b t ctor js s m (ana_inr left right of h) = ap (λ o. ana scope (known o).1 of ∷ []) (sym h)
@@ -137,6 +111,7 @@ analysis_demands scope b t ctor js s m (ana_case_not_sum on when_left when_right
 analysis_demands scope b t ctor js s m (ana_marked _ _ _ _ other r ne) = other_demands scope b t ctor js s m other r
 analysis_demands scope b t ctor js s m (ana_inconsistent _ _ _ other r differ) = other_demands scope b t ctor js s mark.None other r
 analysis_demands scope b t ctor js s m (ana_other _ _ _ other r same) = other_demands scope b t ctor js s mark.None other r
+analysis_demands scope b t ctor js s m _ = refl
 
 mark_against-marked : (m : Mark) (same : Bool) → m ≢ mark.None → m ≡ mark_against m same
 mark_against-marked mark.None same ne = absurd (ne refl)
@@ -166,10 +141,8 @@ analysis_gives scope b t ctor js s m (ana_lam from to body h same) =
 analysis_gives scope b t ctor js s m (ana_lam_ascription from to body h differ) =
     ap (λ consistent. marked t (if consistent then mark.None else mark.Ascription)) (sym differ) ∙ ap (λ o. marked t (function_mark b.typ o)) (sym h)
 analysis_gives scope b t ctor js s m (ana_lam_against body h) = ap (λ o. marked t (function_mark b.typ o)) (sym h)
-analysis_gives scope b t ctor js s m (ana_if test when_true when_false) = refl
 analysis_gives scope b t ctor js s m (ana_pair left right first second h) = ap (λ o. marked t (unless_matched mark.PairAgainst o)) (sym h)
 analysis_gives scope b t ctor js s m (ana_pair_against first second h) = ap (λ o. marked t (unless_matched mark.PairAgainst o)) (sym h)
-analysis_gives scope b t ctor js s m (ana_let definition body) = refl
 analysis_gives scope b t ctor js s m (ana_inl left right of h) = ap (λ o. marked t (unless_matched mark.InjAgainst o)) (sym h)
 analysis_gives scope b t ctor js s m (ana_inl_against of h) = ap (λ o. marked t (unless_matched mark.InjAgainst o)) (sym h)
 analysis_gives scope b t ctor js s m (ana_inr left right of h) = ap (λ o. marked t (unless_matched mark.InjAgainst o)) (sym h)
@@ -182,82 +155,49 @@ analysis_gives scope b t ctor js s m (ana_inconsistent _ _ _ other r differ) =
     other_gives scope b t ctor js s mark.None mark.Inconsistent other r (ap (mark_against mark.None) (sym differ))
 analysis_gives scope b t ctor js s m (ana_other _ _ _ other r same) =
     other_gives scope b t ctor js s mark.None mark.None other r (ap (mark_against mark.None) (sym same))
+analysis_gives scope b t ctor js s m _ = refl
 
 -- what is demanded and what is given, by the functions, is a row of synthesis
 synthesis_by_row : (ctor : Ctor) (scope : Scope) (b : Bound) (done : List Typ) → sort_of_ctor ctor ≡ Exp → length done ≡ expression_count ctor
     → Synthesises scope b ctor (judgements (expression ctor scope b Synthesise) done) (synthesised ctor scope b done).typ (synthesised ctor scope b done).mark
-synthesis_by_row Root scope b done exp h = cc
 synthesis_by_row (Var x) scope b [] exp h = by (type_of_name scope x) refl
   where
     by : (o : Option Typ) → type_of_name scope x ≡ o → Synthesises scope b (Var x) [] (or_mark o mark.Free).typ (or_mark o mark.Free).mark
     by (Some t) e = syn_var x t e
     by None e = syn_var_free x e
-synthesis_by_row (Var x) scope b (_ ∷ ts) exp h = absurd (omega arith)
-synthesis_by_row Lam scope b [] exp h = absurd (omega arith)
 synthesis_by_row Lam scope b (body ∷ []) exp h = syn_lam body
-synthesis_by_row Lam scope b (_ ∷ _ ∷ ts) exp h = absurd (omega arith)
-synthesis_by_row Ap scope b [] exp h = absurd (omega arith)
-synthesis_by_row Ap scope b (_ ∷ []) exp h = absurd (omega arith)
 synthesis_by_row Ap scope b (f ∷ arg ∷ []) exp h = by (matched_parts Arrow f) refl
   where
     by : (o : Option (Typ × Typ)) → matched_parts Arrow f ≡ o
         → Synthesises scope b Ap (syn scope f ∷ ana scope (known o).0 arg ∷ []) (or_mark (option_map (λ p. p.1) o) mark.NotArrow).typ (or_mark (option_map (λ p. p.1) o) mark.NotArrow).mark
     by (Some p) e = syn_ap f p.0 p.1 arg e
     by None e = syn_ap_not_arrow f arg e
-synthesis_by_row Ap scope b (_ ∷ _ ∷ _ ∷ ts) exp h = absurd (omega arith)
 synthesis_by_row (Num n) scope b [] exp h = syn_num n
-synthesis_by_row (Num n) scope b (_ ∷ ts) exp h = absurd (omega arith)
-synthesis_by_row Plus scope b [] exp h = absurd (omega arith)
-synthesis_by_row Plus scope b (_ ∷ []) exp h = absurd (omega arith)
 synthesis_by_row Plus scope b (left ∷ right ∷ []) exp h = syn_plus left right
-synthesis_by_row Plus scope b (_ ∷ _ ∷ _ ∷ ts) exp h = absurd (omega arith)
 synthesis_by_row LitTrue scope b [] exp h = syn_true
-synthesis_by_row LitTrue scope b (_ ∷ ts) exp h = absurd (omega arith)
 synthesis_by_row LitFalse scope b [] exp h = syn_false
-synthesis_by_row LitFalse scope b (_ ∷ ts) exp h = absurd (omega arith)
-synthesis_by_row Choose scope b [] exp h = absurd (omega arith)
-synthesis_by_row Choose scope b (_ ∷ []) exp h = absurd (omega arith)
-synthesis_by_row Choose scope b (_ ∷ _ ∷ []) exp h = absurd (omega arith)
 synthesis_by_row Choose scope b (test ∷ when_true ∷ when_false ∷ []) exp h = by (meet when_true when_false) refl
   where
     by : (o : Option Typ) → meet when_true when_false ≡ o
         → Synthesises scope b Choose (ana scope typ.Boolean test ∷ syn scope when_true ∷ syn scope when_false ∷ []) (or_mark o mark.Branches).typ (or_mark o mark.Branches).mark
     by (Some both) e = syn_if test when_true when_false both e
     by None e = syn_if_branches test when_true when_false (sym (is_some-meet when_true when_false) ∙ ap is_some e)
-synthesis_by_row Choose scope b (_ ∷ _ ∷ _ ∷ _ ∷ ts) exp h = absurd (omega arith)
-synthesis_by_row Pair scope b [] exp h = absurd (omega arith)
-synthesis_by_row Pair scope b (_ ∷ []) exp h = absurd (omega arith)
 synthesis_by_row Pair scope b (first ∷ second ∷ []) exp h = syn_pair first second
-synthesis_by_row Pair scope b (_ ∷ _ ∷ _ ∷ ts) exp h = absurd (omega arith)
-synthesis_by_row Fst scope b [] exp h = absurd (omega arith)
 synthesis_by_row Fst scope b (of ∷ []) exp h = by (matched_parts Product of) refl
   where
     by : (o : Option (Typ × Typ)) → matched_parts Product of ≡ o
         → Synthesises scope b Fst (syn scope of ∷ []) (or_mark (option_map (λ p. p.0) o) mark.NotProduct).typ (or_mark (option_map (λ p. p.0) o) mark.NotProduct).mark
     by (Some p) e = syn_fst of p.0 p.1 e
     by None e = syn_fst_not_product of e
-synthesis_by_row Fst scope b (_ ∷ _ ∷ ts) exp h = absurd (omega arith)
-synthesis_by_row Snd scope b [] exp h = absurd (omega arith)
 synthesis_by_row Snd scope b (of ∷ []) exp h = by (matched_parts Product of) refl
   where
     by : (o : Option (Typ × Typ)) → matched_parts Product of ≡ o
         → Synthesises scope b Snd (syn scope of ∷ []) (or_mark (option_map (λ p. p.1) o) mark.NotProduct).typ (or_mark (option_map (λ p. p.1) o) mark.NotProduct).mark
     by (Some p) e = syn_snd of p.0 p.1 e
     by None e = syn_snd_not_product of e
-synthesis_by_row Snd scope b (_ ∷ _ ∷ ts) exp h = absurd (omega arith)
-synthesis_by_row Let scope b [] exp h = absurd (omega arith)
-synthesis_by_row Let scope b (_ ∷ []) exp h = absurd (omega arith)
 synthesis_by_row Let scope b (definition ∷ body ∷ []) exp h = syn_let definition body
-synthesis_by_row Let scope b (_ ∷ _ ∷ _ ∷ ts) exp h = absurd (omega arith)
-synthesis_by_row Inl scope b [] exp h = absurd (omega arith)
 synthesis_by_row Inl scope b (of ∷ []) exp h = syn_inl of
-synthesis_by_row Inl scope b (_ ∷ _ ∷ ts) exp h = absurd (omega arith)
-synthesis_by_row Inr scope b [] exp h = absurd (omega arith)
 synthesis_by_row Inr scope b (of ∷ []) exp h = syn_inr of
-synthesis_by_row Inr scope b (_ ∷ _ ∷ ts) exp h = absurd (omega arith)
-synthesis_by_row Case scope b [] exp h = absurd (omega arith)
-synthesis_by_row Case scope b (_ ∷ []) exp h = absurd (omega arith)
-synthesis_by_row Case scope b (_ ∷ _ ∷ []) exp h = absurd (omega arith)
 synthesis_by_row Case scope b (on ∷ when_left ∷ when_right ∷ []) exp h = by (matched_parts Sum on) refl
   where
     with_parts : (p : Typ × Typ) → matched_parts Sum on ≡ Some p → (o : Option Typ) → meet when_left when_right ≡ o
@@ -269,13 +209,7 @@ synthesis_by_row Case scope b (on ∷ when_left ∷ when_right ∷ []) exp h = b
         → Synthesises scope b Case (case_children scope b Synthesise on when_left when_right o) (case_result o (meet when_left when_right)).typ (case_result o (meet when_left when_right)).mark
     by (Some p) e = with_parts p e (meet when_left when_right) refl
     by None e = syn_case_not_sum on when_left when_right e
-synthesis_by_row Case scope b (_ ∷ _ ∷ _ ∷ _ ∷ ts) exp h = absurd (omega arith)
-synthesis_by_row (PVar x) scope b done exp h = cc
-synthesis_by_row TNum scope b done exp h = cc
-synthesis_by_row TBool scope b done exp h = cc
-synthesis_by_row TArrow scope b done exp h = cc
-synthesis_by_row TProd scope b done exp h = cc
-synthesis_by_row TSum scope b done exp h = cc
+synthesis_by_row _ scope b _ exp h = absurd (first_of (cc, omega (arith, h)))
 
 analysis_by_other : (ctor : Ctor) (scope : Scope) (b : Bound) (t : Typ) (js : List Judgement) (s : Typ) (m : Mark) → IsOther ctor
     → Synthesises scope b ctor js s m → Analyses scope b t ctor js s (mark_against m (is_consistent s t))
@@ -308,7 +242,6 @@ analysis_by_synthesis ctor scope b t done other exp h =
 -- what is demanded and what is given, by the functions, is a row of analysis
 analysis_by_row : (ctor : Ctor) (scope : Scope) (b : Bound) (t : Typ) (done : List Typ) → sort_of_ctor ctor ≡ Exp → length done ≡ expression_count ctor
     → Analyses scope b t ctor (judgements (expression ctor scope b (Analyse t)) done) (analysed ctor scope b t done).typ (analysed ctor scope b t done).mark
-analysis_by_row Lam scope b t [] exp h = absurd (omega arith)
 analysis_by_row Lam scope b t (body ∷ []) exp h = by (matched_parts Arrow t) refl
   where
     row : (p : Typ × Typ) → matched_parts Arrow t ≡ Some p → (same : Bool) → is_consistent b.typ p.0 ≡ same
@@ -320,64 +253,38 @@ analysis_by_row Lam scope b t (body ∷ []) exp h = by (matched_parts Arrow t) r
         → Analyses scope b t Lam (ana (body_scope b scope) (known o).1 body ∷ []) t (function_mark b.typ o)
     by (Some p) e = row p e (is_consistent b.typ p.0) refl
     by None e = ana_lam_against body e
-analysis_by_row Lam scope b t (_ ∷ _ ∷ ts) exp h = absurd (omega arith)
-analysis_by_row Choose scope b t [] exp h = absurd (omega arith)
-analysis_by_row Choose scope b t (_ ∷ []) exp h = absurd (omega arith)
-analysis_by_row Choose scope b t (_ ∷ _ ∷ []) exp h = absurd (omega arith)
 analysis_by_row Choose scope b t (test ∷ when_true ∷ when_false ∷ []) exp h = ana_if test when_true when_false
-analysis_by_row Choose scope b t (_ ∷ _ ∷ _ ∷ _ ∷ ts) exp h = absurd (omega arith)
-analysis_by_row Pair scope b t [] exp h = absurd (omega arith)
-analysis_by_row Pair scope b t (_ ∷ []) exp h = absurd (omega arith)
 analysis_by_row Pair scope b t (first ∷ second ∷ []) exp h = by (matched_parts Product t) refl
   where
     by : (o : Option (Typ × Typ)) → matched_parts Product t ≡ o
         → Analyses scope b t Pair (ana scope (known o).0 first ∷ ana scope (known o).1 second ∷ []) t (unless_matched mark.PairAgainst o)
     by (Some p) e = ana_pair p.0 p.1 first second e
     by None e = ana_pair_against first second e
-analysis_by_row Pair scope b t (_ ∷ _ ∷ _ ∷ ts) exp h = absurd (omega arith)
-analysis_by_row Let scope b t [] exp h = absurd (omega arith)
-analysis_by_row Let scope b t (_ ∷ []) exp h = absurd (omega arith)
 analysis_by_row Let scope b t (definition ∷ body ∷ []) exp h = ana_let definition body
-analysis_by_row Let scope b t (_ ∷ _ ∷ _ ∷ ts) exp h = absurd (omega arith)
-analysis_by_row Inl scope b t [] exp h = absurd (omega arith)
 analysis_by_row Inl scope b t (of ∷ []) exp h = by (matched_parts Sum t) refl
   where
     by : (o : Option (Typ × Typ)) → matched_parts Sum t ≡ o → Analyses scope b t Inl (ana scope (known o).0 of ∷ []) t (unless_matched mark.InjAgainst o)
     by (Some p) e = ana_inl p.0 p.1 of e
     by None e = ana_inl_against of e
-analysis_by_row Inl scope b t (_ ∷ _ ∷ ts) exp h = absurd (omega arith)
-analysis_by_row Inr scope b t [] exp h = absurd (omega arith)
 analysis_by_row Inr scope b t (of ∷ []) exp h = by (matched_parts Sum t) refl
   where
     by : (o : Option (Typ × Typ)) → matched_parts Sum t ≡ o → Analyses scope b t Inr (ana scope (known o).1 of ∷ []) t (unless_matched mark.InjAgainst o)
     by (Some p) e = ana_inr p.0 p.1 of e
     by None e = ana_inr_against of e
-analysis_by_row Inr scope b t (_ ∷ _ ∷ ts) exp h = absurd (omega arith)
-analysis_by_row Case scope b t [] exp h = absurd (omega arith)
-analysis_by_row Case scope b t (_ ∷ []) exp h = absurd (omega arith)
-analysis_by_row Case scope b t (_ ∷ _ ∷ []) exp h = absurd (omega arith)
 analysis_by_row Case scope b t (on ∷ when_left ∷ when_right ∷ []) exp h = by (matched_parts Sum on) refl
   where
     by : (o : Option (Typ × Typ)) → matched_parts Sum on ≡ o
         → Analyses scope b t Case (case_children scope b (Analyse t) on when_left when_right o) t (unless_matched mark.NotSum o)
     by (Some p) e = ana_case on p.0 p.1 when_left when_right e
     by None e = ana_case_not_sum on when_left when_right e
-analysis_by_row Case scope b t (_ ∷ _ ∷ _ ∷ _ ∷ ts) exp h = absurd (omega arith)
-analysis_by_row Root scope b t done exp h = analysis_by_synthesis Root scope b t done tt exp h
-analysis_by_row (Var x) scope b t done exp h = analysis_by_synthesis (Var x) scope b t done tt exp h
-analysis_by_row Ap scope b t done exp h = analysis_by_synthesis Ap scope b t done tt exp h
-analysis_by_row (Num n) scope b t done exp h = analysis_by_synthesis (Num n) scope b t done tt exp h
-analysis_by_row Plus scope b t done exp h = analysis_by_synthesis Plus scope b t done tt exp h
-analysis_by_row LitTrue scope b t done exp h = analysis_by_synthesis LitTrue scope b t done tt exp h
-analysis_by_row LitFalse scope b t done exp h = analysis_by_synthesis LitFalse scope b t done tt exp h
-analysis_by_row Fst scope b t done exp h = analysis_by_synthesis Fst scope b t done tt exp h
-analysis_by_row Snd scope b t done exp h = analysis_by_synthesis Snd scope b t done tt exp h
-analysis_by_row (PVar x) scope b t done exp h = analysis_by_synthesis (PVar x) scope b t done tt exp h
-analysis_by_row TNum scope b t done exp h = analysis_by_synthesis TNum scope b t done tt exp h
-analysis_by_row TBool scope b t done exp h = analysis_by_synthesis TBool scope b t done tt exp h
-analysis_by_row TArrow scope b t done exp h = analysis_by_synthesis TArrow scope b t done tt exp h
-analysis_by_row TProd scope b t done exp h = analysis_by_synthesis TProd scope b t done tt exp h
-analysis_by_row TSum scope b t done exp h = analysis_by_synthesis TSum scope b t done tt exp h
+analysis_by_row Lam scope b t _ exp h = absurd (omega (arith, h))
+analysis_by_row Choose scope b t _ exp h = absurd (omega (arith, h))
+analysis_by_row Pair scope b t _ exp h = absurd (omega (arith, h))
+analysis_by_row Let scope b t _ exp h = absurd (omega (arith, h))
+analysis_by_row Inl scope b t _ exp h = absurd (omega (arith, h))
+analysis_by_row Inr scope b t _ exp h = absurd (omega (arith, h))
+analysis_by_row Case scope b t _ exp h = absurd (omega (arith, h))
+analysis_by_row ctor scope b t done exp h = analysis_by_synthesis ctor scope b t done tt exp h
 
 -- the functions follow the rows
 pub functions_follow_rows : (e : Expression) (done : List Typ) → sort_of_ctor e.ctor ≡ Exp → length done ≡ expression_count e.ctor → Follows e (judgements e done) (settled e done)

@@ -65,30 +65,16 @@ pub data Synthesises (scope : Scope) (b : Bound) : Ctor → List Judgement → T
   syn_case_branches : (on left right when_left when_right : Typ) → matched_parts Sum on ≡ Some (left, right) → is_consistent when_left when_right ≡ false
       → Synthesises scope b Case (syn scope on ∷ syn (bind b.name left scope) when_left ∷ syn (bind b.second right scope) when_right ∷ []) typ.Unknown mark.Branches
 
--- a constructor whose analysis goes by its synthesis
+-- a constructor whose analysis goes by its synthesis: each but those that have rows of analysis
 abbrev pub IsOther : Ctor → Type 0
-IsOther Root = Unit {0}
-IsOther (Var x) = Unit {0}
 IsOther Lam = ⊥
-IsOther Ap = Unit {0}
-IsOther (Num n) = Unit {0}
-IsOther Plus = Unit {0}
-IsOther LitTrue = Unit {0}
-IsOther LitFalse = Unit {0}
 IsOther Choose = ⊥
 IsOther Pair = ⊥
-IsOther Fst = Unit {0}
-IsOther Snd = Unit {0}
-IsOther (PVar x) = Unit {0}
-IsOther TNum = Unit {0}
-IsOther TBool = Unit {0}
-IsOther TArrow = Unit {0}
-IsOther TProd = Unit {0}
 IsOther Let = ⊥
 IsOther Inl = ⊥
 IsOther Inr = ⊥
 IsOther Case = ⊥
-IsOther TSum = Unit {0}
+IsOther _ = Unit {0}
 
 -- Analysis against a type: the children are judged so, in table order, and the expression shows this type and this mark.
 pub data Analyses (scope : Scope) (b : Bound) (against : Typ) : Ctor → List Judgement → Typ → Mark → Type 0 where

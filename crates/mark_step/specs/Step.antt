@@ -89,30 +89,13 @@ scope_in_case b scope [] = scope
 scope_in_case b scope (on ∷ []) = bind b.name (parts_or_unknown Sum on).0 scope
 scope_in_case b scope (on ∷ _ ∷ _) = bind b.second (parts_or_unknown Sum on).1 scope
 
--- the scope of the child that comes next after children of these types, where the expression binds this and stands in this scope
+-- The scope of the child that comes next after children of these types, where the expression binds this and stands in this scope. It is
+-- another only where the constructor binds names.
 abbrev pub scope_next : Ctor → Bound → Scope → List Typ → Scope
-scope_next Root b scope before = scope
-scope_next (Var x) b scope before = scope
 scope_next Lam b scope before = bind b.name b.typ scope
-scope_next Ap b scope before = scope
-scope_next (Num n) b scope before = scope
-scope_next Plus b scope before = scope
-scope_next LitTrue b scope before = scope
-scope_next LitFalse b scope before = scope
-scope_next Choose b scope before = scope
-scope_next Pair b scope before = scope
-scope_next Fst b scope before = scope
-scope_next Snd b scope before = scope
-scope_next (PVar x) b scope before = scope
-scope_next TNum b scope before = scope
-scope_next TBool b scope before = scope
-scope_next TArrow b scope before = scope
-scope_next TProd b scope before = scope
 scope_next Let b scope before = scope_in_let b scope before
-scope_next Inl b scope before = scope
-scope_next Inr b scope before = scope
 scope_next Case b scope before = scope_in_case b scope before
-scope_next TSum b scope before = scope
+scope_next _ b scope before = scope
 
 -- what is demanded of the child that comes next after children of these types
 abbrev pub demand : Expression → List Typ → Demanded
@@ -185,30 +168,17 @@ mark_against mark.InjAgainst same = mark.InjAgainst
 abbrev pub against : Typ → Marked → Marked
 against t found = marked found.typ (mark_against found.mark (is_consistent found.typ t))
 
--- what an expression gets that is analysed against a type and whose children have these types
+-- what an expression gets that is analysed against a type and whose children have these types: what it synthesises, set against the type,
+-- but where the constructor has a rule of analysis
 abbrev pub analysed : Ctor → Scope → Bound → Typ → List Typ → Marked
-analysed Root scope b t done = against t (synthesised Root scope b done)
-analysed (Var x) scope b t done = against t (synthesised (Var x) scope b done)
 analysed Lam scope b t done = marked t (function_mark b.typ (matched_parts Arrow t))
-analysed Ap scope b t done = against t (synthesised Ap scope b done)
-analysed (Num n) scope b t done = against t (synthesised (Num n) scope b done)
-analysed Plus scope b t done = against t (synthesised Plus scope b done)
-analysed LitTrue scope b t done = against t (synthesised LitTrue scope b done)
-analysed LitFalse scope b t done = against t (synthesised LitFalse scope b done)
 analysed Choose scope b t done = unmarked t
 analysed Pair scope b t done = marked t (unless_matched mark.PairAgainst (matched_parts Product t))
-analysed Fst scope b t done = against t (synthesised Fst scope b done)
-analysed Snd scope b t done = against t (synthesised Snd scope b done)
-analysed (PVar x) scope b t done = against t (synthesised (PVar x) scope b done)
-analysed TNum scope b t done = against t (synthesised TNum scope b done)
-analysed TBool scope b t done = against t (synthesised TBool scope b done)
-analysed TArrow scope b t done = against t (synthesised TArrow scope b done)
-analysed TProd scope b t done = against t (synthesised TProd scope b done)
 analysed Let scope b t done = unmarked t
 analysed Inl scope b t done = marked t (unless_matched mark.InjAgainst (matched_parts Sum t))
 analysed Inr scope b t done = marked t (unless_matched mark.InjAgainst (matched_parts Sum t))
 analysed Case scope b t done = marked t (unless_matched mark.NotSum (matched_parts Sum (child done 0)))
-analysed TSum scope b t done = against t (synthesised TSum scope b done)
+analysed ctor scope b t done = against t (synthesised ctor scope b done)
 
 abbrev pub settled_as : Wanted → Ctor → Scope → Bound → List Typ → Marked
 settled_as Synthesise ctor scope b done = synthesised ctor scope b done

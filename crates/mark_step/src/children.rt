@@ -59,11 +59,7 @@ fn child_context(
         Ctor::Lam => bind(types, ctxs, node.ctx, node.binder.name, node.binder.typ),
         Ctor::Let => context_in_let(types, ctxs, node, index),
         Ctor::Case => context_in_case(types, ctxs, node, index),
-        Ctor::Root | Ctor::Var(_) | Ctor::Ap | Ctor::Num(_) | Ctor::Plus => Ok(node.ctx),
-        Ctor::LitTrue | Ctor::LitFalse | Ctor::Choose => Ok(node.ctx),
-        Ctor::Pair | Ctor::Fst | Ctor::Snd | Ctor::Inl | Ctor::Inr => Ok(node.ctx),
-        Ctor::PVar(_) | Ctor::TNum | Ctor::TBool => Ok(node.ctx),
-        Ctor::TArrow | Ctor::TProd | Ctor::TSum => Ok(node.ctx),
+        _ => Ok(node.ctx),
     }
 }
 

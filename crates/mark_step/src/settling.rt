@@ -81,19 +81,10 @@ fn analyse(
         Ctor::Let => Ok(unmarked(typ)),
         Ctor::Inl | Ctor::Inr => Ok(injection_against(types, typ)),
         Ctor::Case => Ok(case_against(types, node.child_type(0), typ)),
-        Ctor::Var(_)
-        | Ctor::Ap
-        | Ctor::Num(_)
-        | Ctor::Plus
-        | Ctor::LitTrue
-        | Ctor::LitFalse
-        | Ctor::Fst
-        | Ctor::Snd => {
+        _ => {
             let found = synthesise(alloc, types, ctxs, node)?;
             against(alloc, types, found, typ)
         }
-        Ctor::Root | Ctor::PVar(_) | Ctor::TNum | Ctor::TBool => unreachable!(),
-        Ctor::TArrow | Ctor::TProd | Ctor::TSum => unreachable!(),
     }
 }
 

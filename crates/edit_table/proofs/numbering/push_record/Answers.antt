@@ -8,7 +8,7 @@ use Rattle.edit_table.specs.declared.record.Record.{Record}
 use Rattle.edit_table.specs.Keys.{vertices_of, with_vertex}
 use Rattle.edit_table.proofs.Lists.{begins_further, begins_inserted, still_stands_at, begins_alike}
 use Rattle.edit_table.proofs.KeyEq.{key_eq}
-use Rattle.edit_table.proofs.Keys.{branch_key_is, keys_after, vertex_numbered, vertices_after, IsKeyOf}
+use Rattle.edit_table.proofs.Keys.{plain_key_is, keys_after, vertex_numbered, vertices_after, IsKeyOf}
 use Rattle.edit_table.proofs.Ends.{begins_with_before}
 use Rattle.edit_table.proofs.Records.{pushed_edits, pushed_records, IsRecordOf}
 use Rattle.edit_table.proofs.numbering.push_record.Goals as goal
@@ -17,7 +17,7 @@ abbrev source : goal.After-target_number-arg-3-1 → Vertex
 source c = (edit_edge (spelled_edit c.args.edit.now)).source
 
 key_is : (c : goal.After-target_number-arg-3-1) → IsKeyOf c.args.ctors.now.keys c.source_key.result (source c)
-key_is c = branch_key_is c.args.ctors.now.keys c.source_key.result (source c) c.requires.keys_are.ctors_are c.source_key.ensures
+key_is c = plain_key_is c.args.ctors.now.keys c.source_key.result (source c) c.requires.keys_are.ctors_are c.source_key.ensures
 
 pub target_number-requires : goal.target_number-requires
 target_number-requires c =
@@ -41,7 +41,7 @@ abbrev source_then : goal.In_ok-push → Vertex
 source_then c = (edit_edge (spelled_edit c.args.edit.now)).source
 
 key_is_then : (c : goal.In_ok-push) → IsKeyOf c.args.ctors.now.keys c.source_key.result (source_then c)
-key_is_then c = branch_key_is c.args.ctors.now.keys c.source_key.result (source_then c) c.requires.keys_are.ctors_are c.source_key.ensures
+key_is_then c = plain_key_is c.args.ctors.now.keys c.source_key.result (source_then c) c.requires.keys_are.ctors_are c.source_key.ensures
 
 source_vertices_then : (c : goal.In_ok-push) → vertices_of c.args.ctors.now.keys c.source_number.new.keys.keys ≡ with_vertex (source_then c) (vertices_of c.args.ctors.now.keys c.args.keys.now.keys)
 source_vertices_then c =
