@@ -26,12 +26,6 @@ impl<T: Drop> From<AllocFailed<T>> for NoMemory {
     }
 }
 
-impl From<grove_edits::NoMemory> for NoMemory {
-    fn from(_error: grove_edits::NoMemory) -> NoMemory {
-        NoMemory
-    }
-}
-
 impl From<graph_store::NoMemory> for NoMemory {
     fn from(_error: graph_store::NoMemory) -> NoMemory {
         NoMemory

@@ -32,18 +32,6 @@ impl From<graph_store::NoMemory> for NoMemory {
     }
 }
 
-impl From<parent_index::NoMemory> for NoMemory {
-    fn from(_error: parent_index::NoMemory) -> NoMemory {
-        NoMemory
-    }
-}
-
-impl From<child_index::NoMemory> for NoMemory {
-    fn from(_error: child_index::NoMemory) -> NoMemory {
-        NoMemory
-    }
-}
-
 impl From<unicycle_roots::NoMemory> for NoMemory {
     fn from(_error: unicycle_roots::NoMemory) -> NoMemory {
         NoMemory
