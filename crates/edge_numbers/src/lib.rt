@@ -11,6 +11,3 @@ mod order;
 
 pub use edge_numbers::EdgeNumbers;
 pub use no_memory::NoMemory;
-
-#[cfg(test)]
-mod tests;

@@ -9,3 +9,6 @@ pub struct NarrowEdge {
     pub target: u32,
     pub position: Position,
 }
+
+// One is kept for each edge.
+const _: () = prove!(std::mem::size_of::<NarrowEdge>() == 32);

@@ -61,8 +61,10 @@ impl<R: Reader> Source for ReaderSource<R> {
 mod tests {
     use super::*;
     use crate::{InputFault, read_all};
+    use std::alloc::Global;
     use std::io;
     use std::io::{ErrorKind, Read};
+    use std::process::Abort;
     use std::test::Fail;
 
     // Gives a byte at each odd call. The second call is interrupted, and the fourth fails.
@@ -86,13 +88,22 @@ mod tests {
         }
     }
 
+    fn check_tries<R: Abort>(
+        rt: &R,
+        alloc: Global,
+        source: &mut ReaderSource<Halting>,
+    ) -> Result<(), Fail> {
+        let first = read_all(alloc, source, 8).err();
+        assert!(rt; first == Some(InputFault::ReadFault));
+        assert!(rt; source.faults == 2);
+        let rest = read_all(alloc, source, 8)?;
+        assert!(rt; rest.as_slice() == b"5".as_slice());
+        Ok(())
+    }
+
     #[test]
     fn tries_an_interrupted_read_again(rt: HostRuntime) -> Result<(), Fail> {
         let mut source = ReaderSource::new(Halting { calls: 0 });
-        let first = read_all(rt.alloc(), &mut source, 8).err();
-        assert_eq!(rt; (first, source.faults), (Some(InputFault::ReadFault), 2));
-        let rest = read_all(rt.alloc(), &mut source, 8)?;
-        assert_eq!(rt; rest.as_slice(), b"5".as_slice());
-        Ok(())
+        check_tries(&rt, rt.alloc(), &mut source)
     }
 }

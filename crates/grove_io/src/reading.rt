@@ -101,6 +101,7 @@ fn read_behind<S: Source>(source: &mut S, text: &mut [u8], filled: usize) -> Res
 mod tests {
     use super::*;
     use crate::{MemorySource, SureSource};
+    use std::process::Abort;
     use std::test::Fail;
 
     fn source(alloc: Global, piece: usize, failing: u64) -> Result<MemorySource, AllocError>
@@ -110,38 +111,57 @@ mod tests {
         Ok(MemorySource::new(bytes, piece, [failing].to_vec(alloc)?))
     }
 
+    // Reads up to a limit, which fails so, and then all that is left.
+    fn check_rest<R: Abort>(
+        rt: &R,
+        alloc: Global,
+        source: &mut MemorySource,
+        limit: usize,
+        fault: InputFault,
+        left: &[u8],
+    ) -> Result<(), Fail> {
+        let first = read_all(alloc, source, limit).err();
+        assert!(rt; first == Some(fault));
+        let rest = read_all(alloc, source, 3)?;
+        assert!(rt; rest.as_slice() == left);
+        Ok(())
+    }
+
+    fn check_fault<R: Abort>(rt: &R, alloc: Global, call: u64, left: &[u8]) -> Result<(), Fail> {
+        let mut source = source(alloc, 1, call)?;
+        check_rest(rt, alloc, &mut source, 3, InputFault::ReadFault, left)
+    }
+
     // At one byte a read, the fourth read finds the end.
     #[test]
     fn goes_on_after_a_fault_at_each_read(rt: HostRuntime) -> Result<(), Fail> {
-        let text = b"abc".as_slice();
-        for read in 0..4 {
-            let mut source = source(rt.alloc(), 1, read as u64 + 1)?;
-            let first = read_all(rt.alloc(), &mut source, 3).err();
-            assert_eq!(rt; first, Some(InputFault::ReadFault), "after {read} reads");
-            let rest = read_all(rt.alloc(), &mut source, 3)?;
-            assert_eq!(rt; rest.as_slice(), &text[read..], "after {read} reads");
-        }
-        Ok(())
+        check_fault(&rt, rt.alloc(), 1, b"abc")?;
+        check_fault(&rt, rt.alloc(), 2, b"bc")?;
+        check_fault(&rt, rt.alloc(), 3, b"c")?;
+        check_fault(&rt, rt.alloc(), 4, b"")
+    }
+
+    fn check_limit<R: Abort>(rt: &R, alloc: Global, limit: usize, left: &[u8]) -> Result<(), Fail> {
+        let mut source = source(alloc, 9, 0)?;
+        check_rest(rt, alloc, &mut source, limit, InputFault::TooLong, left)
     }
 
     #[test]
     fn takes_one_byte_beyond_the_limit(rt: HostRuntime) -> Result<(), Fail> {
-        let text = b"abc".as_slice();
-        for limit in 0..3 {
-            let mut source = source(rt.alloc(), 9, 0)?;
-            let first = read_all(rt.alloc(), &mut source, limit).err();
-            assert_eq!(rt; first, Some(InputFault::TooLong), "at {limit}");
-            let rest = read_all(rt.alloc(), &mut source, 3)?;
-            assert_eq!(rt; rest.as_slice(), &text[limit + 1..], "at {limit}");
-        }
+        check_limit(&rt, rt.alloc(), 0, b"bc")?;
+        check_limit(&rt, rt.alloc(), 1, b"c")?;
+        check_limit(&rt, rt.alloc(), 2, b"")
+    }
+
+    fn check_all<R: Abort>(rt: &R, alloc: Global, source: &mut SureSource) -> Result<(), Fail> {
+        let text = read_all(alloc, source, 3)?;
+        assert!(rt; text.as_slice() == b"abc".as_slice());
         Ok(())
     }
 
     #[test]
     fn reads_to_the_limit(rt: HostRuntime) -> Result<(), Fail> {
-        let bytes = b"abc".to_vec(rt.alloc())?;
-        let text = read_all(rt.alloc(), &mut SureSource::new(bytes, 2), 3)?;
-        assert_eq!(rt; text.as_slice(), b"abc".as_slice());
-        Ok(())
+        let mut source = SureSource::new(b"abc".to_vec(rt.alloc())?, 2);
+        check_all(&rt, rt.alloc(), &mut source)
     }
 }

@@ -30,31 +30,39 @@ pub fn write_out<K: Sink>(sink: &mut K, bytes: &[u8]) -> Result<(), Failed>
 mod tests {
     use super::*;
     use crate::MemorySink;
+    use std::alloc::Global;
+    use std::process::Abort;
     use std::test::Fail;
+
+    fn check_front<R: Abort>(rt: &R, sink: &mut MemorySink, taken: &[u8]) {
+        assert!(rt; write_out(sink, b"0123456789") == Err(Failed));
+        assert!(rt; sink.taken() == taken);
+    }
+
+    fn check_fault<R: Abort>(rt: &R, alloc: Global, call: u64, taken: &[u8]) -> Result<(), Fail> {
+        let mut sink = MemorySink::new(alloc, 10, 4, [call].to_vec(alloc)?)?;
+        check_front(rt, &mut sink, taken);
+        Ok(())
+    }
 
     // At four bytes a call, three calls write ten bytes. A fourth call is never made.
     #[test]
     fn keeps_what_was_written_before_a_fault(rt: HostRuntime) -> Result<(), Fail> {
-        let text = b"0123456789".as_slice();
-        for writes in 0..3 {
-            let failing = [writes as u64 + 1].to_vec(rt.alloc())?;
-            let mut sink = MemorySink::new(rt.alloc(), 10, 4, failing)?;
-            assert_eq!(rt;
-                write_out(&mut sink, text),
-                Err(Failed),
-                "after {writes} writes"
-            );
-            assert_eq!(rt; sink.taken(), &text[..4 * writes], "after {writes} writes");
-        }
-        Ok(())
+        check_fault(&rt, rt.alloc(), 1, b"")?;
+        check_fault(&rt, rt.alloc(), 2, b"0123")?;
+        check_fault(&rt, rt.alloc(), 3, b"01234567")
+    }
+
+    fn check_room<R: Abort>(rt: &R, sink: &mut MemorySink) {
+        assert!(rt; write_out(sink, b"01234567") == Ok(()));
+        assert!(rt; write_out(sink, b"89") == Err(Failed));
+        assert!(rt; sink.taken() == b"012345678".as_slice());
     }
 
     #[test]
     fn writes_until_the_room_is_full(rt: HostRuntime) -> Result<(), Fail> {
         let mut sink = MemorySink::new(rt.alloc(), 9, 4, Vec::new(rt.alloc()))?;
-        assert_eq!(rt; write_out(&mut sink, b"01234567"), Ok(()));
-        assert_eq!(rt; write_out(&mut sink, b"89"), Err(Failed));
-        assert_eq!(rt; sink.taken(), b"012345678".as_slice());
+        check_room(&rt, &mut sink);
         Ok(())
     }
 }
