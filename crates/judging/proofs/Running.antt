@@ -286,9 +286,7 @@ settled_known _ x f scope (Analyse t) ts = refl
 
 -- and the type that it is
 pub made_known : (c : Ctor) (x : Expression) (f : Forest) → made_of c (places_give x f (positions c) []) ≡ tree_type c f
-made_known ctor.TArrow x f = refl
-made_known ctor.TProd x f = refl
-made_known ctor.TSum x f = refl
+made_known ctor.Root x f = refl
 made_known _ x f = refl
 
 -- the types of the expressions so far

@@ -3,22 +3,21 @@ use Rattle.std.specs.Prelude.{ℕ, zero, suc, List, [], ◌∷◌, ◌++◌, len
 use Rattle.std.specs.List.{slice_index_or}
 use Rattle.grove_sorts.specs.declared.ident.Ident.{Ident}
 use Rattle.grove_sorts.specs.declared.ctor.Ctor.{Ctor}
-use Rattle.grove_sorts.specs.declared.ctor.Ctor.TheVariants.{Lam, TNum, TBool, TArrow, TProd, Let, Case, TSum}
 use Rattle.grove_sorts.specs.declared.position.Position.{Position}
 use Rattle.grove_sorts.specs.declared.sort.Sort.{Sort}
 use Rattle.grove_sorts.specs.declared.sort.Sort.TheVariants.{Top, Exp, Pat, Typ as TypeSort}
+use Rattle.grove_sorts.specs.Row.{row}
 use Rattle.grove_sorts.specs.Ctor.{positions, sort_of_ctor}
 use Rattle.grove_terms.specs.declared.node.Node.{Node}
 use Rattle.grove_terms.specs.declared.node.What.{What}
 use Rattle.grove_terms.specs.declared.node.What.TheVariants.{Vertex, Hole, Conflict, MultiRef, CycleRef}
-use Rattle.type_core.specs.declared.former.Former.TheVariants.{Arrow, Product, Sum}
-use Rattle.type_core.specs.Typ.{Typ, Unknown, Num, Boolean, Pair}
+use Rattle.type_core.specs.Typ.{Typ, Unknown}
 use Rattle.mark_step.specs.declared.node.Mark.{Mark}
 use Rattle.mark_step.specs.declared.node.Mark.TheVariants as mark
 use Rattle.mark_step.specs.Expression.{Wanted, Synthesise, Bound, Expression, Demanded, Marked}
 use Rattle.mark_step.specs.Step.{demand, settled}
 use Rattle.mark_step.specs.Rows.{is_exp}
-use Rattle.marking.specs.Types.{pattern_name, nothing_bound}
+use Rattle.marking.specs.Types.{type_of_two, pattern_name, bound_at, index_in}
 use Rattle.marking.specs.Marking.{MarkedNode, marked_plain, synthesised_in}
 
 -- what a child gives to the vertex that it stands under: its type, unknown where it has none, and its name, where it is a pattern with one
@@ -61,22 +60,13 @@ at frames out = record { frames = frames; out = out }
 abbrev pub gave : List Given → ℕ → Given
 gave given index = slice_index_or given index nothing
 
--- What a vertex binds: a function the name at its first position, with the type at its second, a `let` the name at its first position,
--- and a case those before its bodies.
+-- what a vertex binds: what its row says, as its positions gave it
 abbrev pub bound_by : Ctor → List Given → Bound
-bound_by Lam given = record { name = (gave given 0).name; typ = (gave given 1).typ; second = None }
-bound_by Let given = record { name = (gave given 0).name; typ = Unknown; second = None }
-bound_by Case given = record { name = (gave given 1).name; typ = Unknown; second = (gave given 3).name }
-bound_by _ given = nothing_bound
+bound_by ctor given = bound_at (row ctor).binds (λ p. (gave given (index_in (positions ctor) p)).name) (λ p. (gave given (index_in (positions ctor) p)).typ)
 
 -- the type that a constructor makes of the types at its first positions
 abbrev pub made : Ctor → Typ → Typ → Typ
-made TNum first second = Num
-made TBool first second = Boolean
-made TArrow first second = Pair Arrow first second
-made TProd first second = Pair Product first second
-made TSum first second = Pair Sum first second
-made _ first second = Unknown
+made ctor first second = type_of_two (row ctor).makes first second
 
 abbrev pub made_of : Ctor → List Given → Typ
 made_of ctor given = made ctor (gave given 0).typ (gave given 1).typ

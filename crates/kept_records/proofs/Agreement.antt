@@ -3,27 +3,28 @@
 use Rattle.std.proofs.Common.{◌≡◌, inl, inr, ℕ, zero, suc, Bool, true, false, cond, List, [], ◌∷◌, ◌++◌, refl, sym, ap, subst, ◌∙◌}
 use Rattle.std.specs.Prelude.{◌&&◌, if◌then◌else◌, Some, None}
 use Rattle.grove_sorts.specs.declared.position.Position.{Position}
-use Rattle.grove_sorts.specs.declared.position.Position.TheVariants.{Main, Param, Annot, Def, Body, Fun, Arg, Left, Right, Test, WhenTrue, WhenFalse, First, Second, Operand, Dom, Cod, On, LeftParam, LeftBody, RightParam, RightBody}
+use Rattle.grove_sorts.specs.declared.position.Position.TheVariants.{Param, Annot, LeftParam, RightParam}
 use Rattle.grove_sorts.specs.declared.sort.Sort.{Sort}
 use Rattle.grove_sorts.specs.declared.sort.Sort.TheVariants.{Top, Exp, Pat, Typ as TypeSort}
 use Rattle.grove_sorts.specs.declared.ctor.Ctor.{Ctor}
-use Rattle.grove_sorts.specs.declared.ctor.Ctor.TheVariants.{Root, Var, Lam, Ap, Num, Plus, LitTrue, LitFalse, Choose, Pair, Fst, Snd, PVar, TNum, TBool, TArrow, TProd, Let, Inl, Inr, Case, TSum}
-use Rattle.grove_sorts.specs.Ctor.{positions, sort_at, sort_of_ctor}
+use Rattle.grove_sorts.specs.declared.ctor.Ctor.TheVariants.{Lam, Let, Case}
+use Rattle.std.specs.List.{AllByRecursion}
+use Rattle.grove_sorts.specs.Row.{row}
+use Rattle.grove_sorts.specs.Ctor.{positions, Rises, sort_in, sort_at, sort_of_ctor}
 use Rattle.grove_edits.specs.declared.vertex.Vertex.{Vertex}
 use Rattle.grove_edits.specs.declared.edge.Edge.{Edge}
-use Rattle.grove_sorts.specs.Position.{is_same_position}
+use Rattle.grove_sorts.specs.Position.{position_number, is_same_position}
 use Rattle.walks.specs.Class.{is_same_class}
 use Rattle.walks.specs.declared.class.Class.TheVariants.{Inner}
 use Rattle.grove_terms.specs.Forest.{Forest, none, multi_ref, cycle_ref, tree, child_edges, edges_under, AreChildren, StandsUnder}
 use Rattle.grove_terms.specs.Nodes.{count_at}
-use Rattle.grove_sorts.proofs.Orders.{one_position}
-use Rattle.type_core.specs.declared.former.Former.TheVariants.{Arrow, Product, Sum}
+use Rattle.grove_sorts.proofs.Orders.{one_position, same_position_laws}
+use Rattle.grove_sorts.proofs.Rows.{positions_rise, places_found, types_below, found_first, found_behind, other_behind}
 use Rattle.type_core.specs.Typ.{Typ, Unknown}
-use Rattle.type_core.specs.Typ as typ
 use Rattle.mark_step.specs.Expression.{Bound, Expression, Demanded}
 use Rattle.mark_step.specs.Step.{demand, settled}
 use Rattle.mark_step.specs.Rows.{is_exp}
-use Rattle.marking.specs.Types.{if_sole, type_made, child_type, type_in, tree_type, pattern_name, child_name, name_in, bound_in}
+use Rattle.marking.specs.Types.{if_sole, type_of_two, at_first, at_second, type_made, child_type, type_in, tree_type, pattern_name, child_name, name_in, bound_in}
 use Rattle.marking.specs.Marking.{types_at, judged_child, judged_in, children_types}
 use Rattle.kept_records.specs.Kept.{Records, kept_as, kept_of, expression_of, types_before, demanded_among, demanded_at, IsTreeIn}
 use Rattle.kept_records.specs.Local.{typ_in, edges_at, kept_child, kept_in, name_of_child, kept_name, kept_bound, kept_types, kept_before, kept_expression_at, kept_demand, demanded_below, settled_at}
@@ -101,6 +102,12 @@ sole_alike m n a b other same alike = ap (λ k. if_sole k a other) same ∙ by_c
 
 -- ---- types read off records in table order
 
+exp_from : (s : Sort) → is_exp s ≡ true → s ≡ Exp
+exp_from Exp is = refl
+exp_from Top is = absurd cc
+exp_from Pat is = absurd cc
+exp_from TypeSort is = absurd cc
+
 module _ (live : List Edge) (records : Records) (es : List Edge) (x : Expression) (judge : Position → Demanded → Typ) where
   -- the kept type at each position is that of marking, after those of marking before it
   abbrev pub Agrees : List (Position × Sort) → List Typ → Type 0
@@ -145,72 +152,69 @@ module _ (live : List Edge) (records : Records) (es : List Edge) (x : Expression
     by_place true later = refl
     by_place false later = later
 
-  -- where it is so at each position of a constructor by itself, it is so in order
-  pub agrees : (c : Ctor) → ((q : Position) → sort_at c q ≡ Some Exp → kept_in live records es q ≡ judge q (demand x (types_before x judge q (positions c) []))) → Agrees (positions c) []
-  agrees Root each = (λ _. each Main refl, tt)
-  agrees (Var n) each = tt
-  agrees Lam each = (λ h. absurd cc, (λ h. absurd cc, (λ _. each Body refl, tt)))
-  agrees Ap each = (λ _. each Fun refl, (λ _. each Arg refl, tt))
-  agrees (Num n) each = tt
-  agrees Plus each = (λ _. each Left refl, (λ _. each Right refl, tt))
-  agrees LitTrue each = tt
-  agrees LitFalse each = tt
-  agrees Choose each = (λ _. each Test refl, (λ _. each WhenTrue refl, (λ _. each WhenFalse refl, tt)))
-  agrees Pair each = (λ _. each First refl, (λ _. each Second refl, tt))
-  agrees Fst each = (λ _. each Operand refl, tt)
-  agrees Snd each = (λ _. each Operand refl, tt)
-  agrees (PVar n) each = tt
-  agrees TNum each = tt
-  agrees TBool each = tt
-  agrees TArrow each = (λ h. absurd cc, (λ h. absurd cc, tt))
-  agrees TProd each = (λ h. absurd cc, (λ h. absurd cc, tt))
-  agrees Let each = (λ h. absurd cc, (λ _. each Def refl, (λ _. each Body refl, tt)))
-  agrees Inl each = (λ _. each Operand refl, tt)
-  agrees Inr each = (λ _. each Operand refl, tt)
-  agrees Case each = (λ _. each On refl, (λ h. absurd cc, (λ _. each LeftBody refl, (λ h. absurd cc, (λ _. each RightBody refl, tt)))))
-  agrees TSum each = (λ h. absurd cc, (λ h. absurd cc, tt))
+  -- where it is so at each position of a row by itself, it is so in order
+  agrees_in : (low : ℕ) (ps : List (Position × Sort)) (before : List Typ) → Rises low ps
+      → ((q : Position) → sort_in ps q ≡ Some Exp → kept_in live records es q ≡ judge q (demand x (types_before x judge q ps before))) → Agrees ps before
+  agrees_in low [] before rises each = tt
+  agrees_in low (p ∷ ps) before rises each = (
+    λ is. each p.0 (found_first p ps ∙ ap Some (exp_from p.1 is)) ∙ ap (λ b. judge p.0 (demand x (cond b before (types_before x judge p.0 ps (if is_exp p.1 then (before ++ judge p.0 (demand x before) ∷ []) else before))))) (same_position_laws.refl p.0),
+    agrees_in (suc (position_number p.0)) ps (if is_exp p.1 then (before ++ judge p.0 (demand x before) ∷ []) else before) rises.1 (λ q there.
+    each q (found_behind p ps q Exp rises.1 there)
+    ∙ ap (λ b. judge q (demand x (cond b before (types_before x judge q ps (if is_exp p.1 then (before ++ judge p.0 (demand x before) ∷ []) else before))))) (other_behind p ps q Exp rises.1 there)),
+  )
 
-  agrees_after : (c : Ctor) → ((q : Position) → sort_at c q ≡ Some Exp → kept_in live records es q ≡ judge q (demand x (kept_before live records es q (positions c) []))) → AgreesAfter (positions c) []
-  agrees_after Root each = (λ _. each Main refl, tt)
-  agrees_after (Var n) each = tt
-  agrees_after Lam each = (λ h. absurd cc, (λ h. absurd cc, (λ _. each Body refl, tt)))
-  agrees_after Ap each = (λ _. each Fun refl, (λ _. each Arg refl, tt))
-  agrees_after (Num n) each = tt
-  agrees_after Plus each = (λ _. each Left refl, (λ _. each Right refl, tt))
-  agrees_after LitTrue each = tt
-  agrees_after LitFalse each = tt
-  agrees_after Choose each = (λ _. each Test refl, (λ _. each WhenTrue refl, (λ _. each WhenFalse refl, tt)))
-  agrees_after Pair each = (λ _. each First refl, (λ _. each Second refl, tt))
-  agrees_after Fst each = (λ _. each Operand refl, tt)
-  agrees_after Snd each = (λ _. each Operand refl, tt)
-  agrees_after (PVar n) each = tt
-  agrees_after TNum each = tt
-  agrees_after TBool each = tt
-  agrees_after TArrow each = (λ h. absurd cc, (λ h. absurd cc, tt))
-  agrees_after TProd each = (λ h. absurd cc, (λ h. absurd cc, tt))
-  agrees_after Let each = (λ h. absurd cc, (λ _. each Def refl, (λ _. each Body refl, tt)))
-  agrees_after Inl each = (λ _. each Operand refl, tt)
-  agrees_after Inr each = (λ _. each Operand refl, tt)
-  agrees_after Case each = (λ _. each On refl, (λ h. absurd cc, (λ _. each LeftBody refl, (λ h. absurd cc, (λ _. each RightBody refl, tt)))))
-  agrees_after TSum each = (λ h. absurd cc, (λ h. absurd cc, tt))
+  pub agrees : (c : Ctor) → ((q : Position) → sort_at c q ≡ Some Exp → kept_in live records es q ≡ judge q (demand x (types_before x judge q (positions c) []))) → Agrees (positions c) []
+  agrees c each = agrees_in 0 (positions c) [] (positions_rise c) each
+
+  agrees_after : (low : ℕ) (ps : List (Position × Sort)) (before : List Typ) → Rises low ps
+      → ((q : Position) → sort_in ps q ≡ Some Exp → kept_in live records es q ≡ judge q (demand x (kept_before live records es q ps before))) → AgreesAfter ps before
+  agrees_after low [] before rises each = tt
+  agrees_after low (p ∷ ps) before rises each = (
+    λ is. each p.0 (found_first p ps ∙ ap Some (exp_from p.1 is)) ∙ ap (λ b. judge p.0 (demand x (cond b before (kept_before live records es p.0 ps (if is_exp p.1 then (before ++ kept_in live records es p.0 ∷ []) else before))))) (same_position_laws.refl p.0),
+    agrees_after (suc (position_number p.0)) ps (if is_exp p.1 then (before ++ kept_in live records es p.0 ∷ []) else before) rises.1 (λ q there.
+    each q (found_behind p ps q Exp rises.1 there)
+    ∙ ap (λ b. judge q (demand x (cond b before (kept_before live records es q ps (if is_exp p.1 then (before ++ kept_in live records es p.0 ∷ []) else before))))) (other_behind p ps q Exp rises.1 there)),
+  )
 
   pub agrees_by_kept : (c : Ctor) → ((q : Position) → sort_at c q ≡ Some Exp → kept_in live records es q ≡ judge q (demand x (kept_before live records es q (positions c) []))) → Agrees (positions c) []
-  agrees_by_kept c each = agrees_from_after (positions c) [] (agrees_after c each)
+  agrees_by_kept c each = agrees_from_after (positions c) [] (agrees_after 0 (positions c) [] (positions_rise c) each)
 
+abbrev AreTypes : List (Position × Sort) → Type 0
+AreTypes ps = AllByRecursion (λ p. p.1 ≡ TypeSort) ps
+
+abbrev AreFound : Ctor → List (Position × Sort) → Type 0
+AreFound c ps = AllByRecursion (λ p. sort_at c p.0 ≡ Some p.1) ps
+
+module _ (a b : Position → Typ) where
+  first_alike : (c : Ctor) (ps : List (Position × Sort)) → ((p : Position) → sort_at c p ≡ Some TypeSort → a p ≡ b p) → AreTypes ps → AreFound c ps → at_first ps a ≡ at_first ps b
+  first_alike c [] same types found = refl
+  first_alike c (p ∷ ps) same types found = same p.0 (found.0 ∙ ap Some types.0)
+
+  second_alike : (c : Ctor) (ps : List (Position × Sort)) → ((p : Position) → sort_at c p ≡ Some TypeSort → a p ≡ b p) → AreTypes ps → AreFound c ps → at_second ps a ≡ at_second ps b
+  second_alike c [] same types found = refl
+  second_alike c (p ∷ []) same types found = refl
+  second_alike c (p ∷ q ∷ ps) same types found = same q.0 (found.1.0 ∙ ap Some types.1.0)
+
+  first_any : (ps : List (Position × Sort)) → ((p : Position) → a p ≡ b p) → at_first ps a ≡ at_first ps b
+  first_any [] same = refl
+  first_any (p ∷ ps) same = same p.0
+
+  second_any : (ps : List (Position × Sort)) → ((p : Position) → a p ≡ b p) → at_second ps a ≡ at_second ps b
+  second_any [] same = refl
+  second_any (p ∷ []) same = refl
+  second_any (p ∷ q ∷ ps) same = same q.0
+
+  made_alike : (c : Ctor) → at_first (positions c) a ≡ at_first (positions c) b → at_second (positions c) a ≡ at_second (positions c) b → type_made c a ≡ type_made c b
+  made_alike c one two = ap (λ t. type_of_two (row c).makes t (at_second (positions c) a)) one ∙ ap (type_of_two (row c).makes (at_first (positions c) b)) two
+
+-- the types at the positions of types make the type
 type_made_alike : (c : Ctor) (a b : Position → Typ) → ((p : Position) → sort_at c p ≡ Some TypeSort → a p ≡ b p) → (sort_of_ctor c ≡ TypeSort) → type_made c a ≡ type_made c b
-type_made_alike TNum a b same sort = refl
-type_made_alike TBool a b same sort = refl
-type_made_alike TArrow a b same sort = ap (λ t. typ.Pair Arrow t (a Cod)) (same Dom refl) ∙ ap (typ.Pair Arrow (b Dom)) (same Cod refl)
-type_made_alike TProd a b same sort = ap (λ t. typ.Pair Product t (a Right)) (same Left refl) ∙ ap (typ.Pair Product (b Left)) (same Right refl)
-type_made_alike TSum a b same sort = ap (λ t. typ.Pair Sum t (a Right)) (same Left refl) ∙ ap (typ.Pair Sum (b Left)) (same Right refl)
-type_made_alike _ a b same sort = refl
+type_made_alike c a b same sort =
+    made_alike a b c (first_alike a b c (positions c) same (types_below c sort) (places_found c)) (second_alike a b c (positions c) same (types_below c sort) (places_found c))
 
 -- the types at all positions make the type
 pub type_made_any : (c : Ctor) (a b : Position → Typ) → ((p : Position) → a p ≡ b p) → type_made c a ≡ type_made c b
-type_made_any TArrow a b same = ap (λ t. typ.Pair Arrow t (a Cod)) (same Dom) ∙ ap (typ.Pair Arrow (b Dom)) (same Cod)
-type_made_any TProd a b same = ap (λ t. typ.Pair Product t (a Right)) (same Left) ∙ ap (typ.Pair Product (b Left)) (same Right)
-type_made_any TSum a b same = ap (λ t. typ.Pair Sum t (a Right)) (same Left) ∙ ap (typ.Pair Sum (b Left)) (same Right)
-type_made_any _ a b same = refl
+type_made_any c a b same = made_alike a b c (first_any a b (positions c) same) (second_any a b (positions c) same)
 
 -- ---- at one vertex
 

@@ -1,24 +1,25 @@
 -- The nodes of a marked tree tell what is kept of its vertices.
 use Rattle.std.proofs.Common.{◌≡◌, inl, inr, ℕ, zero, suc, ◌+◌, Bool, true, false, cond, List, [], ◌∷◌, ◌++◌, refl, sym, ap, subst, ◌∙◌}
+use Rattle.std.specs.Prelude.{if◌then◌else◌, Some}
 use Rattle.std.specs.List.{AllByRecursion}
 use Rattle.grove_sorts.specs.declared.position.Position.{Position}
-use Rattle.grove_sorts.specs.declared.position.Position.TheVariants.{Main, Param, Annot, Def, Body, Fun, Arg, Left, Right, Test, WhenTrue, WhenFalse, First, Second, Operand, Dom, Cod, On, LeftParam, LeftBody, RightParam, RightBody}
 use Rattle.grove_sorts.specs.declared.sort.Sort.{Sort}
 use Rattle.grove_sorts.specs.declared.sort.Sort.TheVariants.{Top, Exp, Pat, Typ as TypeSort}
 use Rattle.grove_sorts.specs.declared.ctor.Ctor.{Ctor}
-use Rattle.grove_sorts.specs.declared.ctor.Ctor.TheVariants.{Root, Var, Lam, Ap, Num, Plus, LitTrue, LitFalse, Choose, Pair, Fst, Snd, PVar, TNum, TBool, TArrow, TProd, Let, Inl, Inr, Case, TSum}
-use Rattle.grove_sorts.specs.Ctor.{positions, sort_of_ctor}
+use Rattle.grove_sorts.specs.Ctor.{positions, Rises, sort_in, sort_of_ctor}
 use Rattle.grove_edits.specs.declared.vertex.Vertex.{Vertex as VertexOf}
 use Rattle.grove_edits.specs.declared.edge.Edge.{Edge}
 use Rattle.grove_edits.specs.Edge.{IsWellFormed}
 use Rattle.walks.specs.declared.class.Class.TheVariants.{Inner}
-use Rattle.grove_sorts.specs.Position.{is_same_position}
+use Rattle.grove_sorts.specs.Position.{position_number, is_same_position}
 use Rattle.walks.specs.Class.{class}
 use Rattle.grove_terms.specs.declared.node.Node.{Node}
 use Rattle.grove_terms.specs.declared.node.What.TheVariants.{Vertex, Hole, Conflict, MultiRef, CycleRef}
 use Rattle.grove_terms.specs.Forest.{Forest, none, multi_ref, cycle_ref, tree, StandsUnder}
 use Rattle.grove_terms.specs.Nodes.{node_at, child_node, head_node, count_at}
-use Rattle.grove_sorts.proofs.Orders.{one_position}
+use Rattle.grove_sorts.proofs.Orders.{one_position, same_position_laws}
+use Rattle.grove_sorts.proofs.Rows.{positions_rise, found_first, found_behind, other_behind}
+use Rattle.mark_step.specs.Rows.{is_exp}
 use Rattle.type_core.specs.Typ.{Typ}
 use Rattle.mark_step.specs.Expression.{Wanted, Expression, Demanded}
 use Rattle.mark_step.specs.Step.{demand, settled}
@@ -72,55 +73,39 @@ abbrev ChildrenTell : List Edge → Ctor → Expression → Forest → Type 0
 ChildrenTell live c x f =
     (depth : ℕ) (p : Position) (d : Demanded) → d ≡ demanded_among (count_at f p) (demand x (types_before x (judged_in f) p (positions c) [])) → AllTell live (marked_children f depth p d)
 
-module _ (live : List Edge) (c : Ctor) (x : Expression) (f : Forest) (children : ChildrenTell live c x f) (depth : ℕ) where
-  place_tells : (p : Position) (s : Sort) (before : List Typ) → before ≡ types_before x (judged_in f) p (positions c) []
-      → AllTell live (marked_place (count_at f p) (λ at d. marked_children f at p d) depth p s (demand x before))
-  place_tells p s before is = by_count (count_at f p) refl where
-    there : (n : ℕ) → count_at f p ≡ n → demanded_among n (demand x before) ≡ demanded_among (count_at f p) (demand x (types_before x (judged_in f) p (positions c) []))
-    there n count = ap (λ k. demanded_among k (demand x before)) (sym count) ∙ ap (λ ts. demanded_among (count_at f p) (demand x ts)) is
-
+module _ (live : List Edge) (x : Expression) (f : Forest) where
+  -- the nodes of a position, where those of its children tell
+  place_tells : (p : Position) (s : Sort) (before : List Typ) → ((depth : ℕ) (d : Demanded) → d ≡ demanded_among (count_at f p) (demand x before) → AllTell live (marked_children f depth p d))
+      → (depth : ℕ) → AllTell live (marked_place (count_at f p) (λ at d. marked_children f at p d) depth p s (demand x before))
+  place_tells p s before children depth = by_count (count_at f p) refl where
     by_count : (n : ℕ) → count_at f p ≡ n → AllTell live (marked_place n (λ at d. marked_children f at p d) depth p s (demand x before))
     by_count zero count = (plain_tells live s (demand x before).wanted (node_at depth p (Hole s)) (λ m. tt), tt)
-    by_count (suc zero) count = children depth p (demand x before) (there 1 count)
-    by_count (suc (suc n)) count =
-        (plain_tells live s (demand x before).wanted (node_at depth p (Conflict s (suc (suc n)))) (λ m. tt), children (depth + 1) p (synthesised_in (demand x before)) (there (suc (suc n)) count))
+    by_count (suc zero) count = children depth (demand x before) (ap (λ k. demanded_among k (demand x before)) (sym count))
+    by_count (suc (suc n)) count = (
+      plain_tells live s (demand x before).wanted (node_at depth p (Conflict s (suc (suc n)))) (λ m. tt),
+      children (depth + 1) (synthesised_in (demand x before)) (ap (λ k. demanded_among k (demand x before)) (sym count)),
+    )
 
-  -- the nodes of a position, and of those behind it
-  next : (p : Position) (s : Sort) (before : List Typ) → before ≡ types_before x (judged_in f) p (positions c) [] → (rest : List MarkedNode) → AllTell live rest
-      → AllTell live (marked_place (count_at f p) (λ at d. marked_children f at p d) depth p s (demand x before) ++ rest)
-  next p s before is rest tell = all_tell live (marked_place (count_at f p) (λ at d. marked_children f at p d) depth p s (demand x before)) rest (place_tells p s before is) tell
+  -- the children at each of some positions tell, where it is demanded there what marking demands after these types
+  abbrev TellFrom : List (Position × Sort) → List Typ → Type 0
+  TellFrom ps before =
+      (depth : ℕ) (p : Position) (s : Sort) → sort_in ps p ≡ Some s → (d : Demanded) → d ≡ demanded_among (count_at f p) (demand x (types_before x (judged_in f) p ps before)) → AllTell live (marked_children f depth p d)
+
+  places_tell_from : (low : ℕ) (ps : List (Position × Sort)) (before : List Typ) → Rises low ps → TellFrom ps before
+      → (depth : ℕ) → AllTell live (marked_places x (count_at f) (marked_children f) (judged_in f) depth ps before)
+  places_tell_from low [] before rises children depth = tt
+  places_tell_from low (p ∷ ps) before rises children depth =
+      let next : List Typ = if is_exp p.1 then (before ++ judged_in f p.0 (demand x before) ∷ []) else before in
+      all_tell live (marked_place (count_at f p.0) (λ at d. marked_children f at p.0 d) depth p.0 p.1 (demand x before)) (marked_places x (count_at f) (marked_children f) (judged_in f) depth ps next)
+      (place_tells p.0 p.1 before (λ at d is.
+      children at p.0 p.1 (found_first p ps) d
+      (is ∙ ap (λ b. demanded_among (count_at f p.0) (demand x (cond b before (types_before x (judged_in f) p.0 ps next)))) (sym (same_position_laws.refl p.0)))) depth)
+      (places_tell_from (suc (position_number p.0)) ps next rises.1 (λ at q s there d is.
+      children at q s (found_behind p ps q s rises.1 there) d
+      (is ∙ ap (λ b. demanded_among (count_at f q) (demand x (cond b before (types_before x (judged_in f) q ps next)))) (sym (other_behind p ps q s rises.1 there)))) depth)
 
 places_tell : (live : List Edge) (c : Ctor) (x : Expression) (f : Forest) → ChildrenTell live c x f → (depth : ℕ) → AllTell live (marked_places x (count_at f) (marked_children f) (judged_in f) depth (positions c) [])
-places_tell live Root x f children depth = next live Root x f children depth Main Exp _ refl _ tt
-places_tell live (Var n) x f children depth = tt
-places_tell live Lam x f children depth =
-    next live Lam x f children depth Param Pat _ refl _ (next live Lam x f children depth Annot TypeSort _ refl _ (next live Lam x f children depth Body Exp _ refl _ tt))
-places_tell live Ap x f children depth = next live Ap x f children depth Fun Exp _ refl _ (next live Ap x f children depth Arg Exp _ refl _ tt)
-places_tell live (Num n) x f children depth = tt
-places_tell live Plus x f children depth = next live Plus x f children depth Left Exp _ refl _ (next live Plus x f children depth Right Exp _ refl _ tt)
-places_tell live LitTrue x f children depth = tt
-places_tell live LitFalse x f children depth = tt
-places_tell live Choose x f children depth =
-    next live Choose x f children depth Test Exp _ refl _ (next live Choose x f children depth WhenTrue Exp _ refl _ (next live Choose x f children depth WhenFalse Exp _ refl _ tt))
-places_tell live Pair x f children depth = next live Pair x f children depth First Exp _ refl _ (next live Pair x f children depth Second Exp _ refl _ tt)
-places_tell live Fst x f children depth = next live Fst x f children depth Operand Exp _ refl _ tt
-places_tell live Snd x f children depth = next live Snd x f children depth Operand Exp _ refl _ tt
-places_tell live (PVar n) x f children depth = tt
-places_tell live TNum x f children depth = tt
-places_tell live TBool x f children depth = tt
-places_tell live TArrow x f children depth = next live TArrow x f children depth Dom TypeSort _ refl _ (next live TArrow x f children depth Cod TypeSort _ refl _ tt)
-places_tell live TProd x f children depth = next live TProd x f children depth Left TypeSort _ refl _ (next live TProd x f children depth Right TypeSort _ refl _ tt)
-places_tell live Let x f children depth =
-    next live Let x f children depth Param Pat _ refl _ (next live Let x f children depth Def Exp _ refl _ (next live Let x f children depth Body Exp _ refl _ tt))
-places_tell live Inl x f children depth = next live Inl x f children depth Operand Exp _ refl _ tt
-places_tell live Inr x f children depth = next live Inr x f children depth Operand Exp _ refl _ tt
-places_tell live Case x f children depth =
-    next live Case x f children depth On Exp _ refl _
-    (next live Case x f children depth LeftParam Pat _ refl _
-    (next live Case x f children depth LeftBody Exp _ refl _
-    (next live Case x f children depth RightParam Pat _ refl _
-    (next live Case x f children depth RightBody Exp _ refl _ tt))))
-places_tell live TSum x f children depth = next live TSum x f children depth Left TypeSort _ refl _ (next live TSum x f children depth Right TypeSort _ refl _ tt)
+places_tell live c x f children depth = places_tell_from live x f 0 (positions c) [] (positions_rise c) (λ at p s there d is. children at p d is) depth
 
 -- ---- whole trees
 

@@ -2,10 +2,9 @@
 use Rattle.std.specs.Prelude.{◌≡◌, ℕ, suc, Bool, ◌&&◌, List, [], ◌∷◌, ◌++◌, Option, Some, None, unwrap_or, if◌then◌else◌}
 use Rattle.grove_sorts.specs.declared.ident.Ident.{Ident}
 use Rattle.grove_sorts.specs.declared.position.Position.{Position}
-use Rattle.grove_sorts.specs.declared.position.Position.TheVariants.{Param, Annot, LeftParam, RightParam}
 use Rattle.grove_sorts.specs.declared.sort.Sort.{Sort}
 use Rattle.grove_sorts.specs.declared.ctor.Ctor.{Ctor}
-use Rattle.grove_sorts.specs.declared.ctor.Ctor.TheVariants.{Lam, Let, Case}
+use Rattle.grove_sorts.specs.Row.{row}
 use Rattle.grove_sorts.specs.Ctor.{positions, sort_of_ctor}
 use Rattle.grove_edits.specs.declared.vertex.Vertex.{Vertex}
 use Rattle.grove_edits.specs.declared.edge.Edge.{Edge}
@@ -21,7 +20,7 @@ use Rattle.mark_step.specs.Scope.{Scope}
 use Rattle.mark_step.specs.Expression.{Wanted, Synthesise, Bound, Expression, Demanded}
 use Rattle.mark_step.specs.Step.{demand, settled}
 use Rattle.mark_step.specs.Rows.{is_exp}
-use Rattle.marking.specs.Types.{if_sole, type_made, pattern_name, nothing_bound}
+use Rattle.marking.specs.Types.{if_sole, type_made, pattern_name, bound_at}
 use Rattle.kept_records.specs.Kept.{Kept, Records, alone, kept_as, demanded_among}
 
 -- the vertex stands in the tree of another
@@ -71,12 +70,9 @@ name_of_child live (e ∷ es) p = if is_tree_at live p e then pattern_name e.tar
 abbrev pub kept_name : List Edge → List Edge → Position → Option Ident
 kept_name live es p = if_sole (edges_at es p) (name_of_child live es p) None
 
--- what a vertex binds, by the names and the types at its positions: a function, a `let` and a case bind names, and a function ascribes a type
+-- what a vertex binds, by the names and the types at its positions
 abbrev pub bound_made : Ctor → (Position → Option Ident) → (Position → Typ) → Bound
-bound_made Lam name typ = record { name = name Param; typ = typ Annot; second = None }
-bound_made Let name typ = record { name = name Param; typ = Unknown; second = None }
-bound_made Case name typ = record { name = name LeftParam; typ = Unknown; second = name RightParam }
-bound_made _ name typ = nothing_bound
+bound_made ctor names types = bound_at (row ctor).binds names types
 
 -- what a vertex with these children binds
 abbrev pub kept_bound : List Edge → Records → Ctor → List Edge → Bound

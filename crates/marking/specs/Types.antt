@@ -1,10 +1,12 @@
 -- What stands at the positions of a vertex, where it is one tree: types, and the names of patterns.
-use Rattle.std.specs.Prelude.{ℕ, zero, suc, Option, None, Some, if◌then◌else◌}
+use Rattle.std.specs.Prelude.{ℕ, zero, suc, List, [], ◌∷◌, Option, None, Some, if◌then◌else◌}
 use Rattle.grove_sorts.specs.declared.ident.Ident.{Ident}
 use Rattle.grove_sorts.specs.declared.ctor.Ctor.{Ctor}
-use Rattle.grove_sorts.specs.declared.ctor.Ctor.TheVariants as ctor
+use Rattle.grove_sorts.specs.declared.ctor.Ctor.TheVariants.{PVar}
 use Rattle.grove_sorts.specs.declared.position.Position.{Position}
-use Rattle.grove_sorts.specs.declared.position.Position.TheVariants.{Param, Annot, Left, Right, Dom, Cod, LeftParam, RightParam}
+use Rattle.grove_sorts.specs.declared.sort.Sort.{Sort}
+use Rattle.grove_sorts.specs.Row.{Binds, Makes, makes_none, makes_number, makes_truth, makes_function, makes_product, makes_sum, row}
+use Rattle.grove_sorts.specs.Ctor.{positions}
 use Rattle.grove_sorts.specs.Position.{is_same_position}
 use Rattle.grove_terms.specs.Forest.{Forest, none, multi_ref, cycle_ref, tree}
 use Rattle.grove_terms.specs.Nodes.{count_at}
@@ -18,30 +20,29 @@ if_sole zero found other = other
 if_sole (suc zero) found other = found
 if_sole (suc (suc _)) found other = other
 
+-- the type that a row of the table makes of two types
+abbrev pub type_of_two : Makes → Typ → Typ → Typ
+type_of_two makes_none first second = Unknown
+type_of_two makes_number first second = Num
+type_of_two makes_truth first second = Boolean
+type_of_two makes_function first second = Pair Arrow first second
+type_of_two makes_product first second = Pair Product first second
+type_of_two makes_sum first second = Pair Sum first second
+
+-- the type at the first of some positions, unknown where there is none
+abbrev pub at_first : List (Position × Sort) → (Position → Typ) → Typ
+at_first [] at = Unknown
+at_first (p ∷ _) at = at p.0
+
+-- the type at the second of them
+abbrev pub at_second : List (Position × Sort) → (Position → Typ) → Typ
+at_second [] at = Unknown
+at_second (p ∷ []) at = Unknown
+at_second (p ∷ q ∷ _) at = at q.0
+
 -- the type that a constructor of types makes of the types at its positions
 abbrev pub type_made : Ctor → (Position → Typ) → Typ
-type_made ctor.Root at = Unknown
-type_made (ctor.Var x) at = Unknown
-type_made ctor.Lam at = Unknown
-type_made ctor.Ap at = Unknown
-type_made (ctor.Num n) at = Unknown
-type_made ctor.Plus at = Unknown
-type_made ctor.LitTrue at = Unknown
-type_made ctor.LitFalse at = Unknown
-type_made ctor.Choose at = Unknown
-type_made ctor.Pair at = Unknown
-type_made ctor.Fst at = Unknown
-type_made ctor.Snd at = Unknown
-type_made (ctor.PVar x) at = Unknown
-type_made ctor.TNum at = Num
-type_made ctor.TBool at = Boolean
-type_made ctor.TArrow at = Pair Arrow (at Dom) (at Cod)
-type_made ctor.TProd at = Pair Product (at Left) (at Right)
-type_made ctor.Let at = Unknown
-type_made ctor.Inl at = Unknown
-type_made ctor.Inr at = Unknown
-type_made ctor.Case at = Unknown
-type_made ctor.TSum at = Pair Sum (at Left) (at Right)
+type_made ctor at = type_of_two (row ctor).makes (at_first (positions ctor) at) (at_second (positions ctor) at)
 
 -- the type of the tree that is a child at a position; a reference has none
 abbrev pub child_type : Forest → Position → Typ
@@ -59,29 +60,10 @@ type_in f p = if_sole (count_at f p) (child_type f p) Unknown
 abbrev pub tree_type : Ctor → Forest → Typ
 tree_type ctor f = type_made ctor (type_in f)
 
+-- a pattern of a variable alone has a name
 abbrev pub pattern_name : Ctor → Option Ident
-pattern_name ctor.Root = None
-pattern_name (ctor.Var x) = None
-pattern_name ctor.Lam = None
-pattern_name ctor.Ap = None
-pattern_name (ctor.Num n) = None
-pattern_name ctor.Plus = None
-pattern_name ctor.LitTrue = None
-pattern_name ctor.LitFalse = None
-pattern_name ctor.Choose = None
-pattern_name ctor.Pair = None
-pattern_name ctor.Fst = None
-pattern_name ctor.Snd = None
-pattern_name (ctor.PVar x) = Some x
-pattern_name ctor.TNum = None
-pattern_name ctor.TBool = None
-pattern_name ctor.TArrow = None
-pattern_name ctor.TProd = None
-pattern_name ctor.Let = None
-pattern_name ctor.Inl = None
-pattern_name ctor.Inr = None
-pattern_name ctor.Case = None
-pattern_name ctor.TSum = None
+pattern_name (PVar x) = Some x
+pattern_name _ = None
 
 -- the name of the pattern that is a child at a position; a reference has none
 abbrev pub child_name : Forest → Position → Option Ident
@@ -97,27 +79,25 @@ name_in f p = if_sole (count_at f p) (child_name f p) None
 abbrev pub nothing_bound : Bound
 nothing_bound = record { name = None; typ = Unknown; second = None }
 
--- what a vertex with these children binds: a function, a `let` and a case bind names, and a function ascribes a type
+-- the name at a position, if the row says where
+abbrev pub name_at : Option Position → (Position → Option Ident) → Option Ident
+name_at None names = None
+name_at (Some p) names = names p
+
+-- the type at a position, if the row says where
+abbrev pub typ_at : Option Position → (Position → Typ) → Typ
+typ_at None types = Unknown
+typ_at (Some p) types = types p
+
+-- what a row of the table binds where these names and types stand at its positions
+abbrev pub bound_at : Binds → (Position → Option Ident) → (Position → Typ) → Bound
+bound_at binds names types = record { name = name_at binds.name names; typ = typ_at binds.typ types; second = name_at binds.second names }
+
+-- what a vertex with these children binds
 abbrev pub bound_in : Ctor → Forest → Bound
-bound_in ctor.Root f = nothing_bound
-bound_in (ctor.Var x) f = nothing_bound
-bound_in ctor.Lam f = record { name = name_in f Param; typ = type_in f Annot; second = None }
-bound_in ctor.Ap f = nothing_bound
-bound_in (ctor.Num n) f = nothing_bound
-bound_in ctor.Plus f = nothing_bound
-bound_in ctor.LitTrue f = nothing_bound
-bound_in ctor.LitFalse f = nothing_bound
-bound_in ctor.Choose f = nothing_bound
-bound_in ctor.Pair f = nothing_bound
-bound_in ctor.Fst f = nothing_bound
-bound_in ctor.Snd f = nothing_bound
-bound_in (ctor.PVar x) f = nothing_bound
-bound_in ctor.TNum f = nothing_bound
-bound_in ctor.TBool f = nothing_bound
-bound_in ctor.TArrow f = nothing_bound
-bound_in ctor.TProd f = nothing_bound
-bound_in ctor.Let f = record { name = name_in f Param; typ = Unknown; second = None }
-bound_in ctor.Inl f = nothing_bound
-bound_in ctor.Inr f = nothing_bound
-bound_in ctor.Case f = record { name = name_in f LeftParam; typ = Unknown; second = name_in f RightParam }
-bound_in ctor.TSum f = nothing_bound
+bound_in ctor f = bound_at (row ctor).binds (name_in f) (type_in f)
+
+-- at what index a position stands in a row, and past its end where it does not stand there
+abbrev pub index_in : List (Position × Sort) → Position → ℕ
+index_in [] p = 0
+index_in (q ∷ qs) p = if is_same_position q.0 p then 0 else suc (index_in qs p)

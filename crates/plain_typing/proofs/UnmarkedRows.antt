@@ -47,46 +47,34 @@ row_of_rule e js t = by e.wanted where
 types_of_row : (scope : Scope) (b : Bound) (ctor : Ctor) (js : List Judgement) (t : Typ) (m : Mark) → Synthesises scope b ctor js t m → m ≡ mark.None
     → Types scope b ctor js t
 types_of_row scope b ctor js t m (syn_var x _ h) plain = types_var x t h
-types_of_row scope b ctor js t m (syn_var_free x h) plain = absurd cc
 types_of_row scope b ctor js t m (syn_lam body) plain = types_lam body
 types_of_row scope b ctor js t m (syn_ap f from to arg h) plain = types_ap f from t arg h
-types_of_row scope b ctor js t m (syn_ap_not_arrow f arg h) plain = absurd cc
 types_of_row scope b ctor js t m (syn_num n) plain = types_num n
 types_of_row scope b ctor js t m (syn_plus left right) plain = types_plus left right
 types_of_row scope b ctor js t m syn_true plain = types_true
 types_of_row scope b ctor js t m syn_false plain = types_false
 types_of_row scope b ctor js t m (syn_if test when_true when_false both h) plain = types_if test when_true when_false t h
-types_of_row scope b ctor js t m (syn_if_branches test when_true when_false h) plain = absurd cc
 types_of_row scope b ctor js t m (syn_pair first second) plain = types_pair first second
 types_of_row scope b ctor js t m (syn_fst of first second h) plain = types_fst of t second h
-types_of_row scope b ctor js t m (syn_fst_not_product of h) plain = absurd cc
 types_of_row scope b ctor js t m (syn_snd of first second h) plain = types_snd of first t h
-types_of_row scope b ctor js t m (syn_snd_not_product of h) plain = absurd cc
 types_of_row scope b ctor js t m (syn_let definition body) plain = types_let definition t
 types_of_row scope b ctor js t m (syn_inl of) plain = types_inl of
 types_of_row scope b ctor js t m (syn_inr of) plain = types_inr of
 types_of_row scope b ctor js t m (syn_case on left right when_left when_right both h same) plain = types_case on left right when_left when_right t h same
-types_of_row scope b ctor js t m (syn_case_not_sum on when_left when_right h) plain = absurd cc
-types_of_row scope b ctor js t m (syn_case_branches on left right when_left when_right h differ) plain = absurd cc
+types_of_row scope b ctor js t m _ plain = absurd cc
 
 checks_of_row : (scope : Scope) (b : Bound) (against : Typ) (ctor : Ctor) (js : List Judgement) (t : Typ) (m : Mark) → Analyses scope b against ctor js t m → m ≡ mark.None
     → Checks scope b against ctor js t
 checks_of_row scope b against ctor js t m (ana_lam from to body h same) plain = checks_lam from to body h same
-checks_of_row scope b against ctor js t m (ana_lam_ascription from to body h differ) plain = absurd cc
-checks_of_row scope b against ctor js t m (ana_lam_against body h) plain = absurd cc
 checks_of_row scope b against ctor js t m (ana_if test when_true when_false) plain = checks_if test when_true when_false
 checks_of_row scope b against ctor js t m (ana_pair left right first second h) plain = checks_pair left right first second h
-checks_of_row scope b against ctor js t m (ana_pair_against first second h) plain = absurd cc
 checks_of_row scope b against ctor js t m (ana_let definition body) plain = checks_let definition body
 checks_of_row scope b against ctor js t m (ana_inl left right of h) plain = checks_inl left right of h
-checks_of_row scope b against ctor js t m (ana_inl_against of h) plain = absurd cc
 checks_of_row scope b against ctor js t m (ana_inr left right of h) plain = checks_inr left right of h
-checks_of_row scope b against ctor js t m (ana_inr_against of h) plain = absurd cc
 checks_of_row scope b against ctor js t m (ana_case on left right when_left when_right h) plain = checks_case on left right when_left when_right h
-checks_of_row scope b against ctor js t m (ana_case_not_sum on when_left when_right h) plain = absurd cc
 checks_of_row scope b against ctor js t m (ana_marked _ _ _ _ other row ne) plain = absurd (ne plain)
-checks_of_row scope b against ctor js t m (ana_inconsistent _ _ _ other row differ) plain = absurd cc
 checks_of_row scope b against ctor js t m (ana_other _ _ _ other row same) plain = checks_other ctor js t other (types_of_row scope b ctor js t mark.None row refl) same
+checks_of_row scope b against ctor js t m _ plain = absurd cc
 
 -- a row without a mark is a rule
 pub rule_of_row : (e : Expression) (js : List Judgement) (m : Marked) → Follows e js m → m.mark ≡ mark.None → HasType e js m.typ
