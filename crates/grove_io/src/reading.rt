@@ -119,7 +119,9 @@ mod tests {
         limit: usize,
         fault: InputFault,
         left: &[u8],
-    ) -> Result<(), Fail> {
+    ) -> Result<(), Fail>
+        requires { limit < 2 ^ 32 }
+    {
         let first = read_all(alloc, source, limit).err();
         assert!(rt; first == Some(fault));
         let rest = read_all(alloc, source, 3)?;
@@ -141,7 +143,9 @@ mod tests {
         check_fault(&rt, rt.alloc(), 4, b"")
     }
 
-    fn check_limit<R: Abort>(rt: &R, alloc: Global, limit: usize, left: &[u8]) -> Result<(), Fail> {
+    fn check_limit<R: Abort>(rt: &R, alloc: Global, limit: usize, left: &[u8]) -> Result<(), Fail>
+        requires { limit < 2 ^ 32 }
+    {
         let mut source = source(alloc, 9, 0)?;
         check_rest(rt, alloc, &mut source, limit, InputFault::TooLong, left)
     }

@@ -129,8 +129,8 @@ fn opened_counting<L: Ledger>(
     let mut steps = Steps::<L>::new(blank);
     take(alloc, replica, lines, &mut steps)?;
     let list = replica.open_block(alloc)?;
-    let is_listed = replica.is_listed(alloc, list.as_slice())?;
-    Ok((is_listed, list.len()))
+    let ordered = replica.in_order(alloc)?;
+    Ok((list.as_slice() == ordered.as_slice(), list.len()))
 }
 
 fn opened(alloc: Global, lines: &[&str]) -> Result<(bool, usize), Fail> {
@@ -144,8 +144,8 @@ fn a_block_opens_with_the_list_of_the_graph(rt: HostRuntime) -> Result<(), Fail>
         "+1.3 1.1 plus left 1.4 num:1",
         "+1.2 0.0 root main 1.1 plus",
     ];
-    let (is_listed, length) = opened(rt.alloc(), &lines)?;
-    assert!(rt; is_listed);
+    let (is_ordered, length) = opened(rt.alloc(), &lines)?;
+    assert!(rt; is_ordered);
     assert!(rt; length == 2);
     Ok(())
 }

@@ -1,19 +1,16 @@
 use edit_text::read_line;
 use graph_store::GraphStore;
-use grove_edits::Edge;
+use grove_edits::Edit;
 use grove_sorts::Version;
 use std::alloc::Global;
 use std::test::Fail;
 use store_actions::OpeningSet;
 use user_actions::*;
 
-// Takes the edit of a line.
-fn raise(store: &mut GraphStore, line: &str) -> Result<Edge, Fail> {
-    let edit = read_line(Version::One, line.as_bytes())?;
-    let edge = edit.edge();
-    store.reserve_for(&[edge])?;
-    store.raise(&edit);
-    Ok(edge)
+fn raise(store: &mut GraphStore, edit: &Edit) -> Result<(), graph_store::NoMemory> {
+    store.reserve_for(&[edit.edge()])?;
+    store.raise(edit);
+    Ok(())
 }
 
 // How many edges the opening set has after the edit of a line, and whether the edge of that line and one that comes later are in it.
@@ -23,10 +20,16 @@ fn held_later(
     line: &str,
     later: &str,
 ) -> Result<(usize, bool, bool), Fail> {
-    let first = raise(store, line)?;
+    let first = read_line(Version::One, line.as_bytes())?;
+    let second = read_line(Version::One, later.as_bytes())?;
+    raise(store, &first)?;
     let opening = OpeningSet::of(alloc, store)?;
-    let second = raise(store, later)?;
-    Ok((opening.len(), opening.holds(&first), opening.holds(&second)))
+    raise(store, &second)?;
+    Ok((
+        opening.len(),
+        opening.holds(&first.edge()),
+        opening.holds(&second.edge()),
+    ))
 }
 
 fn held(alloc: Global, line: &str, later: &str) -> Result<(usize, bool, bool), Fail> {
