@@ -27,7 +27,8 @@ use Rattle.user_actions.specs.declared.planned.PlanFault.TheVariants.{Refused, N
 use Rattle.user_actions.specs.Lists.{GraphLists, AreListsOf}
 use Rattle.user_actions.specs.Names.{is_same_name, vertices_named, greatest_in, names_of, greatest_counter}
 use Rattle.user_actions.specs.NamedVertices.{IsVertexNamed, IsOneNamed, IsNoneNamed, AreTwoNamed, IsVertexFault, IsFirstVertexFault}
-use Rattle.user_actions.specs.Faults.{no_vertex, two_vertices, ambiguous_vertex, first_some, first_fault}
+use Rattle.user_actions.specs.Faults.{no_vertex, ambiguous_vertex, first_some, first_fault}
+use Rattle.user_actions.specs.Checks.{two_vertices}
 use Rattle.user_actions.specs.Planned.{TellsPlan}
 use Rattle.grove_sorts.proofs.Truths.{or_left, or_right}
 use Rattle.user_actions.proofs.Truths.{same_name_exact}

@@ -2,6 +2,8 @@
 //! Replicas stand on this crate.
 #![tactic(auto)]
 
+mod admitted;
+mod admitting;
 mod carried;
 mod edges;
 mod edits;
@@ -15,6 +17,7 @@ mod place;
 mod plan_view;
 mod planned;
 mod planning;
+mod spot;
 mod vertices;
 mod view;
 mod walk_up;
