@@ -118,9 +118,6 @@ pub edges_are : (g : Graph) (lists : GraphLists) (live : List Edge) (v : Vertex)
     → children_of v place.position live ≡ edges_at lists v place
 edges_are g lists live v place of is = ap (λ es. children_of v place.position es) (live_is g lists live of is)
 
-pub sort_told : (o : Option Sort) (wanted found own : Sort) (answer : Option ActFault) → o ≡ Some wanted → found ≡ own → other_sort (Some wanted) (Some found) ≡ answer → other_sort o (Some own) ≡ answer
-sort_told o wanted found own answer is same told = ap (λ p. other_sort p (Some own)) is ∙ ap (λ s. other_sort (Some wanted) (Some s)) (sym same) ∙ told
-
 pub names_fit : (g : Graph) (lists : GraphLists) (author : ℕ) (action : Action) (greatest count : ℕ) → AreListsOf g lists → IsGreatest (IsNameOf g) author greatest
     → name_count lists action ≡ count → greatest + count ≤ last_counter → names_spent lists author action ≡ None
 names_fit g lists author action greatest count of is counted fits = by_test (greatest_is g lists of author greatest is) (nat_lt last_counter (greatest_counter lists author + name_count lists action)) refl where

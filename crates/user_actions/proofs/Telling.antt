@@ -44,15 +44,6 @@ stop o os fault is = ap (λ p. first_some (p ∷ os)) is
 pub skip : (o : Option ActFault) (os : List (Option ActFault)) → o ≡ None → first_some (o ∷ os) ≡ first_some os
 skip o os is = ap (λ p. first_some (p ∷ os)) is
 
--- an answer that passes a fault on
-pub refusal_is : (lists : GraphLists) (opening : List Edge) (author : ℕ) (action : Action) (r : Result Plan PlanFault) (fault : ActFault) → IsErrAnd r (λ e. e ≡ Refused fault)
-    → first_fault lists opening author action ≡ Some fault → TellsPlan lists opening author action r
-refusal_is lists opening author action (Ok p) fault gives first = absurd gives
-refusal_is lists opening author action (Err e) fault gives first = by_fault e gives where
-  by_fault : (e : PlanFault) → e ≡ Refused fault → TellsPlan lists opening author action (Err e)
-  by_fault (Refused told) is = let same : told ≡ fault = cc in first ∙ ap Some (sym same)
-  by_fault NoMemory is = tt
-
 -- ---- lists in vertex order
 
 all_kept : (test : Vertex → Bool) (v : Vertex) (vs : List Vertex) → AllByRecursion (λ later. vertex_cmp v later ≡ Less) vs → AllByRecursion (λ later. vertex_cmp v later ≡ Less) (filter test vs)

@@ -1,4 +1,4 @@
--- What each action asks of a graph and does to it. An action that is not named in a definition is as its last line says.
+-- What each action asks of a graph and does to it. Where a definition ends in a line for all others, those ask nothing of that kind.
 use Rattle.std.specs.Prelude.{ℕ, ◌+◌, Bool, true, false, not, List, [], ◌∷◌, length, filter, slice_get, Option, None, Some, is_none, option_map, if◌then◌else◌}
 use Rattle.grove_names.specs.declared.name.Name.{Name}
 use Rattle.grove_sorts.specs.declared.sort.Sort.{Sort}
@@ -50,9 +50,10 @@ abbrev pub found_sort : GraphLists → Action → Option Sort
 found_sort lists (Construct place ctor) = Some (sort_of_ctor ctor)
 found_sort lists (Wrap place ctor) = Some (sort_of_ctor ctor)
 found_sort lists (Become place ctor) = Some (sort_of_ctor ctor)
+found_sort lists (Delete place) = None
+found_sort lists (Cut edge) = None
 found_sort lists (Relocate edge place) = option_map (λ v. sort_of_ctor v.ctor) (only_target (edges_named edge lists.live))
 found_sort lists (Restore vertex place) = option_map (λ v. sort_of_ctor v.ctor) (vertex_named lists vertex)
-found_sort lists _ = None
 
 -- of the edges at the place, those that must not be there
 abbrev pub in_the_way : Action → List Edge → List Edge
@@ -97,9 +98,10 @@ abbrev pub name_count : GraphLists → Action → ℕ
 name_count lists (Construct place ctor) = 2
 name_count lists (Wrap place ctor) = of_vertex (vertex_named lists place.name) 2 (λ v. 2 + length (edges_at lists v place))
 name_count lists (Become place ctor) = of_vertex (vertex_named lists place.name) 2 (λ v. 2 + length (carried_by_first ctor (edges_at lists v place) lists.live))
+name_count lists (Delete place) = 0
+name_count lists (Cut edge) = 0
 name_count lists (Relocate edge place) = 1
 name_count lists (Restore vertex place) = 1
-name_count lists _ = 0
 
 -- ---- what it does
 
@@ -140,9 +142,10 @@ abbrev pub fills_place : Action → Bool
 fills_place (Construct place ctor) = true
 fills_place (Wrap place ctor) = true
 fills_place (Become place ctor) = true
+fills_place (Delete place) = false
+fills_place (Cut edge) = false
 fills_place (Relocate edge place) = true
 fills_place (Restore vertex place) = true
-fills_place _ = false
 
 -- the constructor of the vertex that the action makes
 abbrev pub made_ctor : Action → Option Ctor
