@@ -5,7 +5,7 @@ use Rattle.std.specs.Ordering.{is_lt, is_le, is_eq}
 use Rattle.grove_names.specs.declared.name.Name.{Name}
 use Rattle.grove_names.specs.Name.{name_cmp}
 use Rattle.grove_edits.specs.declared.action.Action.{Action}
-use Rattle.grove_edits.specs.declared.action.Action.TheVariants.{Construct, Wrap, Become, Delete, Cut, Relocate, Restore}
+use Rattle.grove_edits.specs.declared.action.Action.TheVariants.{Cut}
 use Rattle.grove_edits.specs.declared.edit.Edit.{Edit}
 use Rattle.grove_edits.specs.Edit.{edit_edge}
 
@@ -28,12 +28,7 @@ slots_from slot name (edit ∷ edits) = if has_name name edit then slot ∷ slot
 -- the slots of the opening edges that a line cuts
 abbrev pub slots_named : List Edit → Action → List ℕ
 slots_named opening (Cut name) = slots_from 0 name opening
-slots_named opening (Construct place ctor) = []
-slots_named opening (Wrap place ctor) = []
-slots_named opening (Become place ctor) = []
-slots_named opening (Delete place) = []
-slots_named opening (Relocate name place) = []
-slots_named opening (Restore name place) = []
+slots_named opening _ = []
 
 -- those that all lines cut, in order
 abbrev pub slots_cut : List Edit → List Action → List ℕ
@@ -42,9 +37,4 @@ slots_cut opening lines = flat_map (slots_named opening) lines
 -- the line is a cut that names an opening edge
 abbrev pub is_opening_cut : List Edit → Action → Bool
 is_opening_cut opening (Cut name) = list_any (has_name name) opening
-is_opening_cut opening (Construct place ctor) = false
-is_opening_cut opening (Wrap place ctor) = false
-is_opening_cut opening (Become place ctor) = false
-is_opening_cut opening (Delete place) = false
-is_opening_cut opening (Relocate name place) = false
-is_opening_cut opening (Restore name place) = false
+is_opening_cut opening _ = false

@@ -8,7 +8,7 @@ use Rattle.grove_sorts.specs.declared.ctor.Ctor.TheVariants.{Num}
 use Rattle.grove_sorts.specs.Ctor.{InRange}
 use Rattle.grove_edits.specs.declared.edit.Edit.{Edit}
 use Rattle.grove_edits.specs.declared.action.Action.{Action}
-use Rattle.grove_edits.specs.declared.action.Action.TheVariants.{Construct, Wrap, Become, Delete, Cut, Relocate, Restore}
+use Rattle.grove_edits.specs.declared.action.Action.TheVariants.{Construct, Wrap, Become}
 use Rattle.grove_edits.specs.declared.actor.Actor.{Actor}
 use Rattle.grove_edits.specs.declared.actor.Actor.TheVariants.{Host, Author, Send}
 use Rattle.grove_edits.specs.declared.command.Command.{Command}
@@ -39,10 +39,7 @@ literal_in_range : (action : Action) → ActionInRange action → HasLiteralInRa
 literal_in_range (Construct place ctor) within = literal_below ctor within.1
 literal_in_range (Wrap place ctor) within = literal_below ctor within.1
 literal_in_range (Become place ctor) within = literal_below ctor within.1
-literal_in_range (Delete place) within = tt
-literal_in_range (Cut edge) within = tt
-literal_in_range (Relocate edge place) within = tt
-literal_in_range (Restore vertex place) within = tt
+literal_in_range _ within = tt
 
 -- what holds of all items holds of one that the list contains
 pub of_contained : {A : Type 0} (P : A → Type 0) (xs : List A) (x : A) → AllByRecursion P xs → Contains xs x → P x

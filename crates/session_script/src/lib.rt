@@ -2,7 +2,7 @@
 //! and a text that is no session's has a first bad line, with one kind of fault.
 #![tactic(auto)]
 
-mod action_reading;
+mod action_text;
 mod author;
 mod author_list;
 mod ident_list;
@@ -21,8 +21,8 @@ mod session;
 mod statement;
 mod statement_reading;
 mod taking;
-mod writing;
 
+pub use action_text::write_action;
 pub use author::Declared;
 pub use author_list::AuthorList;
 pub use ident_list::IdentList;
@@ -36,4 +36,3 @@ pub use script::read_session;
 pub use script_kind::{ScriptFault, ScriptKind};
 pub use session::Session;
 pub use statement::{SendText, Statement};
-pub use writing::write_action;

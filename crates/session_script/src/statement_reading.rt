@@ -9,7 +9,7 @@ ghost use Rattle.session_script.specs.declared.statement.Statement.{Statement};
 ghost use Rattle.session_script.specs.Statement.{direction, repetition, statement_text, InRange, IsReplicaOf, IsStatementOf, Says};
 ghost use Rattle.session_script.specs.Form.{HasFormFault, IsOneWord, IsOther, HasLoadFault, send_rest, terms_rest};
 
-use crate::action_reading::read_action;
+use crate::action_text::read_action;
 use crate::parts::{after_word, take_author, take_ident, take_number, whole_ident};
 use crate::statement::{SendText, Statement};
 use edit_text::{LineFault, read_line};

@@ -22,10 +22,12 @@ use Rattle.grove_edits.specs.declared.answer.Answer.TheVariants.{Refused}
 use Rattle.user_actions.specs.Lists.{GraphLists}
 use Rattle.user_actions.specs.Names.{is_same_name, edges_named, vertices_named}
 use Rattle.user_actions.specs.Place.{sort_at_place, edges_at, vertex_named, of_vertex}
-use Rattle.user_actions.specs.Faults.{at_place, no_vertex, ambiguous_vertex, first_fault, other_sort, wrapping_position, two_edges, only_target, none_named, below_itself, found_sort, moved_vertex}
+use Rattle.user_actions.specs.Faults.{no_vertex, ambiguous_vertex, first_fault}
 use Rattle.user_actions.specs.PlainEdits.{plain}
-use Rattle.user_actions.specs.Plan.{Planned, plan, edits_of, answer_of, unless_refused, IsMade}
+use Rattle.user_actions.specs.Plan.{Planned, plan, unless_refused, IsMade}
 use Rattle.user_actions.specs.After.{IsAccepted}
+use Rattle.user_actions.specs.Checks.{at_place, other_sort, wrapping_position, two_edges, only_target, none_named, below_itself}
+use Rattle.user_actions.specs.Actions.{found_sort, moved_vertex, edits_of, answer_of}
 use Rattle.user_actions.proofs.NoFault.{NoFault, IsOnly, one_named, at_place_is, vertex_named_is, some_from, wanted_sort, nothing_from, something_from, one_edge_from}
 
 -- ---- a plan that is not refused

@@ -35,11 +35,11 @@ use Rattle.grove_terms.proofs.OneGrove.{one_live}
 use Rattle.user_actions.specs.Lists.{GraphLists, AreListsOf}
 use Rattle.user_actions.specs.Names.{new_name, greatest_counter}
 use Rattle.user_actions.specs.Place.{edges_at}
-use Rattle.user_actions.specs.Faults.{carried, carried_from, wrapping_position}
 use Rattle.user_actions.specs.PlainEdits.{PlainEdit, plain, deletions, new_vertex, to_new_vertex, put_below, carry_over, wrap_edits, become_edits}
 use Rattle.user_actions.specs.Plan.{IsPlan, IsMade}
-use Rattle.user_actions.specs.Carried.{has_same_sort}
+use Rattle.user_actions.specs.Carried.{has_same_sort, carried, carried_from}
 use Rattle.user_actions.specs.After.{graph_after, vertex_of, targets_at, goes_along}
+use Rattle.user_actions.specs.Checks.{wrapping_position}
 use Rattle.user_actions.proofs.NewNames.{not_vertex_name, new_absent}
 use Rattle.user_actions.proofs.PlainGraphs.{AllEdits, HasEdit, PutsEdges, is_at, only_edge, after_edits, inserted_live, edges_left}
 use Rattle.user_actions.proofs.EditLists.{all_append, has_second, all_deletions, edge_with, held_first, held_later}

@@ -13,8 +13,7 @@ use Rattle.grove_edits.specs.declared.edge.Edge.{Edge}
 use Rattle.grove_edits.specs.Edge.{is_sort}
 use Rattle.grove_edits.specs.Graph.{is_same_edge}
 use Rattle.walks.specs.Live.{children_of}
-use Rattle.user_actions.specs.Carried.{has_same_sort}
-use Rattle.user_actions.specs.Faults.{carried_from}
+use Rattle.user_actions.specs.Carried.{has_same_sort, carried_from}
 
 module _ (ctor : Ctor) (w : Vertex) (e : Edge) (live : List Edge) where
   abbrev pub at_entry : Position × Sort → List Edge

@@ -18,13 +18,14 @@ use Rattle.walks.proofs.Ordered.{holds-filter, in_order-filter, same_lists}
 use Rattle.walks.proofs.Cycles.{class_is_cycle}
 use Rattle.grove_terms.proofs.OneGrove.{one_live}
 use Rattle.grove_edits.specs.declared.action.Action.{Action}
-use Rattle.grove_edits.specs.declared.action.Action.TheVariants.{Construct, Wrap, Become, Delete, Cut, Relocate, Restore}
+use Rattle.grove_edits.specs.declared.action.Action.TheVariants.{Relocate, Restore}
 use Rattle.grove_edits.specs.declared.answer.Answer.{Answer}
 use Rattle.user_actions.specs.Names.{new_name, greatest_counter}
 use Rattle.user_actions.specs.Place.{of_vertex}
 use Rattle.user_actions.specs.PlainEdits.{PlainEdit, plain, insertion, relocate_edits}
 use Rattle.user_actions.specs.Plan.{IsPlan}
-use Rattle.user_actions.specs.After.{graph_after, IsAccepted, moves_vertex}
+use Rattle.user_actions.specs.After.{graph_after, IsAccepted}
+use Rattle.user_actions.specs.Actions.{moves_vertex}
 use Rattle.grove_sorts.proofs.Truths.{both_true, and_true, same_tests}
 use Rattle.user_actions.proofs.Rerooted.{IsMoved, root_before}
 use Rattle.user_actions.proofs.PlainGraphs.{only_edge, plain_graph, AllEdits, after_edits, inserted_live, not_of, join_absent}
@@ -97,11 +98,6 @@ class_before before after t v u is cycle =
 pub no_new_cycle : (g : Graph) (opening : List Edge) (author : ℕ) (action : Action) (edits : List Edit) (answer : Answer) (before after : List Edge) (u : Vertex)
     → IsPlan g opening author action edits answer → IsAccepted answer → moves_vertex action ≡ true → AreLive g before → AreLive (graph_after g edits) after
     → class after u ≡ Cycle → class before u ≡ Cycle
-no_new_cycle g opening author (Construct place ctor) edits answer before after u planned accepted moves of_g of_h cycle = absurd cc
-no_new_cycle g opening author (Wrap place ctor) edits answer before after u planned accepted moves of_g of_h cycle = absurd cc
-no_new_cycle g opening author (Become place ctor) edits answer before after u planned accepted moves of_g of_h cycle = absurd cc
-no_new_cycle g opening author (Delete place) edits answer before after u planned accepted moves of_g of_h cycle = absurd cc
-no_new_cycle g opening author (Cut edge) edits answer before after u planned accepted moves of_g of_h cycle = absurd cc
 no_new_cycle g opening author (Relocate edge place) edits answer before after u planned accepted moves of_g of_h cycle =
     let lists = planned.lists in
     let of = planned.are_lists in
@@ -132,3 +128,4 @@ no_new_cycle g opening author (Restore vertex place) edits answer before after u
     let after_them = live_along (graph_after g edits) (after_edits g ps) after (after_is g edits ps are) of_h in
     let is_moved = moved g ps lists.live after v to.moved x of.live after_them (refl, tt) (inserted_live g x ps puts.new puts.inserted puts.known) refl refl to.apart in
     ap (λ es. class es u) one ∙ class_before lists.live after to.moved v u is_moved cycle
+no_new_cycle g opening author _ edits answer before after u planned accepted moves of_g of_h cycle = absurd cc

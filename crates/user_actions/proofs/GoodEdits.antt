@@ -28,9 +28,11 @@ use Rattle.grove_edits.specs.declared.act_fault.ActFault.TheVariants.{NamesSpent
 use Rattle.user_actions.specs.Lists.{GraphLists, AreListsOf}
 use Rattle.user_actions.specs.Names.{is_same_name, new_name, edges_named, greatest_counter}
 use Rattle.user_actions.specs.Place.{edges_at, of_vertex}
-use Rattle.user_actions.specs.Faults.{carried, carried_by_first, edges_cut, else_edges, name_count, last_counter, wrapping_position}
+use Rattle.user_actions.specs.Faults.{last_counter}
 use Rattle.user_actions.specs.PlainEdits.{PlainEdit, plain, deletions, insertion, new_vertex, to_new_vertex, put_below, wrap_edits, become_edits, relocate_edits}
-use Rattle.user_actions.specs.Plan.{edits_of}
+use Rattle.user_actions.specs.Carried.{carried, carried_by_first}
+use Rattle.user_actions.specs.Checks.{edges_cut, else_edges, wrapping_position}
+use Rattle.user_actions.specs.Actions.{name_count, edits_of}
 use Rattle.user_actions.specs.Good.{AreWellFormed, AreInRange, AreOpening, HasLiteralInRange}
 use Rattle.grove_sorts.proofs.Truths.{both_true}
 use Rattle.user_actions.proofs.GoodEdges.{parts_of, well_formed_from, vertex_good, vertex_in_range, no_root_at, sort_from_test}

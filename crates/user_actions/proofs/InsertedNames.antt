@@ -22,9 +22,12 @@ use Rattle.grove_edits.specs.declared.answer.Answer.TheVariants.{Made}
 use Rattle.user_actions.specs.Lists.{GraphLists, AreListsOf}
 use Rattle.user_actions.specs.Names.{new_name, edges_named, greatest_counter}
 use Rattle.user_actions.specs.Place.{vertex_named, edges_at, of_vertex}
-use Rattle.user_actions.specs.Faults.{first_fault, edges_cut, wrapping_position, carried}
+use Rattle.user_actions.specs.Faults.{first_fault}
 use Rattle.user_actions.specs.PlainEdits.{PlainEdit, plain, deletions, insertion, new_vertex, to_new_vertex, put_below, wrap_edits, become_edits, relocate_edits}
-use Rattle.user_actions.specs.Plan.{Planned, plan, edits_at, edits_of, answer_of, unless_refused, IsPlan}
+use Rattle.user_actions.specs.Plan.{Planned, plan, unless_refused, IsPlan}
+use Rattle.user_actions.specs.Checks.{edges_cut, wrapping_position}
+use Rattle.user_actions.specs.Carried.{carried}
+use Rattle.user_actions.specs.Actions.{place_of, edits_of_place, edits_at, edits_of, answer_of}
 use Rattle.user_actions.proofs.PlainGraphs.{AllEdits}
 use Rattle.user_actions.proofs.EditLists.{all_append, all_deletions, all_put_below, all_carry_over}
 use Rattle.user_actions.proofs.NewNames.{new_is_no_name}
@@ -79,14 +82,13 @@ module _ (lists : GraphLists) (author : ℕ) where
   new_at_place action None = tt
   new_at_place action (Some v) = new_at action v
 
+  new_of_place : (action : Action) (p : Option Place) → AllEdits (NamesNew lists author) (edits_of_place lists author action p)
+  new_of_place action None = tt
+  new_of_place action (Some place) = new_at_place action (vertex_named lists place.name)
+
   pub new_names : (opening : List Edge) (action : Action) → AllEdits (NamesNew lists author) (edits_of lists opening author action)
-  new_names opening (Construct place ctor) = new_at_place (Construct place ctor) (vertex_named lists place.name)
-  new_names opening (Wrap place ctor) = new_at_place (Wrap place ctor) (vertex_named lists place.name)
-  new_names opening (Become place ctor) = new_at_place (Become place ctor) (vertex_named lists place.name)
-  new_names opening (Delete place) = new_at_place (Delete place) (vertex_named lists place.name)
   new_names opening (Cut edge) = new_deletions (edges_cut lists opening edge)
-  new_names opening (Relocate edge place) = new_at_place (Relocate edge place) (vertex_named lists place.name)
-  new_names opening (Restore vertex place) = new_at_place (Restore vertex place) (vertex_named lists place.name)
+  new_names opening action = new_of_place action (place_of action)
 
   pub new_in_plan : (opening : List Edge) (action : Action) → AllEdits (NamesNew lists author) (plan lists opening author action).edits
   new_in_plan opening action = by_fault (first_fault lists opening author action) where
@@ -117,12 +119,7 @@ some_made a b h = cc
 
 pub made_is : (lists : GraphLists) (author : ℕ) (action : Action) (vertex : Name) → Made vertex ≡ answer_of lists author action → vertex ≡ new_name author (greatest_counter lists author) 1
 made_is lists author (Construct place ctor) vertex h = some_made vertex (new_name author (greatest_counter lists author) 1) h
-made_is lists author (Wrap place ctor) vertex h = some_made vertex (new_name author (greatest_counter lists author) 1) h
-made_is lists author (Become place ctor) vertex h = some_made vertex (new_name author (greatest_counter lists author) 1) h
-made_is lists author (Delete place) vertex h = absurd cc
-made_is lists author (Cut edge) vertex h = absurd cc
-made_is lists author (Relocate edge place) vertex h = absurd cc
-made_is lists author (Restore moved place) vertex h = absurd cc
+made_is lists author _ vertex h = cc
 
 -- and so has the vertex that is made
 pub made_new : (g : Graph) (opening : List Edge) (author : ℕ) (action : Action) (edits : List Edit) (vertex : Name) → IsPlan g opening author action edits (Made vertex) → IsNameOf g vertex → ⊥

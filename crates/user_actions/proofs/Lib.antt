@@ -24,6 +24,8 @@ pub mod FirstPassing
 pub mod NumberedEdits
 pub mod Telling
 pub mod PlaceRows
+pub mod SpotRows
+pub mod Finding
 pub mod MadeEdges
 pub mod LiveEdges
 pub mod CarriedLists

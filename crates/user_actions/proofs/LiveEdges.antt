@@ -21,7 +21,9 @@ use Rattle.grove_edits.proofs.Vertices.{same_vertex_exact}
 use Rattle.walks.specs.Whole.{AreLive}
 use Rattle.walks.proofs.Ordered.{holds-filter, in_order-filter, same_lists}
 use Rattle.grove_edits.specs.declared.act_fault.ActFault.{ActFault}
-use Rattle.user_actions.specs.Faults.{first_some, other_sort, carried, else_edges}
+use Rattle.user_actions.specs.Faults.{first_some}
+use Rattle.user_actions.specs.Checks.{other_sort, else_edges}
+use Rattle.user_actions.specs.Carried.{carried}
 use Rattle.user_actions.specs.Good.{AreWellFormed, AreOpening}
 use Rattle.user_actions.specs.Lists.{GraphLists, AreListsOf}
 use Rattle.user_actions.specs.Names.{is_same_name, edges_named}
@@ -83,10 +85,9 @@ named_live_is g lists of name ns mv named is =
         let live = of.live.no_other e parts.1 in
         and_true (is_live_in g e) (holds_edge e ns) (ap is_live live) (named.each e (same_name_exact e.name name parts.0) (λ absent. let both : Live ≡ Absent = sym live ∙ absent in cc))
 
-pub sole_known : (g : Graph) (name : Name) (ns mv : List Edge) (e : Edge) → AreNamed g name ns → mv ≡ filter (is_live_in g) ns → mv ≡ e ∷ [] → g e ≢ Absent
-sole_known g name ns mv e named is sole =
-    let held : holds_edge e (filter (is_live_in g) ns) ≡ true = ap (holds_edge e) (sym is ∙ sole) ∙ held_first e [] in
-    (named.no_other e (both_true (is_live_in g e) (holds_edge e ns) (sym (holds-filter (is_live_in g) e ns) ∙ held)).1).1
+pub live_is_known : (g : Graph) (name : Name) (ns mv : List Edge) → AreNamed g name ns → mv ≡ filter (is_live_in g) ns → (e : Edge) → holds_edge e mv ≡ true → g e ≢ Absent
+live_is_known g name ns mv named is e held =
+    (named.no_other e (both_true (is_live_in g e) (holds_edge e ns) (sym (holds-filter (is_live_in g) e ns) ∙ ap (holds_edge e) (sym is) ∙ held)).1).1
 
 -- what stands at a place has the sort that is wanted there
 pub child_sort : (g : Graph) (live edges : List Edge) (v : Vertex) (p : Position) → AreWellFormed g → AreLive g live → edges ≡ children_of v p live → (e : Edge) → holds_edge e edges ≡ true → (wanted : Sort) → sort_at v.ctor p ≡ Some wanted

@@ -9,7 +9,7 @@ use Rattle.grove_edits.specs.declared.edit.Edit.{Edit}
 use Rattle.grove_edits.specs.Graph.{Graph}
 use Rattle.grove_edits.specs.declared.action.Place.{Place}
 use Rattle.grove_edits.specs.declared.action.Action.{Action}
-use Rattle.grove_edits.specs.declared.action.Action.TheVariants.{Construct, Wrap, Become, Delete, Cut, Relocate, Restore}
+use Rattle.grove_edits.specs.declared.action.Action.TheVariants.{Construct, Wrap, Become, Relocate, Restore}
 use Rattle.grove_edits.specs.declared.answer.Answer.{Answer}
 use Rattle.grove_edits.specs.declared.answer.Answer.TheVariants.{Made, Moved}
 use Rattle.grove_terms.proofs.OneGrove.{one_live}
@@ -18,17 +18,17 @@ use Rattle.walks.specs.Whole.{AreLive, IsVertexOf}
 use Rattle.walks.proofs.Ordered.{holds-filter}
 use Rattle.user_actions.specs.Lists.{GraphLists}
 use Rattle.user_actions.specs.Names.{is_same_name, new_name, greatest_counter}
-use Rattle.user_actions.specs.Place.{place_of}
 use Rattle.user_actions.specs.PlainEdits.{new_vertex}
-use Rattle.user_actions.specs.Plan.{answer_of, IsPlan}
-use Rattle.user_actions.specs.After.{graph_after, IsAccepted, fills_place, made_ctor, vertex_of, targets_at}
+use Rattle.user_actions.specs.Plan.{IsPlan}
+use Rattle.user_actions.specs.After.{graph_after, IsAccepted, vertex_of, targets_at}
+use Rattle.user_actions.specs.Actions.{place_of, answer_of, fills_place, made_ctor}
 use Rattle.user_actions.proofs.Truths.{same_name_itself}
-use Rattle.grove_sorts.proofs.Truths.{and_true}
 use Rattle.user_actions.proofs.PlainGraphs.{only_edge}
 use Rattle.user_actions.proofs.NoFault.{only_one}
 use Rattle.user_actions.proofs.Accepted.{made}
 use Rattle.user_actions.proofs.InsertedNames.{made_is}
 use Rattle.user_actions.proofs.PlanLaws.{LeadsToMeant, edge_left}
+use Rattle.grove_sorts.proofs.Truths.{and_true}
 
 targets_are : (v : Vertex) (place : Place) (live : List Edge) (e : Edge) (t : Vertex) → children_of v place.position live ≡ e ∷ [] → e.target ≡ t → targets_at v place.position live ≡ t ∷ []
 targets_are v place live e t left target = ap (map (λ c. c.target)) left ∙ ap (λ w. w ∷ []) target
@@ -46,19 +46,11 @@ meant_made : (lists : GraphLists) (author : ℕ) (action : Action) (name : Name)
 meant_made lists author (Construct at k) name ctor e makes told meant = meant ∙ made_vertex author (greatest_counter lists author) k name ctor makes (made_is lists author (Construct at k) name told)
 meant_made lists author (Wrap at k) name ctor e makes told meant = meant ∙ made_vertex author (greatest_counter lists author) k name ctor makes (made_is lists author (Wrap at k) name told)
 meant_made lists author (Become at k) name ctor e makes told meant = meant ∙ made_vertex author (greatest_counter lists author) k name ctor makes (made_is lists author (Become at k) name told)
-meant_made lists author (Delete at) name ctor e makes told meant = absurd cc
-meant_made lists author (Cut edge) name ctor e makes told meant = absurd cc
-meant_made lists author (Relocate edge at) name ctor e makes told meant = absurd cc
-meant_made lists author (Restore vertex at) name ctor e makes told meant = absurd cc
+meant_made lists author _ name ctor e makes told meant = absurd cc
 
 fills_made : (action : Action) (ctor : Ctor) → made_ctor action ≡ Some ctor → fills_place action ≡ true
 fills_made (Construct at k) ctor makes = refl
-fills_made (Wrap at k) ctor makes = refl
-fills_made (Become at k) ctor makes = refl
-fills_made (Delete at) ctor makes = absurd cc
-fills_made (Cut edge) ctor makes = absurd cc
-fills_made (Relocate edge at) ctor makes = absurd cc
-fills_made (Restore vertex at) ctor makes = absurd cc
+fills_made _ ctor makes = cc
 
 pub made_stands : (g : Graph) (opening : List Edge) (author : ℕ) (action : Action) (edits : List Edit) (place : Place) (v : Vertex) (live : List Edge) (name : Name) (ctor : Ctor)
     → IsPlan g opening author action edits (Made name) → place_of action ≡ Some place → made_ctor action ≡ Some ctor → IsVertexOf g v → v.name ≡ place.name
@@ -91,22 +83,13 @@ some_moved : (a b : Name) → Moved a ≡ Moved b → b ≡ a
 some_moved a b h = cc
 
 meant_moved : (lists : GraphLists) (author : ℕ) (action : Action) (name : Name) (e : Edge) → Moved name ≡ answer_of lists author action → LeadsToMeant lists author action e → e.name ≡ name
-meant_moved lists author (Construct at k) name e told meant = absurd cc
-meant_moved lists author (Wrap at k) name e told meant = absurd cc
-meant_moved lists author (Become at k) name e told meant = absurd cc
-meant_moved lists author (Delete at) name e told meant = absurd cc
-meant_moved lists author (Cut edge) name e told meant = absurd cc
 meant_moved lists author (Relocate edge at) name e told meant = meant.0 ∙ some_moved name (new_name author (greatest_counter lists author) 1) told
 meant_moved lists author (Restore vertex at) name e told meant = meant.0 ∙ some_moved name (new_name author (greatest_counter lists author) 1) told
+meant_moved lists author _ name e told meant = absurd cc
 
 fills_moved : (lists : GraphLists) (author : ℕ) (action : Action) (name : Name) → Moved name ≡ answer_of lists author action → fills_place action ≡ true
 fills_moved lists author (Construct at k) name told = refl
-fills_moved lists author (Wrap at k) name told = refl
-fills_moved lists author (Become at k) name told = refl
-fills_moved lists author (Delete at) name told = absurd cc
-fills_moved lists author (Cut edge) name told = absurd cc
-fills_moved lists author (Relocate edge at) name told = refl
-fills_moved lists author (Restore vertex at) name told = refl
+fills_moved lists author _ name told = cc
 
 pub moved_edge_stands : (g : Graph) (opening : List Edge) (author : ℕ) (action : Action) (edits : List Edit) (place : Place) (v : Vertex) (live : List Edge) (name : Name)
     → IsPlan g opening author action edits (Moved name) → place_of action ≡ Some place → IsVertexOf g v → v.name ≡ place.name

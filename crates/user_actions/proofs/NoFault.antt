@@ -15,8 +15,10 @@ use Rattle.grove_edits.specs.declared.act_fault.ActFault.TheVariants.{WrongSort}
 use Rattle.grove_edits.proofs.WellFormed.{one_sort}
 use Rattle.user_actions.specs.Lists.{GraphLists}
 use Rattle.user_actions.specs.Names.{is_same_name, vertices_named}
-use Rattle.user_actions.specs.Place.{vertex_names, vertex_named, of_vertex}
-use Rattle.user_actions.specs.Faults.{at_place, no_vertex, two_vertices, ambiguous_vertex, no_position, wrong_sort, other_sort, occupied, empty, cannot_wrap, no_edge, ambiguous_edge, into_itself, not_loose, names_spent, first_some, first_fault, two_edges}
+use Rattle.user_actions.specs.Place.{vertex_named, of_vertex}
+use Rattle.user_actions.specs.Faults.{no_vertex, ambiguous_vertex, no_position, wrong_sort, occupied, empty, into_itself, names_spent, first_some, first_fault}
+use Rattle.user_actions.specs.Actions.{vertex_names, cannot_wrap, no_edge, ambiguous_edge, not_loose}
+use Rattle.user_actions.specs.Checks.{at_place, two_vertices, other_sort, two_edges}
 use Rattle.grove_sorts.proofs.Truths.{or_left, or_right}
 use Rattle.user_actions.proofs.Truths.{same_name_exact, same_name_itself}
 

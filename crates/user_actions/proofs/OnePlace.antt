@@ -25,7 +25,7 @@ use Rattle.grove_edits.specs.declared.action.Place.{Place}
 use Rattle.user_actions.specs.Lists.{GraphLists, AreListsOf}
 use Rattle.user_actions.specs.Names.{is_same_name, new_name, edges_named, greatest_counter}
 use Rattle.user_actions.specs.Place.{edges_at}
-use Rattle.user_actions.specs.Faults.{carried, carried_from}
+use Rattle.user_actions.specs.Carried.{carried, carried_from}
 use Rattle.user_actions.specs.PlainEdits.{deletions, insertion, new_vertex, to_new_vertex, put_below, wrap_edits, become_edits, relocate_edits}
 use Rattle.grove_sorts.proofs.Truths.{both_true, not_true, and_true}
 use Rattle.user_actions.proofs.NewNames.{not_vertex_name, new_absent}

@@ -11,14 +11,15 @@ use Rattle.walks.specs.Whole.{IsVertexOf}
 use Rattle.walks.proofs.Ordered.{same_lists}
 use Rattle.grove_terms.proofs.OneGrove.{one_live, one_vertices}
 use Rattle.grove_edits.specs.declared.action.Action.{Action}
-use Rattle.grove_edits.specs.declared.action.Action.TheVariants.{Construct, Wrap, Become, Delete, Cut, Relocate, Restore}
+use Rattle.grove_edits.specs.declared.action.Action.TheVariants.{Construct}
 use Rattle.grove_edits.specs.declared.act_fault.ActFault.{ActFault}
 use Rattle.grove_edits.specs.declared.answer.Answer.{Answer}
 use Rattle.grove_edits.specs.declared.answer.Answer.TheVariants.{Refused}
 use Rattle.user_actions.specs.Lists.{GraphLists, AreListsOf, ArePresent}
 use Rattle.user_actions.specs.Faults.{first_fault}
 use Rattle.user_actions.specs.PlainEdits.{PlainEdit, plain}
-use Rattle.user_actions.specs.Plan.{Planned, plan, edits_of, answer_of, unless_refused, IsPlan, IsMade}
+use Rattle.user_actions.specs.Plan.{Planned, plan, unless_refused, IsPlan, IsMade}
+use Rattle.user_actions.specs.Actions.{edits_of, answer_of}
 use Rattle.grove_sorts.proofs.Truths.{same_tests}
 
 pub one_present : (g : Graph) (a b : List Edge) → ArePresent g a → ArePresent g b → a ≡ b
@@ -54,12 +55,7 @@ one_plan g opening author action a b x y of_a of_b =
 -- the answer of an action that is not refused is no refusal
 not_refusal : (lists : GraphLists) (author : ℕ) (action : Action) (fault : ActFault) → answer_of lists author action ≡ Refused fault → ⊥
 not_refusal lists author (Construct place ctor) fault h = cc
-not_refusal lists author (Wrap place ctor) fault h = cc
-not_refusal lists author (Become place ctor) fault h = cc
-not_refusal lists author (Delete place) fault h = cc
-not_refusal lists author (Cut edge) fault h = cc
-not_refusal lists author (Relocate edge place) fault h = cc
-not_refusal lists author (Restore vertex place) fault h = cc
+not_refusal lists author _ fault h = cc
 
 no_edits : (edits : List Edit) → map plain edits ≡ [] → edits ≡ []
 no_edits [] h = refl

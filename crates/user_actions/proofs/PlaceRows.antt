@@ -17,11 +17,13 @@ use Rattle.grove_edits.specs.declared.act_fault.ActFault.{ActFault}
 use Rattle.grove_edits.specs.declared.act_fault.ActFault.TheVariants.{NoVertex, AmbiguousVertex, NoPosition, WrongSort, Occupied, Empty, CannotWrap, NoEdge, AmbiguousEdge, IntoItself, NotLoose, NamesSpent}
 use Rattle.user_actions.specs.Lists.{GraphLists, AreListsOf}
 use Rattle.user_actions.specs.Names.{greatest_counter}
-use Rattle.user_actions.specs.Place.{place_of, vertex_names, sort_at_place, edges_at}
+use Rattle.user_actions.specs.Place.{sort_at_place, edges_at}
 use Rattle.user_actions.specs.Spent.{IsSpent}
-use Rattle.user_actions.specs.Faults.{at_place, no_vertex, ambiguous_vertex, no_position, wrong_sort, other_sort, found_sort, occupied, in_the_way, empty, wants_edge, cannot_wrap, no_edge, ambiguous_edge, into_itself, moved_vertex, below_itself, not_loose, names_spent, name_count, last_counter, first_some, first_fault}
+use Rattle.user_actions.specs.Faults.{no_vertex, ambiguous_vertex, no_position, wrong_sort, occupied, empty, into_itself, names_spent, last_counter, first_some, first_fault}
+use Rattle.user_actions.specs.Actions.{place_of, vertex_names, found_sort, in_the_way, wants_edge, cannot_wrap, no_edge, ambiguous_edge, moved_vertex, not_loose, name_count}
+use Rattle.user_actions.specs.Checks.{at_place, other_sort, below_itself}
 use Rattle.user_actions.proofs.NoFault.{IsOnly, at_place_is}
-use Rattle.user_actions.proofs.Telling.{one_tells, greatest_is}
+use Rattle.user_actions.proofs.Telling.{one_tells, two_names_one, greatest_is}
 
 abbrev AreSame : List (Option ActFault) → List (Option ActFault) → Type 0
 AreSame [] [] = Unit {0}
@@ -35,6 +37,18 @@ same_rows [] (p ∷ ps) same = absurd same
 same_rows (o ∷ os) [] same = absurd same
 same_rows (None ∷ os) (p ∷ ps) same = same_rows os ps same.1 ∙ ap (λ q. first_some (q ∷ ps)) same.0
 same_rows (Some fault ∷ os) (p ∷ ps) same = ap (λ q. first_some (q ∷ ps)) same.0
+
+-- the faults behind those of the names
+abbrev pub action_rows : GraphLists → List Edge → ℕ → Action → List (Option ActFault)
+action_rows lists opening author action =
+    no_position lists action ∷ wrong_sort lists action ∷ occupied lists action ∷ empty lists action ∷ cannot_wrap lists action ∷ no_edge lists opening action ∷ ambiguous_edge lists action
+    ∷ into_itself lists action ∷ not_loose lists action ∷ names_spent lists author action ∷ []
+
+-- an action that names these vertices has the faults of the names first
+pub named_rows : (lists : GraphLists) (opening : List Edge) (author : ℕ) (action : Action) (names : List Name) → vertex_names action ≡ names
+    → first_fault lists opening author action ≡ first_some (no_vertex lists.vertices names ∷ ambiguous_vertex lists.vertices names ∷ action_rows lists opening author action)
+named_rows lists opening author action names is =
+    ap (λ (ns : List Name). first_some (no_vertex lists.vertices ns ∷ ambiguous_vertex lists.vertices ns ∷ action_rows lists opening author action)) is
 
 module _ (lists : GraphLists) (opening : List Edge) (author : ℕ) (action : Action) (place : Place) (v : Vertex) where
   abbrev pub position_fault : Option ActFault
@@ -52,23 +66,22 @@ module _ (lists : GraphLists) (opening : List Edge) (author : ℕ) (action : Act
   abbrev pub apart_fault : Option ActFault
   apart_fault = below_itself lists.live v (moved_vertex lists action)
 
-  abbrev pub rows_from : List (Option ActFault)
-  rows_from =
-      position_fault ∷ sort_fault ∷ free_fault ∷ filled_fault ∷ cannot_wrap lists action ∷ no_edge lists opening action ∷ ambiguous_edge lists action
+  -- those behind the position
+  abbrev pub rows_after : List (Option ActFault)
+  rows_after =
+      sort_fault ∷ free_fault ∷ filled_fault ∷ cannot_wrap lists action ∷ no_edge lists opening action ∷ ambiguous_edge lists action
       ∷ apart_fault ∷ not_loose lists action ∷ names_spent lists author action ∷ []
 
-  abbrev pub action_rows : List (Option ActFault)
-  action_rows =
-      no_position lists action ∷ wrong_sort lists action ∷ occupied lists action ∷ empty lists action ∷ cannot_wrap lists action ∷ no_edge lists opening action ∷ ambiguous_edge lists action
-      ∷ into_itself lists action ∷ not_loose lists action ∷ names_spent lists author action ∷ []
+  abbrev pub rows_from : List (Option ActFault)
+  rows_from = position_fault ∷ rows_after
 
   at_vertex : (fault : Vertex → Place → Option ActFault) → place_of action ≡ Some place → IsOnly lists place.name v → at_place lists (place_of action) fault ≡ fault v place
   at_vertex fault is only = ap (λ p. at_place lists p fault) is ∙ at_place_is lists place v fault only
 
   pub rows_are : place_of action ≡ Some place → IsOnly lists place.name v
-      → first_some action_rows ≡ first_some rows_from
+      → first_some (action_rows lists opening author action) ≡ first_some rows_from
   rows_are is only =
-      same_rows action_rows rows_from (
+      same_rows (action_rows lists opening author action) rows_from (
         at_vertex (λ w at. cond (is_none (sort_at_place w at)) (Some (NoPosition w)) None) is only,
         (
           at_vertex (λ w at. other_sort (sort_at_place w at) (found_sort lists action)) is only,
@@ -86,8 +99,15 @@ module _ (lists : GraphLists) (opening : List Edge) (author : ℕ) (action : Act
   pub one_vertex_rows : (g : Graph) → AreListsOf g lists → vertex_names action ≡ place.name ∷ [] → place_of action ≡ Some place → IsOnly lists place.name v
       → first_fault lists opening author action ≡ first_some rows_from
   one_vertex_rows g of names is only =
-      ap (λ (ns : List Name). first_some (no_vertex lists.vertices ns ∷ ambiguous_vertex lists.vertices ns ∷ action_rows)) names
-      ∙ one_tells g lists of place.name v only action_rows ∙ rows_are is only
+      named_rows lists opening author action (place.name ∷ []) names
+      ∙ one_tells g lists of place.name v only (action_rows lists opening author action) ∙ rows_are is only
+
+  -- and of one that names two
+  pub two_vertex_rows : (g : Graph) → AreListsOf g lists → (other : Name) (w : Vertex) → vertex_names action ≡ place.name ∷ other ∷ [] → place_of action ≡ Some place
+      → IsOnly lists place.name v → IsOnly lists other w → first_fault lists opening author action ≡ first_some rows_from
+  two_vertex_rows g of other w names is only and_other =
+      named_rows lists opening author action (place.name ∷ other ∷ []) names
+      ∙ two_names_one g lists of place.name other v w only and_other (action_rows lists opening author action) ∙ rows_are is only
 
 -- ---- what the checks tell of the rows
 
@@ -97,9 +117,6 @@ live_is g lists live of is = one_live g live lists.live is of.live
 pub edges_are : (g : Graph) (lists : GraphLists) (live : List Edge) (v : Vertex) (place : Place) → AreListsOf g lists → AreLive g live
     → children_of v place.position live ≡ edges_at lists v place
 edges_are g lists live v place of is = ap (λ es. children_of v place.position es) (live_is g lists live of is)
-
-pub sort_told : (o : Option Sort) (wanted found own : Sort) (answer : Option ActFault) → o ≡ Some wanted → found ≡ own → other_sort (Some wanted) (Some found) ≡ answer → other_sort o (Some own) ≡ answer
-sort_told o wanted found own answer is same told = ap (λ p. other_sort p (Some own)) is ∙ ap (λ s. other_sort (Some wanted) (Some s)) (sym same) ∙ told
 
 pub names_fit : (g : Graph) (lists : GraphLists) (author : ℕ) (action : Action) (greatest count : ℕ) → AreListsOf g lists → IsGreatest (IsNameOf g) author greatest
     → name_count lists action ≡ count → greatest + count ≤ last_counter → names_spent lists author action ≡ None

@@ -13,15 +13,16 @@ use Rattle.walks.specs.Live.{children_of}
 use Rattle.walks.specs.Whole.{AreLive, IsVertexOf}
 use Rattle.grove_edits.specs.declared.action.Place.{Place}
 use Rattle.grove_edits.specs.declared.action.Action.{Action}
-use Rattle.grove_edits.specs.declared.action.Action.TheVariants.{Construct, Wrap, Become, Delete, Cut, Relocate, Restore}
+use Rattle.grove_edits.specs.declared.action.Action.TheVariants.{Construct, Wrap, Become, Delete, Relocate, Restore}
 use Rattle.grove_edits.specs.declared.answer.Answer.{Answer}
 use Rattle.user_actions.specs.Lists.{GraphLists, AreListsOf}
 use Rattle.user_actions.specs.Names.{new_name, edges_named, greatest_counter}
-use Rattle.user_actions.specs.Place.{place_of, vertex_named, edges_at, of_vertex}
-use Rattle.user_actions.specs.Faults.{wrapping_position}
+use Rattle.user_actions.specs.Place.{vertex_named, edges_at, of_vertex}
 use Rattle.user_actions.specs.PlainEdits.{PlainEdit, plain, new_vertex, deletions, wrap_edits, become_edits, relocate_edits, insertion}
-use Rattle.user_actions.specs.Plan.{edits_at, answer_of, IsPlan, IsMade}
-use Rattle.user_actions.specs.After.{graph_after, IsAccepted, fills_place, NamesNot}
+use Rattle.user_actions.specs.Plan.{IsPlan, IsMade}
+use Rattle.user_actions.specs.After.{graph_after, IsAccepted, NamesNot}
+use Rattle.user_actions.specs.Actions.{place_of, edits_at, answer_of, fills_place}
+use Rattle.user_actions.specs.Checks.{wrapping_position}
 use Rattle.user_actions.proofs.PlainGraphs.{plain_graph, graph-plain, AllEdits, PutsOne, after_edits, one_left, none_left, children_kept, not_of, is_at, join_absent}
 use Rattle.user_actions.proofs.EditLists.{edge_with, all_deletions, has_deletion}
 use Rattle.user_actions.proofs.NoFault.{no_fault, IsOnly, only_stands, only_one, vertex_named_is}
@@ -61,10 +62,9 @@ abbrev pub LeadsToMeant : GraphLists → ℕ → Action → Edge → Type 0
 LeadsToMeant lists author (Construct at ctor) e = e.target ≡ new_vertex author (greatest_counter lists author) ctor
 LeadsToMeant lists author (Wrap at ctor) e = e.target ≡ new_vertex author (greatest_counter lists author) ctor
 LeadsToMeant lists author (Become at ctor) e = e.target ≡ new_vertex author (greatest_counter lists author) ctor
-LeadsToMeant lists author (Delete at) e = Unit {0}
-LeadsToMeant lists author (Cut edge) e = Unit {0}
 LeadsToMeant lists author (Relocate edge at) e = (e.name ≡ new_name author (greatest_counter lists author) 1) × (old : Edge) × (edges_named edge lists.live ≡ old ∷ []) × (e.target ≡ old.target)
 LeadsToMeant lists author (Restore vertex at) e = (e.name ≡ new_name author (greatest_counter lists author) 1) × IsOnly lists vertex e.target
+LeadsToMeant lists author _ e = Unit {0}
 
 -- the action puts one new edge at its place, whose vertex this is
 pub record FillsPlace (g : Graph) (lists : GraphLists) (author : ℕ) (action : Action) (place : Place) (edits : List Edit) : Type 0 where
@@ -122,8 +122,6 @@ fills g lists of opening author (Become at ctor) edits answer place is fill name
           ∙ ap (λ es. become_edits author (greatest_counter lists author) ctor to.has.vertex at es lists.live) to.sole;
       meant = refl;
     })
-fills g lists of opening author (Delete at) edits answer place is fill named = absurd cc
-fills g lists of opening author (Cut edge) edits answer place is fill named = absurd cc
 fills g lists of opening author (Relocate edge at) edits answer place is fill named =
     let to = to_relocate lists opening author edge at (no_fault lists opening author (Relocate edge at) is.no_fault) in
     subst (λ p. FillsPlace g lists author (Relocate edge at) p edits) (some_place at place named)
@@ -156,6 +154,7 @@ fills g lists of opening author (Restore vertex at) edits answer place is fill n
     edits_restored : (v moved : Vertex) → vertex_named lists vertex ≡ Some moved
         → edits_at lists author (Restore vertex at) v ≡ insertion (new_name author (greatest_counter lists author) 1) v at.position moved ∷ []
     edits_restored v moved is = ap (λ o. of_vertex o [] (λ m. insertion (new_name author (greatest_counter lists author) 1) v at.position m ∷ [])) is
+fills g lists of opening author _ edits answer place is fill named = absurd cc
 
 -- the new edge is the one at the place
 pub record EdgeLeft (lists : GraphLists) (author : ℕ) (action : Action) (place : Place) (v : Vertex) (answer : Answer) (live : List Edge) : Type 0 where

@@ -16,7 +16,8 @@ use Rattle.grove_edits.specs.declared.answer.Answer.TheVariants.{Refused}
 use Rattle.walks.specs.States.{well_formed}
 use Rattle.user_actions.specs.Lists.{GraphLists, AreListsOf, ArePresent}
 use Rattle.user_actions.specs.Faults.{first_fault}
-use Rattle.user_actions.specs.Plan.{edits_of, answer_of, IsPlan, IsMade}
+use Rattle.user_actions.specs.Plan.{IsPlan, IsMade}
+use Rattle.user_actions.specs.Actions.{edits_of, answer_of}
 use Rattle.user_actions.specs.Good.{AreWellFormed, AreInRange, AreOpening, HasLiteralInRange}
 use Rattle.user_actions.proofs.NoFault.{no_fault}
 use Rattle.user_actions.proofs.PlainGraphs.{both_absent}

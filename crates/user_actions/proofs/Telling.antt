@@ -26,7 +26,8 @@ use Rattle.user_actions.specs.declared.planned.PlanFault.TheVariants.{Refused, N
 use Rattle.user_actions.specs.Lists.{GraphLists, AreListsOf}
 use Rattle.user_actions.specs.Names.{is_same_name, vertices_named, greatest_in, names_of, greatest_counter}
 use Rattle.user_actions.specs.NamedVertices.{IsVertexNamed, IsOneNamed, IsNoneNamed, AreTwoNamed, IsVertexFault, IsFirstVertexFault}
-use Rattle.user_actions.specs.Faults.{no_vertex, two_vertices, ambiguous_vertex, first_some, first_fault}
+use Rattle.user_actions.specs.Faults.{no_vertex, ambiguous_vertex, first_some, first_fault}
+use Rattle.user_actions.specs.Checks.{two_vertices}
 use Rattle.user_actions.specs.Planned.{TellsPlan}
 use Rattle.grove_sorts.proofs.Truths.{or_left, or_right}
 use Rattle.user_actions.proofs.Truths.{same_name_exact}
@@ -41,15 +42,6 @@ stop o os fault is = ap (λ p. first_some (p ∷ os)) is
 
 pub skip : (o : Option ActFault) (os : List (Option ActFault)) → o ≡ None → first_some (o ∷ os) ≡ first_some os
 skip o os is = ap (λ p. first_some (p ∷ os)) is
-
--- an answer that passes a fault on
-pub refusal_is : (lists : GraphLists) (opening : List Edge) (author : ℕ) (action : Action) (r : Result Plan PlanFault) (fault : ActFault) → IsErrAnd r (λ e. e ≡ Refused fault)
-    → first_fault lists opening author action ≡ Some fault → TellsPlan lists opening author action r
-refusal_is lists opening author action (Ok p) fault gives first = absurd gives
-refusal_is lists opening author action (Err e) fault gives first = by_fault e gives where
-  by_fault : (e : PlanFault) → e ≡ Refused fault → TellsPlan lists opening author action (Err e)
-  by_fault (Refused told) is = let same : told ≡ fault = cc in first ∙ ap Some (sym same)
-  by_fault NoMemory is = tt
 
 -- ---- lists in vertex order
 

@@ -3,27 +3,23 @@ use Rattle.std.proofs.Common.{ℕ, List, sym, subst}
 use Rattle.std.specs.Prelude.{Result, Ok, Err, IfOk, IfErr}
 use Rattle.grove_edits.specs.declared.edge.Edge.{Edge}
 use Rattle.grove_edits.specs.declared.action.Action.{Action}
-use Rattle.grove_edits.specs.declared.action.Action.TheVariants.{Construct, Wrap, Become, Delete, Cut, Relocate, Restore}
+use Rattle.grove_edits.specs.declared.action.Action.TheVariants.{Construct}
 use Rattle.grove_edits.specs.Graph.{Graph}
 use Rattle.walks.specs.Live.{IsInEdgeOrder}
 use Rattle.user_actions.specs.declared.planned.Plan.{Plan}
 use Rattle.user_actions.specs.declared.planned.PlanFault.{PlanFault}
 use Rattle.user_actions.specs.declared.planned.PlanFault.TheVariants.{Refused, NoMemory}
 use Rattle.user_actions.specs.Lists.{GraphLists, AreListsOf, IsFinite}
-use Rattle.user_actions.specs.Plan.{IsPlan, answer_of}
+use Rattle.user_actions.specs.Plan.{IsPlan}
 use Rattle.user_actions.specs.After.{IsAccepted}
+use Rattle.user_actions.specs.Actions.{answer_of}
 use Rattle.user_actions.specs.Planned.{IsRefusal, TellsPlan}
 use Rattle.user_actions.proofs.OnePlan.{plan_from_made, plan_from_fault}
 use Rattle.user_actions.proofs.SomeLists.{lists_from, lists_are}
 
 accepted_is : (lists : GraphLists) (author : ℕ) (action : Action) → IsAccepted (answer_of lists author action)
 accepted_is lists author (Construct place ctor) = tt
-accepted_is lists author (Wrap place ctor) = tt
-accepted_is lists author (Become place ctor) = tt
-accepted_is lists author (Delete place) = tt
-accepted_is lists author (Cut edge) = tt
-accepted_is lists author (Relocate edge place) = tt
-accepted_is lists author (Restore vertex place) = tt
+accepted_is lists author _ = tt
 
 told_of : (g : Graph) (lists : GraphLists) → AreListsOf g lists → (opening : List Edge) (author : ℕ) (action : Action) → IsInEdgeOrder opening → (r : Result Plan PlanFault) → TellsPlan lists opening author action r
     → IfOk r (λ p. IsPlan g opening author action p.edits p.answer) × IfOk r (λ p. IsAccepted p.answer) × IfErr r (λ fault. IsRefusal g opening author action fault)

@@ -1,5 +1,5 @@
--- The graph after the edits of an action, and which actions leave one edge at their place.
-use Rattle.std.specs.Prelude.{◌≡◌, Bool, true, false, ◌&&◌, not, List, map, Option, None, Some}
+-- The graph after the edits of an action.
+use Rattle.std.specs.Prelude.{◌≡◌, Bool, false, ◌&&◌, not, List, map}
 use Rattle.std.specs.List.{AllByRecursion}
 use Rattle.grove_names.specs.declared.name.Name.{Name}
 use Rattle.grove_sorts.specs.declared.position.Position.{Position}
@@ -12,8 +12,6 @@ use Rattle.grove_edits.specs.Vertex.{is_same_vertex}
 use Rattle.grove_edits.specs.Edit.{edit_edge}
 use Rattle.grove_edits.specs.Graph.{Graph, graph, graph_join, is_same_edge}
 use Rattle.walks.specs.Live.{children_of, is_from}
-use Rattle.grove_edits.specs.declared.action.Action.{Action}
-use Rattle.grove_edits.specs.declared.action.Action.TheVariants.{Construct, Wrap, Become, Delete, Cut, Relocate, Restore}
 use Rattle.grove_edits.specs.declared.answer.Answer.{Answer}
 use Rattle.grove_edits.specs.declared.answer.Answer.TheVariants.{Refused}
 use Rattle.user_actions.specs.Carried.{has_same_sort}
@@ -25,23 +23,6 @@ graph_after g edits = graph_join g (graph edits)
 abbrev pub IsAccepted : Answer → Type 0
 IsAccepted (Refused fault) = ⊥
 IsAccepted _ = Unit {0}
-
--- the action puts one edge at its place
-abbrev pub fills_place : Action → Bool
-fills_place (Construct place ctor) = true
-fills_place (Wrap place ctor) = true
-fills_place (Become place ctor) = true
-fills_place (Delete place) = false
-fills_place (Cut edge) = false
-fills_place (Relocate edge place) = true
-fills_place (Restore vertex place) = true
-
--- the constructor of the vertex that the action makes
-abbrev pub made_ctor : Action → Option Ctor
-made_ctor (Construct place ctor) = Some ctor
-made_ctor (Wrap place ctor) = Some ctor
-made_ctor (Become place ctor) = Some ctor
-made_ctor _ = None
 
 abbrev pub vertex_of : Name → Ctor → Vertex
 vertex_of name ctor = record { name = name; ctor = ctor }
@@ -55,12 +36,6 @@ abbrev pub goes_along : Ctor → Edge → Edge → Bool
 goes_along ctor replaced e =
     is_same_vertex e.source replaced.target && not (is_same_edge e replaced)
     && has_same_sort (sort_at ctor e.position) (sort_at replaced.target.ctor e.position)
-
--- the action puts a vertex that is there at its place
-abbrev pub moves_vertex : Action → Bool
-moves_vertex (Relocate edge place) = true
-moves_vertex (Restore vertex place) = true
-moves_vertex _ = false
 
 -- the place is the source and position of none of the edits
 abbrev pub NamesNot : Vertex → Position → List Edit → Type 0

@@ -1,6 +1,8 @@
 pub mod Lists
 pub mod Names
 pub mod Place
+pub mod Checks
+pub mod Actions
 pub mod Faults
 pub mod PlainEdits
 pub mod Plan
@@ -14,3 +16,5 @@ pub mod Carried
 pub mod After
 pub mod Planned
 pub mod Flags
+pub mod Spot
+pub mod Admitted

@@ -12,26 +12,6 @@ use Rattle.grove_edits.specs.declared.action.Action.TheVariants.{Construct, Wrap
 use Rattle.user_actions.specs.Lists.{GraphLists}
 use Rattle.user_actions.specs.Names.{vertices_named}
 
--- every action but a cut has a place
-abbrev pub place_of : Action → Option Place
-place_of (Construct place ctor) = Some place
-place_of (Wrap place ctor) = Some place
-place_of (Become place ctor) = Some place
-place_of (Delete place) = Some place
-place_of (Cut edge) = None
-place_of (Relocate edge place) = Some place
-place_of (Restore vertex place) = Some place
-
--- the names for which an action wants a vertex, that of the place first
-abbrev pub vertex_names : Action → List Name
-vertex_names (Construct place ctor) = place.name ∷ []
-vertex_names (Wrap place ctor) = place.name ∷ []
-vertex_names (Become place ctor) = place.name ∷ []
-vertex_names (Delete place) = place.name ∷ []
-vertex_names (Cut edge) = []
-vertex_names (Relocate edge place) = place.name ∷ []
-vertex_names (Restore vertex place) = place.name ∷ vertex ∷ []
-
 -- the vertex of the graph with a name
 abbrev pub vertex_named : GraphLists → Name → Option Vertex
 vertex_named lists name = slice_get (vertices_named name lists.vertices) 0

@@ -11,7 +11,7 @@ use Rattle.grove_edits.specs.declared.edit.EditKind.TheVariants.{Insert, Delete}
 use Rattle.grove_edits.specs.Edit.{edit_edge, edit_kind}
 use Rattle.grove_edits.specs.declared.action.Place.{Place}
 use Rattle.user_actions.specs.Names.{new_name}
-use Rattle.user_actions.specs.Faults.{carried}
+use Rattle.user_actions.specs.Carried.{carried}
 
 abbrev pub PlainEdit : Type 0
 PlainEdit = EditKind × Edge

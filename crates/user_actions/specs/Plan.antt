@@ -1,51 +1,17 @@
 -- What an action does to a graph: its edits, and what is answered.
-use Rattle.std.specs.Prelude.{◌≡◌, ℕ, List, [], ◌∷◌, map, Option, None, Some}
-use Rattle.grove_edits.specs.declared.vertex.Vertex.{Vertex}
+use Rattle.std.specs.Prelude.{◌≡◌, ℕ, List, [], map, Option, None, Some}
 use Rattle.grove_edits.specs.declared.edge.Edge.{Edge}
 use Rattle.grove_edits.specs.declared.edit.Edit.{Edit}
 use Rattle.grove_edits.specs.Graph.{Graph}
 use Rattle.walks.specs.Live.{IsInEdgeOrder}
-use Rattle.grove_edits.specs.declared.action.Place.{Place}
 use Rattle.grove_edits.specs.declared.action.Action.{Action}
-use Rattle.grove_edits.specs.declared.action.Action.TheVariants.{Construct, Wrap, Become, Delete, Cut, Relocate, Restore}
 use Rattle.grove_edits.specs.declared.act_fault.ActFault.{ActFault}
 use Rattle.grove_edits.specs.declared.answer.Answer.{Answer}
-use Rattle.grove_edits.specs.declared.answer.Answer.TheVariants.{Made, Moved, Done, Refused}
+use Rattle.grove_edits.specs.declared.answer.Answer.TheVariants.{Refused}
 use Rattle.user_actions.specs.Lists.{GraphLists, AreListsOf}
-use Rattle.user_actions.specs.Names.{new_name, edges_named, greatest_counter}
-use Rattle.user_actions.specs.Place.{place_of, vertex_named, edges_at, of_vertex}
-use Rattle.user_actions.specs.Faults.{first_fault, edges_cut, wrapping_position}
-use Rattle.user_actions.specs.PlainEdits.{PlainEdit, plain, deletions, insertion, to_new_vertex, wrap_edits, become_edits, relocate_edits}
-
--- the edits of an action whose place has this vertex, where no fault applies
-abbrev pub edits_at : GraphLists → ℕ → Action → Vertex → List PlainEdit
-edits_at lists author (Construct place ctor) v = to_new_vertex author (greatest_counter lists author) ctor v place ∷ []
-edits_at lists author (Wrap place ctor) v = wrap_edits author (greatest_counter lists author) ctor v place (wrapping_position ctor v place) (edges_at lists v place)
-edits_at lists author (Become place ctor) v = become_edits author (greatest_counter lists author) ctor v place (edges_at lists v place) lists.live
-edits_at lists author (Delete place) v = deletions (edges_at lists v place)
-edits_at lists author (Cut edge) v = []
-edits_at lists author (Relocate edge place) v = relocate_edits author (greatest_counter lists author) v place (edges_named edge lists.live)
-edits_at lists author (Restore vertex place) v =
-    of_vertex (vertex_named lists vertex) [] (λ moved. insertion (new_name author (greatest_counter lists author) 1) v place.position moved ∷ [])
-
-abbrev pub edits_of_place : GraphLists → ℕ → Action → Option Place → List PlainEdit
-edits_of_place lists author action None = []
-edits_of_place lists author action (Some place) = of_vertex (vertex_named lists place.name) [] (edits_at lists author action)
-
--- the edits of an action to which no fault applies
-abbrev pub edits_of : GraphLists → List Edge → ℕ → Action → List PlainEdit
-edits_of lists opening author (Cut edge) = deletions (edges_cut lists opening edge)
-edits_of lists opening author action = edits_of_place lists author action (place_of action)
-
--- and what is answered
-abbrev pub answer_of : GraphLists → ℕ → Action → Answer
-answer_of lists author (Construct place ctor) = Made (new_name author (greatest_counter lists author) 1)
-answer_of lists author (Wrap place ctor) = Made (new_name author (greatest_counter lists author) 1)
-answer_of lists author (Become place ctor) = Made (new_name author (greatest_counter lists author) 1)
-answer_of lists author (Delete place) = Done
-answer_of lists author (Cut edge) = Done
-answer_of lists author (Relocate edge place) = Moved (new_name author (greatest_counter lists author) 1)
-answer_of lists author (Restore vertex place) = Moved (new_name author (greatest_counter lists author) 1)
+use Rattle.user_actions.specs.Faults.{first_fault}
+use Rattle.user_actions.specs.Actions.{edits_of, answer_of}
+use Rattle.user_actions.specs.PlainEdits.{PlainEdit, plain}
 
 pub record Planned : Type 0 where
   pub edits : List PlainEdit

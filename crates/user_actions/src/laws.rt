@@ -23,10 +23,10 @@ ghost use Rattle.walks.specs.Whole.{AreLive, IsVertexOf};
 ghost use Rattle.walks.specs.Names.{IsNameOf};
 ghost use Rattle.walks.specs.States.{well_formed};
 ghost use Rattle.user_actions.specs.Lists.{ArePresent};
-ghost use Rattle.user_actions.specs.Place.{place_of};
-ghost use Rattle.user_actions.specs.Faults.{wrapping_position};
 ghost use Rattle.user_actions.specs.Plan.{IsPlan};
-ghost use Rattle.user_actions.specs.After.{graph_after, IsAccepted, fills_place, made_ctor, vertex_of, targets_at, goes_along, moves_vertex, NamesNot};
+ghost use Rattle.user_actions.specs.After.{graph_after, IsAccepted, vertex_of, targets_at, goes_along, NamesNot};
+ghost use Rattle.user_actions.specs.Actions.{place_of, fills_place, made_ctor, moves_vertex};
+ghost use Rattle.user_actions.specs.Checks.{wrapping_position};
 ghost use Rattle.user_actions.specs.Good.{AreWellFormed, AreOpening, HasLiteralInRange};
 
 /// Law: on each graph that some edits make, every action has a plan. No graph and action have two, and graphs with the same states

@@ -2,6 +2,8 @@
 //! Replicas stand on this crate.
 #![tactic(auto)]
 
+mod admitted;
+mod admitting;
 mod carried;
 mod edges;
 mod edits;
@@ -14,6 +16,7 @@ mod place;
 mod plan_view;
 mod planned;
 mod planning;
+mod spot;
 mod vertices;
 mod walk_up;
 

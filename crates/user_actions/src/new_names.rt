@@ -1,6 +1,8 @@
 ghost use Rattle.std.specs.Prelude.{◌≡◌, ◌+◌, ◌<◌, ◌≤◌, ◌^◌, IfOk, IfErr};
 ghost use Rattle.walks.specs.Names.{IsGreatest, IsNameOf};
 ghost use Rattle.user_actions.specs.Faults.{last_counter};
+ghost use Rattle.user_actions.specs.Names.{new_name};
+ghost use Rattle.user_actions.specs.PlainEdits.{new_vertex};
 ghost use Rattle.user_actions.specs.Spent.{IsSpent};
 
 use crate::plan_view::PlanView;
@@ -19,8 +21,7 @@ impl NewNames {
     /// The new name with a number, of which the first is 1.
     pub(crate) fn name(&self, number: u64) -> Name
         requires { self.now.greatest + number ≤ last_counter }
-        ensures author { result.author ≡ self.now.author }
-        ensures counter { result.counter ≡ self.now.greatest + number }
+        ensures { result ≡ new_name self.now.author self.now.greatest number }
     {
         Name {
             author: self.author,
@@ -31,9 +32,7 @@ impl NewNames {
     /// The new vertex, which has the first new name.
     pub(crate) fn vertex(&self, ctor: Ctor) -> Vertex
         requires { self.now.greatest + 1 ≤ last_counter }
-        ensures author { result.name.author ≡ self.now.author }
-        ensures counter { result.name.counter ≡ self.now.greatest + 1 }
-        ensures ctor { result.ctor ≡ ctor }
+        ensures { result ≡ new_vertex self.now.author self.now.greatest ctor }
     {
         Vertex {
             name: self.name(1),

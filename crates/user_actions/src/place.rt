@@ -3,11 +3,12 @@ ghost use Rattle.grove_sorts.specs.Ctor.{first_position, sort_of_ctor};
 ghost use Rattle.grove_edits.specs.declared.edge.Edge.{Edge};
 ghost use Rattle.walks.specs.Live.{children_of, parents_of};
 ghost use Rattle.walks.specs.Few.{first_two};
-ghost use Rattle.walks.specs.Cycle.{leads_to};
-ghost use Rattle.user_actions.specs.Faults.{other_sort, only_target, two_edges, none_named, below_itself, first_some};
+ghost use Rattle.user_actions.specs.Faults.{first_some};
 ghost use Rattle.user_actions.specs.Names.{is_same_name};
 ghost use Rattle.user_actions.specs.Place.{sort_at_place};
+ghost use Rattle.user_actions.specs.Checks.{other_sort, only_target, two_edges, none_named, below_itself};
 ghost use Rattle.user_actions.specs.Told.{Tells};
+ghost use Rattle.walks.specs.Cycle.{leads_to};
 
 use crate::plan_view::PlanView;
 use crate::walk_up::leads_to;

@@ -1,32 +1,23 @@
-use Rattle.std.proofs.Common.{subst, sym}
+use Rattle.std.proofs.Common.{◌≡◌, ℕ, List, sym, subst}
+use Rattle.std.specs.Prelude.{Result, Ok, Err, IsErrAnd}
+use Rattle.grove_edits.specs.declared.edge.Edge.{Edge}
 use Rattle.grove_edits.specs.declared.action.Action.{Action}
+use Rattle.user_actions.specs.declared.planned.Plan.{Plan}
+use Rattle.user_actions.specs.declared.planned.PlanFault.{PlanFault}
+use Rattle.user_actions.specs.declared.planned.PlanFault.TheVariants.{Refused, NoMemory}
+use Rattle.user_actions.specs.Lists.{GraphLists}
 use Rattle.user_actions.specs.Planned.{TellsPlan}
+use Rattle.user_actions.specs.Admitted.{TellsFound}
 use Rattle.user_actions.proofs.planning.plan_action.Goals as goal
 
-pub returns-in-Construct : goal.returns-in-Construct
-returns-in-Construct g c lists of =
-    subst (λ (action : Action). TellsPlan lists (g.V.PlanView.opening c.args.view.now) c.args.author action c.plan_construct.result) (sym c.in-Construct.is) (c.plan_construct.ensures lists of)
+handed_on : (lists : GraphLists) (opening : List Edge) (author : ℕ) (action : Action) (r : Result Plan PlanFault) (fault : PlanFault) → IsErrAnd r (λ e. e ≡ fault)
+    → TellsFound lists opening author action (Err fault) → TellsPlan lists opening author action r
+handed_on lists opening author action (Ok plan) fault gives told = absurd gives
+handed_on lists opening author action (Err e) fault gives told = subst (λ (f : PlanFault). TellsPlan lists opening author action (Err f)) (sym gives) (same fault told) where
+  same : (f : PlanFault) → TellsFound lists opening author action (Err f) → TellsPlan lists opening author action (Err f)
+  same (Refused first) is = is
+  same NoMemory is = tt
 
-pub returns-in-Wrap : goal.returns-in-Wrap
-returns-in-Wrap g c lists of =
-    subst (λ (action : Action). TellsPlan lists (g.V.PlanView.opening c.args.view.now) c.args.author action c.plan_wrap.result) (sym c.in-Wrap.is) (c.plan_wrap.ensures lists of)
-
-pub returns-in-Become : goal.returns-in-Become
-returns-in-Become g c lists of =
-    subst (λ (action : Action). TellsPlan lists (g.V.PlanView.opening c.args.view.now) c.args.author action c.plan_become.result) (sym c.in-Become.is) (c.plan_become.ensures lists of)
-
-pub returns-in-Delete : goal.returns-in-Delete
-returns-in-Delete g c lists of =
-    subst (λ (action : Action). TellsPlan lists (g.V.PlanView.opening c.args.view.now) c.args.author action c.plan_delete.result) (sym c.in-Delete.is) (c.plan_delete.ensures lists of)
-
-pub returns-in-Cut : goal.returns-in-Cut
-returns-in-Cut g c lists of =
-    subst (λ (action : Action). TellsPlan lists (g.V.PlanView.opening c.args.view.now) c.args.author action c.plan_cut.result) (sym c.in-Cut.is) (c.plan_cut.ensures lists of)
-
-pub returns-in-Relocate : goal.returns-in-Relocate
-returns-in-Relocate g c lists of =
-    subst (λ (action : Action). TellsPlan lists (g.V.PlanView.opening c.args.view.now) c.args.author action c.plan_relocate.result) (sym c.in-Relocate.is) (c.plan_relocate.ensures lists of)
-
-pub returns-in-Restore : goal.returns-in-Restore
-returns-in-Restore g c lists of =
-    subst (λ (action : Action). TellsPlan lists (g.V.PlanView.opening c.args.view.now) c.args.author action c.plan_restore.result) (sym c.in-Restore.is) (c.plan_restore.ensures lists of)
+pub returns-in_err-found : goal.returns-in_err-found
+returns-in_err-found g c lists of =
+    handed_on lists (g.V.PlanView.opening c.args.view.now) c.args.author c.args.action.now c.from_residual.result c.in_err-found.field-0.0 c.from_residual.ensures.1 (c.in_err-found.ensures.told lists of)
