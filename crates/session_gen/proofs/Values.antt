@@ -10,6 +10,7 @@ use Rattle.grove_sorts.specs.declared.position.Position.{Position}
 use Rattle.grove_sorts.specs.declared.position.Position.TheVariants.{Left, Right, Fun, Param, Annot, Body, Arg, Operand}
 use Rattle.grove_sorts.specs.declared.version.Version.TheVariants.{One, Two}
 use Rattle.grove_sorts.specs.Identifier.{IsIdentifier}
+use Rattle.grove_sorts.specs.Plain.{plain_of}
 use Rattle.grove_edits.specs.declared.edit.Edit.{Edit}
 use Rattle.grove_edits.specs.declared.edit.EditKind.{EditKind}
 use Rattle.grove_edits.specs.declared.edit.EditKind.TheVariants.{Insert, Delete}
@@ -82,9 +83,11 @@ module _ (g : ℕ) (few : g ≤ 20000) where
   IsOfOne edit = IsEdgeOf One (edit_edge edit)
 
   group_lines : map line_of group_values ≡ group_edits g
+  unfolding plain_of
   group_lines = refl
 
   all_of_one : AllByRecursion IsOfOne group_values
+  unfolding plain_of
   all_of_one = (
     (refl, refl, refl),
     ((refl, refl, refl), ((refl, refl, refl), ((refl, refl, refl), ((refl, refl, refl), ((refl, refl, refl), ((refl, refl, refl), ((refl, refl, refl), ((refl, refl, refl), ((refl, refl, refl), tt))))))))),
