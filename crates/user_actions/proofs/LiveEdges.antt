@@ -28,7 +28,6 @@ use Rattle.user_actions.specs.Good.{AreWellFormed, AreOpening}
 use Rattle.user_actions.specs.Lists.{GraphLists, AreListsOf}
 use Rattle.user_actions.specs.Names.{is_same_name, edges_named}
 use Rattle.user_actions.specs.NamedEdges.{AreNamed, is_live, is_live_in}
-use Rattle.user_actions.proofs.EditLists.{held_first}
 use Rattle.user_actions.proofs.SomeLists.{live_from_test}
 use Rattle.user_actions.proofs.GoodEdges.{parts_of, sort_from_test}
 use Rattle.user_actions.proofs.OnePlace.{entry_found, carried_is}
