@@ -1,5 +1,5 @@
 -- What the checks of an action tell of its faults, and that what they found can be made.
-use Rattle.std.proofs.Common.{◌≡◌, ℕ, ◌+◌, ◌<◌, ◌≤◌, cond, true, List, [], ◌∷◌, length, get_or, refl, sym, ap, subst, ◌∙◌, arith}
+use Rattle.std.proofs.Common.{◌≡◌, ℕ, ◌+◌, ◌<◌, ◌≤◌, cond, true, List, get_or, sym, ap, subst, ◌∙◌, arith}
 use Rattle.std.specs.Prelude.{Option, None, Some, Result, Ok, Err, IsErrAnd, IfSome, is_none, slice_get, option_and_then}
 use Rattle.std.specs.List.{All}
 use Rattle.grove_sorts.specs.declared.sort.Sort.{Sort}
@@ -24,9 +24,9 @@ use Rattle.user_actions.specs.declared.planned.PlanFault.TheVariants.{Refused, N
 use Rattle.user_actions.specs.declared.new_names.NewNames.{NewNames}
 use Rattle.user_actions.specs.declared.spot.Spot.{Spot}
 use Rattle.user_actions.specs.declared.admitted.Admitted.{Admitted}
-use Rattle.user_actions.specs.Lists.{GraphLists, AreListsOf}
+use Rattle.user_actions.specs.Lists.{GraphLists}
 use Rattle.user_actions.specs.Good.{AreWellFormed}
-use Rattle.user_actions.specs.Place.{sort_at_place, edges_at}
+use Rattle.user_actions.specs.Place.{sort_at_place}
 use Rattle.user_actions.specs.Faults.{first_fault, last_counter}
 use Rattle.user_actions.specs.Actions.{cannot_wrap}
 use Rattle.user_actions.specs.Checks.{wrapping_position}

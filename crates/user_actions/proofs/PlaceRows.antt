@@ -1,9 +1,8 @@
 -- The faults of an action whose place has one vertex, in terms of that vertex.
-use Rattle.std.proofs.Common.{◌≡◌, ℕ, ◌+◌, ◌<◌, ◌≤◌, Bool, true, false, cond, List, [], ◌∷◌, refl, sym, ap, ◌∙◌, arith, lt-ltb}
+use Rattle.std.proofs.Common.{◌≡◌, ℕ, ◌+◌, ◌<◌, ◌≤◌, Bool, true, false, cond, List, [], ◌∷◌, refl, ap, ◌∙◌, arith, lt-ltb}
 use borrow.Author.Tests.{ltb-true}
 use Rattle.std.specs.Prelude.{◌&&◌, nat_lt, Option, None, Some, is_none, option_map, slice_get}
 use Rattle.grove_names.specs.declared.name.Name.{Name}
-use Rattle.grove_sorts.specs.declared.sort.Sort.{Sort}
 use Rattle.grove_edits.specs.declared.vertex.Vertex.{Vertex}
 use Rattle.grove_edits.specs.declared.edge.Edge.{Edge}
 use Rattle.walks.specs.Live.{children_of}

@@ -1,7 +1,7 @@
 -- What look-ups in a graph tell of its lists.
 use Rattle.std.proofs.Common.{◌≡◌, ℕ, ◌≤◌, Bool, true, false, cond, List, [], ◌∷◌, ◌++◌, map, filter, refl, sym, ap, subst, ◌∙◌, inl, inr, ◌⊎◌, arith}
 use borrow.Author.Tests.{eqb-true}
-use Rattle.std.specs.Prelude.{◌||◌, ◌==◌, Option, None, Some, Result, Ok, Err, IsErrAnd, is_none, slice_get}
+use Rattle.std.specs.Prelude.{◌||◌, ◌==◌, Option, None, Some, is_none, slice_get}
 use Rattle.std.specs.List.{AllByRecursion}
 use Rattle.std.specs.declared.cmp.Ordering.{Ordering}
 use Rattle.std.specs.declared.cmp.Ordering.TheVariants.{Less, Equal, Greater}
@@ -19,16 +19,11 @@ use Rattle.grove_edits.proofs.Vertices.{same_vertex_exact, same_vertex_itself}
 use Rattle.walks.specs.Names.{IsGreatest, IsNameOf, name_by}
 use Rattle.grove_edits.specs.declared.act_fault.ActFault.{ActFault}
 use Rattle.grove_edits.specs.declared.act_fault.ActFault.TheVariants.{NoVertex, AmbiguousVertex, NoPosition, WrongSort, Occupied, Empty, CannotWrap, NoEdge, AmbiguousEdge, IntoItself, NotLoose, NamesSpent}
-use Rattle.grove_edits.specs.declared.action.Action.{Action}
-use Rattle.user_actions.specs.declared.planned.Plan.{Plan}
-use Rattle.user_actions.specs.declared.planned.PlanFault.{PlanFault}
-use Rattle.user_actions.specs.declared.planned.PlanFault.TheVariants.{Refused, NoMemory}
 use Rattle.user_actions.specs.Lists.{GraphLists, AreListsOf}
 use Rattle.user_actions.specs.Names.{is_same_name, vertices_named, greatest_in, names_of, greatest_counter}
 use Rattle.user_actions.specs.NamedVertices.{IsVertexNamed, IsOneNamed, IsNoneNamed, AreTwoNamed, IsVertexFault, IsFirstVertexFault}
-use Rattle.user_actions.specs.Faults.{no_vertex, ambiguous_vertex, first_some, first_fault}
+use Rattle.user_actions.specs.Faults.{no_vertex, ambiguous_vertex, first_some}
 use Rattle.user_actions.specs.Checks.{two_vertices}
-use Rattle.user_actions.specs.Planned.{TellsPlan}
 use Rattle.grove_sorts.proofs.Truths.{or_left, or_right}
 use Rattle.user_actions.proofs.Truths.{same_name_exact}
 use Rattle.user_actions.proofs.NewNames.{IsAmong, counter_within, vertex_among, edge_among, among_first, among_second}

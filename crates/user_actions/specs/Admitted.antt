@@ -17,7 +17,7 @@ use Rattle.user_actions.specs.declared.planned.PlanFault.TheVariants.{Refused, N
 use Rattle.user_actions.specs.Lists.{GraphLists}
 use Rattle.user_actions.specs.Names.{new_name}
 use Rattle.user_actions.specs.Faults.{first_fault, last_counter}
-use Rattle.user_actions.specs.PlainEdits.{PlainEdit, deletion, deletions, insertion, new_vertex, to_new_vertex, put_below, carry_over, wrap_edits, relocate_edits}
+use Rattle.user_actions.specs.PlainEdits.{PlainEdit, deletion, deletions, insertion, new_vertex, to_new_vertex, carry_over, wrap_edits, relocate_edits}
 use Rattle.user_actions.specs.Actions.{edits_of, answer_of}
 use Rattle.user_actions.specs.Standing.{CanStandAt}
 

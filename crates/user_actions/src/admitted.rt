@@ -17,7 +17,7 @@ use grove_sorts::{Ctor, Position};
 use std::alloc::Global;
 
 /// What the checks of an action found, which is all that its edits are made of.
-#[derive(Debug, Drop)]
+#[derive(Drop)]
 pub(crate) enum Admitted {
     /// A new vertex at the place.
     Construct {

@@ -10,7 +10,7 @@ use grove_names::Name;
 use grove_sorts::Sort;
 
 /// The place of an action, with its vertex and the sort that is wanted there.
-#[derive(Clone, Copy, Debug)]
+#[derive(Clone, Copy)]
 pub(crate) struct Spot {
     pub(crate) place: Place,
     pub(crate) vertex: Vertex,

@@ -1,14 +1,12 @@
-use Rattle.std.proofs.Common.{◌≡◌, ◌+◌, ◌<◌, ◌++◌, cond, true, List, [], ◌∷◌, length, ap, refl, sym, subst, ◌∙◌, arith}
-use Rattle.std.specs.Prelude.{Some, None, is_none, slice_get, option_map, option_and_then, not, filter}
+use Rattle.std.proofs.Common.{◌≡◌, List, [], ap, refl, sym, ◌∙◌, arith}
+use Rattle.std.specs.Prelude.{Some, None, slice_get, option_map}
 use Rattle.grove_sorts.specs.Ctor.{sort_of_ctor}
-use Rattle.grove_edits.specs.declared.vertex.Vertex.{Vertex}
 use Rattle.grove_edits.specs.declared.edge.Edge.{Edge}
 use Rattle.grove_edits.specs.declared.action.Place.{Place}
 use Rattle.user_actions.specs.declared.new_names.NewNames.{NewNames}
-use Rattle.user_actions.specs.declared.spot.Spot.{Spot}
 use Rattle.user_actions.specs.declared.admitted.Admitted.TheVariants as found
 use Rattle.user_actions.specs.Names.{greatest_counter}
-use Rattle.user_actions.specs.Admitted.{made_of, edits_made, answer_made}
+use Rattle.user_actions.specs.Admitted.{edits_made, answer_made}
 use Rattle.user_actions.proofs.PlanLaws.{edits_here}
 use Rattle.grove_edits.specs.declared.action.Action.TheVariants.{Construct}
 use Rattle.grove_edits.specs.declared.act_fault.ActFault.TheVariants.{Occupied}

@@ -1,5 +1,4 @@
-use Rattle.std.proofs.Common.{◌≡◌, ◌+◌, ◌<◌, ◌++◌, cond, true, List, [], ◌∷◌, length, ap, refl, sym, subst, ◌∙◌, arith}
-use Rattle.grove_edits.specs.declared.edge.Edge.{Edge}
+use Rattle.std.proofs.Common.{ap, refl, sym, ◌∙◌}
 use Rattle.grove_edits.specs.declared.action.Action.TheVariants.{Cut}
 use Rattle.user_actions.specs.Checks.{none_named}
 use Rattle.user_actions.specs.PlainEdits.{deletions}

@@ -1,11 +1,4 @@
-use Rattle.std.proofs.Common.{◌≡◌, ◌+◌, ◌<◌, ◌++◌, cond, true, List, [], ◌∷◌, length, ap, refl, sym, subst, ◌∙◌, arith}
-use Rattle.std.specs.Prelude.{Some, None, is_none, slice_get, option_map, option_and_then, not, filter}
-use Rattle.grove_edits.specs.declared.vertex.Vertex.{Vertex}
-use Rattle.grove_edits.specs.declared.edge.Edge.{Edge}
-use Rattle.grove_edits.specs.declared.action.Place.{Place}
-use Rattle.user_actions.specs.declared.spot.Spot.{Spot}
-use Rattle.user_actions.specs.declared.admitted.Admitted.TheVariants as found
-use Rattle.user_actions.specs.Admitted.{made_of, edits_made, answer_made}
+use Rattle.std.proofs.Common.{ap, refl, sym, ◌∙◌}
 use Rattle.user_actions.proofs.PlanLaws.{edits_here}
 use Rattle.user_actions.specs.PlainEdits.{deletions}
 use Rattle.user_actions.specs.Place.{sort_at_place}

@@ -1,14 +1,13 @@
-use Rattle.std.proofs.Common.{◌≡◌, ◌+◌, ◌<◌, ◌++◌, cond, true, List, [], ◌∷◌, length, ap, refl, sym, subst, ◌∙◌, arith}
-use Rattle.std.specs.Prelude.{Some, None, is_none, slice_get, option_map, option_and_then, not, filter}
+use Rattle.std.proofs.Common.{◌≡◌, List, [], ◌∷◌, ap, refl, sym, ◌∙◌, arith}
+use Rattle.std.specs.Prelude.{Some, None, slice_get, option_map}
 use Rattle.grove_sorts.specs.Ctor.{sort_of_ctor}
 use Rattle.grove_edits.specs.declared.vertex.Vertex.{Vertex}
 use Rattle.grove_edits.specs.declared.edge.Edge.{Edge}
 use Rattle.grove_edits.specs.declared.action.Place.{Place}
 use Rattle.user_actions.specs.declared.new_names.NewNames.{NewNames}
-use Rattle.user_actions.specs.declared.spot.Spot.{Spot}
 use Rattle.user_actions.specs.declared.admitted.Admitted.TheVariants as found
 use Rattle.user_actions.specs.Names.{greatest_counter, new_name}
-use Rattle.user_actions.specs.Admitted.{made_of, edits_made, answer_made}
+use Rattle.user_actions.specs.Admitted.{edits_made, answer_made}
 use Rattle.user_actions.proofs.PlanLaws.{edits_here}
 use Rattle.walks.specs.Live.{parents_of}
 use Rattle.grove_edits.specs.declared.action.Action.TheVariants.{Restore}
@@ -79,11 +78,10 @@ returns-in_err-names-clause-told g c lists of =
     ∙ stop (names_spent lists c.args.author (Restore c.args.vertex c.args.place)) [] c.in_err-names.field-0.0 (names_told (g.V.PlanView.states c.args.view.now) lists c.args.author (Restore c.args.vertex c.args.place) 1 c.in_err-names.field-0.0 of c.in_err-names.ensures.spent refl (omega arith)))
 
 pub returns-clause-made : goal.returns-clause-made
-returns-clause-made g c =
-    (
-      has_names c.in_ok-names.names c.args.author 1 1 c.in_ok-names.ensures.author c.requires.is_author c.in_ok-names.ensures.fits refl,
-      stands (g.V.PlanView.states c.args.view.now) c.requires.well_formed c.args.place c.in_ok-spot.spot c.in_ok-spot.ensures.spot c.in_ok-spot.moved (vertex_good (g.V.PlanView.states c.args.view.now) c.requires.well_formed c.in_ok-spot.moved c.in_ok-spot.ensures.vertex.0.1) (c.in_ok-check_sort.ensures.same ∙ c.sort_of.ensures),
-    )
+returns-clause-made g c = (
+  has_names c.in_ok-names.names c.args.author 1 1 c.in_ok-names.ensures.author c.requires.is_author c.in_ok-names.ensures.fits refl,
+  stands (g.V.PlanView.states c.args.view.now) c.requires.well_formed c.args.place c.in_ok-spot.spot c.in_ok-spot.ensures.spot c.in_ok-spot.moved (vertex_good (g.V.PlanView.states c.args.view.now) c.requires.well_formed c.in_ok-spot.moved c.in_ok-spot.ensures.vertex.0.1) (c.in_ok-check_sort.ensures.same ∙ c.sort_of.ensures),
+)
 
 pub returns-clause-told : goal.returns-clause-told
 returns-clause-told g c lists of =
@@ -99,9 +97,9 @@ returns-clause-told g c lists of =
     record {
       no_fault =
           after_two (g.V.PlanView.states c.args.view.now) lists of (g.V.PlanView.opening c.args.view.now) c.args.author (Restore c.args.vertex c.args.place) c.args.place c.in_ok-spot.spot c.in_ok-spot.ensures.spot c.args.vertex c.in_ok-spot.moved c.in_ok-spot.ensures.vertex refl refl ∙ skip _ _ (sort_row lists (g.V.PlanView.opening c.args.view.now) c.args.author (Restore c.args.vertex c.args.place) c.args.place c.in_ok-spot.spot.vertex c.in_ok-spot.spot.sort c.sort_of.result None c.in_ok-spot.ensures.spot.wanted (ap (option_map (λ (w : Vertex). sort_of_ctor w.ctor)) named ∙ ap Some (sym c.sort_of.ensures)) c.in_ok-check_sort.ensures.fault)
-    ∙ skip _ _ (ap (λ (xs : List Edge). option_map Occupied (slice_get xs 0)) (sym es) ∙ c.in_ok-check_free.ensures)
-    ∙ skip _ _ (ap (below_itself lists.live c.in_ok-spot.spot.vertex) named ∙ ap (λ (xs : List Edge). below_itself xs c.in_ok-spot.spot.vertex (Some c.in_ok-spot.moved)) (sym live) ∙ c.in_ok-check_apart.ensures)
-    ∙ skip _ _ (ap (λ o. of_vertex o None (λ w. option_map NotLoose (slice_get (parents_of w lists.live) 0))) named ∙ ap (λ (xs : List Edge). option_map NotLoose (slice_get (parents_of c.in_ok-spot.moved xs) 0)) (sym live) ∙ c.in_ok-check_loose.ensures)
+          ∙ skip _ _ (ap (λ (xs : List Edge). option_map Occupied (slice_get xs 0)) (sym es) ∙ c.in_ok-check_free.ensures)
+          ∙ skip _ _ (ap (below_itself lists.live c.in_ok-spot.spot.vertex) named ∙ ap (λ (xs : List Edge). below_itself xs c.in_ok-spot.spot.vertex (Some c.in_ok-spot.moved)) (sym live) ∙ c.in_ok-check_apart.ensures)
+          ∙ skip _ _ (ap (λ o. of_vertex o None (λ w. option_map NotLoose (slice_get (parents_of w lists.live) 0))) named ∙ ap (λ (xs : List Edge). option_map NotLoose (slice_get (parents_of c.in_ok-spot.moved xs) 0)) (sym live) ∙ c.in_ok-check_loose.ensures)
           ∙ skip (names_spent lists c.args.author (Restore c.args.vertex c.args.place)) [] (names_fit (g.V.PlanView.states c.args.view.now) lists c.args.author (Restore c.args.vertex c.args.place) names.greatest 1 of c.in_ok-names.ensures.greatest refl c.in_ok-names.ensures.fits);
       edits_are =
           ap (λ (n : NewNames). edits_made (found.Restore spot moved n)) same ∙ ap (λ (p : Place). edits_made (found.Restore (record spot { place = p }) moved own)) c.in_ok-spot.ensures.spot.is_place

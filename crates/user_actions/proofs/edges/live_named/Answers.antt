@@ -1,4 +1,4 @@
-use Rattle.std.proofs.Common.{◌≡◌, filter, ap, ◌∙◌}
+use Rattle.std.proofs.Common.{filter, ap, ◌∙◌}
 use Rattle.user_actions.specs.NamedEdges.{is_live_in}
 use Rattle.user_actions.proofs.LiveEdges.{named_live_is, live_is_known}
 use Rattle.user_actions.proofs.edges.live_named.Goals as goal
