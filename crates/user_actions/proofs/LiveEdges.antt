@@ -27,8 +27,10 @@ use Rattle.user_actions.specs.Carried.{carried}
 use Rattle.user_actions.specs.Good.{AreWellFormed, AreOpening}
 use Rattle.user_actions.specs.Lists.{GraphLists, AreListsOf}
 use Rattle.user_actions.specs.Names.{is_same_name, edges_named}
-use Rattle.user_actions.specs.NamedEdges.{AreNamed, is_live, is_live_in}
-use Rattle.user_actions.proofs.SomeLists.{live_from_test}
+use Rattle.walks.specs.Named.{AreNamed}
+use Rattle.walks.specs.States.{is_live}
+use Rattle.walks.proofs.Truths.{live_from_test}
+use Rattle.user_actions.specs.NamedEdges.{is_live_in}
 use Rattle.user_actions.proofs.GoodEdges.{parts_of, sort_from_test}
 use Rattle.user_actions.proofs.OnePlace.{entry_found, carried_is}
 use Rattle.grove_sorts.proofs.Truths.{both_true, and_true, same_tests}
