@@ -9,10 +9,10 @@ use Rattle.grove_top.proofs.NeverUnfit.{never_unfit}
 use Rattle.grove_top.proofs.top.run_plain.Goals as goal
 
 pub serve-ending-requires-clause-sound : goal.serve-ending-requires-clause-sound
-serve-ending-requires-clause-sound g c κs within = top_sound
+serve-ending-requires-clause-sound g c = top_sound
 
 pub serve-ending-requires-clause-asked : goal.serve-ending-requires-clause-asked
-serve-ending-requires-clause-asked g c κs within = asked top_rules (λ form. Ask form.question) c.plain_form.result c.args.words.now c.plain_form.ensures
+serve-ending-requires-clause-asked g c = asked top_rules (λ form. Ask form.question) c.plain_form.result c.args.words.now c.plain_form.ensures
 
 pub status_of-requires : goal.status_of-requires
 status_of-requires g c = never_unfit c.args.words.now _ _ c.serve-ending.result.1 c.serve-ending.result.0 (c.serve-ending.ensures c.args.words.now c.plain_form.ensures).meets
