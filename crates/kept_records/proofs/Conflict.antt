@@ -24,7 +24,7 @@ use Rattle.walks.specs.declared.class.Class.TheVariants.{Inner}
 use Rattle.walks.specs.Live.{holds_edge, children_of, parents_of}
 use Rattle.walks.specs.Class.{class}
 use Rattle.walks.specs.Whole.{IsVertexOf, AreLive}
-use Rattle.walks.proofs.Chains.{has_chain}
+use Rattle.walks.proofs.Chains.{has_chain, chain_is_one}
 use Rattle.grove_terms.specs.Forest.{Forest, none, multi_ref, cycle_ref, tree, child_edges, edges_from, edges_under, StandsUnder}
 use Rattle.grove_terms.specs.Nodes.{count_at}
 use Rattle.grove_terms.proofs.Forests.{one_forest}
@@ -246,9 +246,9 @@ module _ (edits : List Edit) (edit : Edit) (old new : List Edge) (live_old : Are
     refuted there =
         let stands = child_stands new well_after s after.above after.forest after.demanded after.stands x c is in
         let r = line.find_on new s (line.rises e old new change stay) (has_chain new s).is x.target there in
-        let chain = line.one_chain new x.target r.behind (s ∷ after.above) r.chain
+        let chain = chain_is_one new x.target r.behind (s ∷ after.above) r.chain
         (line.chain_of new well_after (s ∷ after.above) x.target c (demanded_at (expression_of s after.forest after.demanded) after.forest x.position) stands) in
-        let up = line.one_chain new s after.above (line.rises e old new change stay) (line.chain_of new well_after after.above s after.forest after.demanded after.stands) (has_chain new s).is in
+        let up = chain_is_one new s after.above (line.rises e old new change stay) (line.chain_of new well_after after.above s after.forest after.demanded after.stands) (has_chain new s).is in
         longer (s ∷ line.rises e old new change stay) r.before x.target (r.split ∙ ap (λ ws. r.before ++ x.target ∷ ws) (chain ∙ ap (λ ws. s ∷ ws) up))
 
   -- ---- at other positions it has the same children

@@ -17,7 +17,7 @@ use Rattle.walks.specs.Live.{holds_edge, parents_of}
 use Rattle.walks.specs.Walk.{only_source, walk}
 use Rattle.walks.specs.Class.{class, is_same_class}
 use Rattle.walks.specs.Whole.{IsVertexOf, AreLive}
-use Rattle.walks.proofs.Chains.{IsChain, has_chain, chain_apart, inner_from_test}
+use Rattle.walks.proofs.Chains.{IsChain, has_chain, chain_apart, inner_from_test, chain_is_one}
 use Rattle.grove_terms.specs.Forest.{Forest, edges_under, StandsUnder}
 use Rattle.mark_step.specs.Expression.{Demanded}
 use Rattle.mark_step.specs.Step.{settled}
@@ -252,7 +252,7 @@ module _ (e : Edge) (old new : List Edge) (change : Changes e old new) (stay : C
         (w.anew.way_on v (line.below_on_way e old new change stay way top w.leads v us chain (ap (λ z. stands_in z us) one ∙ stands) is)) off
     by_start x (is_target begun one) stands is =
         let r = line.find_on new e.source (line.rises e old new change stay) (has_chain new e.source).is v is in
-        let same = line.one_chain new v r.behind us r.chain chain in
+        let same = chain_is_one new v r.behind us r.chain chain in
         not_both (on_line e.target)
         (ap (stands_in e.target) (r.split ∙ ap (λ ws. r.before ++ v ∷ ws) same)
         ∙ line.stands_behind r.before e.target (v ∷ us) (or_right (is_same_vertex v e.target) (stands_in e.target us) (ap (λ z. stands_in z us) one ∙ stands)))
@@ -365,7 +365,7 @@ module _ (e : Edge) (old new : List Edge) (change : Changes e old new) (stay : C
     placed : (x : Vertex) (base : List Vertex) → is_start x ≡ true → (above_it before : List Vertex) → IsChain new v above_it → v ∷ above_it ≡ before ++ x ∷ base → inside (v ∷ us) ≡ true
     placed x base starts above_it before chain split =
         start_inside x starts (v ∷ us)
-        (ap (stands_in x) (ap (λ ws. v ∷ ws) (line.one_chain new v us above_it (line.chain_of new well_new us v f d s) chain) ∙ split) ∙ line.stands_behind before x (x ∷ base) (line.itself_first x base))
+        (ap (stands_in x) (ap (λ ws. v ∷ ws) (chain_is_one new v us above_it (line.chain_of new well_new us v f d s) chain) ∙ split) ∙ line.stands_behind before x (x ∷ base) (line.itself_first x base))
 
     by_target : (b : Bool) → part.begins ≡ b → has_name v w.target ≡ true → inside (v ∷ us) ≡ true
     by_target true begun named_there =
@@ -388,7 +388,7 @@ module _ (e : Edge) (old new : List Edge) (change : Changes e old new) (stay : C
   source_deep : (us : List Vertex) (f : Forest) (d : Demanded) → Stands new us e.source f d → inside (e.source ∷ us) ≡ true
   source_deep us f d s =
       start_inside top top_starts (e.source ∷ us)
-      (ap (λ ws. stands_in top (e.source ∷ ws)) (line.one_chain new e.source us (line.rises e old new change stay) (line.chain_of new well_new us e.source f d s) (has_chain new e.source).is) ∙ top_on_line)
+      (ap (λ ws. stands_in top (e.source ∷ ws)) (chain_is_one new e.source us (line.rises e old new change stay) (line.chain_of new well_new us e.source f d s) (has_chain new e.source).is) ∙ top_on_line)
 
   outside_no_source : (us : List Vertex) (v : Vertex) (f : Forest) (d : Demanded) → Stands new us v f d → inside (v ∷ us) ≡ false → v ≡ e.source → ⊥
   outside_no_source us v f d s out one =
@@ -414,7 +414,7 @@ module _ (e : Edge) (old new : List Edge) (change : Changes e old new) (stay : C
     by_start x (is_target begun one) stands =
         not_both (on_line e.target)
         (line.above_top_on_line e old new change stay way top w.leads e.target
-        (ap (stands_in e.target) (line.one_chain new top up.base (u ∷ us) up.chain chain) ∙ ap (λ z. stands_in z (u ∷ us)) one ∙ stands))
+        (ap (stands_in e.target) (chain_is_one new top up.base (u ∷ us) up.chain chain) ∙ ap (λ z. stands_in z (u ∷ us)) one ∙ stands))
         (part.off begun)
 
   module _ (stays_above : TypeStays new records top w.makes_own.forest) where
@@ -458,7 +458,7 @@ module _ (e : Edge) (old new : List Edge) (change : Changes e old new) (stay : C
             out_above : inside (u ∷ ws) ≡ false
             out_above =
                 ap (λ z. inside (z ∷ ws)) parent
-                ∙ ap (λ zs. inside (v ∷ zs)) (line.one_chain new v ws us (subst (λ z. IsChain new z ws) parent (line.chain_of new well_new ws u s'.0 s'.1 s'.2)) (line.chain_of new well_new us v f d s))
+                ∙ ap (λ zs. inside (v ∷ zs)) (chain_is_one new v ws us (subst (λ z. IsChain new z ws) parent (line.chain_of new well_new ws u s'.0 s'.1 s'.2)) (line.chain_of new well_new us v f d s))
                 ∙ out
 
             by_start : (b : Bool) → is_start x.target ≡ b → typ_in (after x.target) ≡ typ_in (records x.target)
@@ -605,7 +605,7 @@ module _ (e : Edge) (old new : List Edge) (change : Changes e old new) (stay : C
               by_side : (is_start v ≡ true) ⊎ (inside us ≡ true) → is_start v ≡ true
               by_side (inl starts) = starts
               by_side (inr higher) =
-                  absurd (not_both (inside us) higher (ap inside (line.one_chain new v us ws (line.chain_of new well_new us v f d s) (line.chain_of new well_new ws v f d s')) ∙ lower))
+                  absurd (not_both (inside us) higher (ap inside (chain_is_one new v us ws (line.chain_of new well_new us v f d s) (line.chain_of new well_new ws v f d s')) ∙ lower))
 
             at_start : StartsThere v → demanded_of new after v ≡ d
             at_start (is_target begun one) =
@@ -711,7 +711,7 @@ module _ (e : Edge) (old new : List Edge) (change : Changes e old new) (stay : C
           apart v in_target in_own =
               let a = start_pass on new records h live_new well_new [] e.target at_target.forest alone (target_there begun) w.target (part.starts begun) v in_target in
               let b = start_pass on new records h live_new well_new at_top.above top at_top.forest at_top.demanded at_top.stands w.own own_starts v in_own in
-              let one = line.one_chain new v a.above_it b.above_it (line.chain_of new well_new a.above_it v a.forest a.demanded a.stands) (line.chain_of new well_new b.above_it v b.forest b.demanded b.stands) in
+              let one = chain_is_one new v a.above_it b.above_it (line.chain_of new well_new a.above_it v a.forest a.demanded a.stands) (line.chain_of new well_new b.above_it v b.forest b.demanded b.stands) in
               refuted (later_of b.before at_top.above a.before [] top e.target (sym b.chain ∙ ap (λ ws. v ∷ ws) (sym one) ∙ a.chain)) where
                 high : stands_in e.target (top ∷ at_top.above) ≡ true → ⊥
                 high stands = not_both (on_line e.target) (by_side (or_cases (is_same_vertex top e.target) (stands_in e.target at_top.above) stands)) (part.off begun) where
@@ -719,7 +719,7 @@ module _ (e : Edge) (old new : List Edge) (change : Changes e old new) (stay : C
                   by_side (inl same) = ap on_line (sym (same_vertex_exact top e.target same)) ∙ top_on_line
                   by_side (inr higher) =
                       line.above_top_on_line e old new change stay way top w.leads e.target
-                      (ap (stands_in e.target) (line.one_chain new top up.base at_top.above up.chain (line.chain_of new well_new at_top.above top at_top.forest at_top.demanded at_top.stands)) ∙ higher)
+                      (ap (stands_in e.target) (chain_is_one new top up.base at_top.above up.chain (line.chain_of new well_new at_top.above top at_top.forest at_top.demanded at_top.stands)) ∙ higher)
 
                 refuted : (stands_in e.target (top ∷ at_top.above) ≡ true) ⊎ (stands_in top (e.target ∷ []) ≡ true) → ⊥
                 refuted (inl stands) = high stands

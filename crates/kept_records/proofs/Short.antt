@@ -17,7 +17,7 @@ use Rattle.walks.specs.Walk.{above, GoesOn, walk}
 use Rattle.walks.specs.Class.{class}
 use Rattle.walks.specs.Whole.{IsVertexOf, AreVertices, AreLive}
 use Rattle.walks.proofs.Endings.{walk_is}
-use Rattle.walks.proofs.Chains.{IsChain, has_chain, chain_apart}
+use Rattle.walks.proofs.Chains.{IsChain, has_chain, chain_apart, chain_is_one}
 use Rattle.walks.proofs.Returns.{some_same}
 use Rattle.grove_terms.specs.Forest.{Forest, edges_under}
 use Rattle.grove_terms.proofs.WellSorted.{live_well_formed}
@@ -146,7 +146,7 @@ module _ (edits : List Edit) (edit : Edit) (old new : List Edge) (live_old : Are
               refuted there =
                   let chain = line.chain_of new (well_new edits edit old new live_old live_new) (us ++ e.target ∷ vs) v f d s in
                   let r = line.find_on new e.source (line.rises e old new change stay) (has_chain new e.source).is v there in
-                  let same = line.one_chain new v r.behind (us ++ e.target ∷ vs) r.chain chain in
+                  let same = chain_is_one new v r.behind (us ++ e.target ∷ vs) r.chain chain in
                   not_both (line.on_line e old new change stay e.target)
                   (ap (stands_in e.target) (r.split ∙ ap (λ ws. r.before ++ v ∷ ws) same)
                   ∙ line.stands_behind r.before e.target (v ∷ (us ++ e.target ∷ vs))
