@@ -1,10 +1,10 @@
 ghost use Rattle.std.specs.Prelude.{◌+◌, ◌%◌, ◌^◌};
 
+use graph_words::Steps;
 use grove_edits::Actor;
 use shared_replica::{Machine, NoMemory};
 use std::alloc::Global;
 use std::sync::ledger::Ledger;
-use walks::Steps;
 
 /// A sum. A command adds a number to it, and the reply is the sum then.
 #[derive(Drop)]

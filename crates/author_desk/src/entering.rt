@@ -4,11 +4,11 @@ ghost use Rattle.grove_edits.specs.declared.command.Command.TheVariants.{Act};
 ghost use Rattle.shared_replica.specs.Passes.{EntersAll};
 ghost use Rattle.author_desk.specs.Turns.{EntersFirstLines};
 
-use crate::no_memory::NoMemory;
 use grove_edits::{Action, Command};
 use shared_replica::{Machine, Pass, Shared};
 use std::alloc::Global;
 use std::sync::Wait;
+use text_parts::NoMemory;
 
 fn commands_of(alloc: Global, lines: &[Action]) -> Result<Vec<Command>, NoMemory>
     ensures { IfOk result (λ commands. commands.items ≡ map Act lines.now) }

@@ -10,11 +10,10 @@ mod cuts;
 mod entering;
 mod laws;
 mod lines;
-mod no_memory;
 mod opening;
 mod starting;
 
 pub use cuts::Cuts;
 pub use laws::{each_turn_stands_together, turns_have_each_line_once};
 pub use lines::run_lines;
-pub use no_memory::NoMemory;
+pub use text_parts::NoMemory;

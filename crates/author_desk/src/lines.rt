@@ -7,13 +7,13 @@ ghost use Rattle.author_desk.specs.Cuts.{opening_edits, CanRaise, Raises, Raises
 
 use crate::cuts::Cuts;
 use crate::entering::enter;
-use crate::no_memory::NoMemory;
 use crate::starting::start_turn;
 use grove_edits::{Action, Command};
 use grove_io::Gate;
 use shared_replica::{Machine, Pass, Shared};
 use std::alloc::Global;
 use std::sync::Wait;
+use text_parts::NoMemory;
 
 /// Enters the lines of an author, each once and in order. The gate is asked before each line starts, with the author and the number
 /// of the line in the whole session, at most 1,000,000 times until it is ready. `first_call` is the number of the first line.

@@ -15,7 +15,7 @@ use Rattle.grove_edits.specs.declared.vertex.Vertex.{Vertex}
 use Rattle.grove_edits.specs.declared.edge.Edge.{Edge}
 use Rattle.grove_edits.specs.Vertex.{vertex_cmp}
 use Rattle.grove_edits.proofs.Orders.{cmp_is_vertex_cmp}
-use Rattle.walks.specs.Live.{children_of, is_from}
+use Rattle.graph_words.specs.Live.{children_of, is_from}
 use Rattle.edge_index.specs.Lists.{Indexed, room_at, with_key}
 use Rattle.child_index.specs.declared.origin.Origin.{Origin}
 use Rattle.child_index.specs.contracts.origin.OriginOrd.TheImpl as impl

@@ -1,21 +1,21 @@
 ghost use Rattle.std.specs.Prelude.{◌≡◌, ◌+◌, ◌<◌, ◌≤◌, [], true, false, if◌then◌else◌, count_by, length, OnOk};
 ghost use Rattle.grove_sorts.specs.declared.position.Position.{Position};
 ghost use Rattle.grove_edits.specs.declared.vertex.Vertex.{Vertex};
-ghost use Rattle.walks.specs.Live.{IsInEdgeOrder, children_of, holds_edge, is_from};
-ghost use Rattle.walks.specs.Ordered.{with_edge, without_edge};
+ghost use Rattle.graph_words.specs.Live.{IsInEdgeOrder, children_of, holds_edge, is_from};
+ghost use Rattle.graph_words.specs.Ordered.{with_edge, without_edge};
 ghost use Rattle.edge_index.specs.Lists.{live};
 ghost use Rattle.child_index.specs.Origin.{room_at_origin};
 
-use crate::no_memory::NoMemory;
 use crate::origin::Origin;
 use edge_index::EdgeIndex;
+use graph_words::Steps;
 use grove_edits::{Edge, Vertex};
 use grove_sorts::Position;
 use seeded_hash::HashSeed;
 use std::alloc::Global;
 use std::marker::Model;
 use std::sync::ledger::Ledger;
-use walks::Steps;
+use text_parts::NoMemory;
 
 /// Live edges by their source and position.
 #[derive(Drop)]

@@ -3,9 +3,8 @@
 #![tactic(auto)]
 
 mod child_index;
-mod no_memory;
 mod origin;
 
 pub use child_index::ChildIndex;
-pub use no_memory::NoMemory;
 pub use origin::Origin;
+pub use text_parts::NoMemory;

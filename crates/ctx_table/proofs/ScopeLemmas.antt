@@ -3,7 +3,7 @@ use Rattle.std.proofs.Common.{◌≡◌, ◌≢◌, ℕ, ◌+◌, ◌*◌, ◌<�
 use Rattle.std.proofs.lemmas.Bool.{cases_order}
 use Rattle.std.proofs.lemmas.List.{length_push, get_or_append_left, get_or_push}
 use Rattle.std.specs.Prelude.{Result, Ok, Err, IfOk, OnOk, OnErr}
-use Rattle.ctx_table.specs.declared.no_memory.NoMemory.{NoMemory}
+use Rattle.text_parts.specs.declared.no_memory.NoMemory.{NoMemory}
 use Rattle.type_core.specs.declared.type_id.TypeId.{TypeId}
 use Rattle.ctx_table.specs.declared.scopes.Scope.{Scope}
 use Rattle.ctx_table.specs.Scopes.{nothing, scope_at, IsScope, half, number_along, type_along, Binds, IsArena, KeepsScopes, Rebinds}

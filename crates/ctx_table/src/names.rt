@@ -1,9 +1,9 @@
 ghost use Rattle.std.specs.Prelude.{◌≡◌, Some, IfOk};
 ghost use Rattle.ctx_table.specs.Names.{number_in, AreNumbered, KeepsNumbers};
 
-use crate::no_memory::NoMemory;
 use grove_sorts::Ident;
 use std::collections::BTreeMap;
+use text_parts::NoMemory;
 
 // The number of a name, which gets the next one where it has none.
 pub(crate) fn number_of(names: &mut BTreeMap<Ident, u64>, name: Ident) -> Result<u64, NoMemory>

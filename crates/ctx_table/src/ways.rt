@@ -9,12 +9,12 @@ ghost use Rattle.ctx_table.specs.Tables.{way_at, IsMapOf, IsMapped, IsNear};
 use crate::ctx_id::CtxId;
 use crate::link::Link;
 use crate::names::number_of;
-use crate::no_memory::NoMemory;
 use crate::scopes::{EMPTY, Scope, bind};
 use grove_sorts::Ident;
 use indexmap::IndexMap;
 use seeded_hash::HashSeed;
 use std::collections::BTreeMap;
+use text_parts::NoMemory;
 
 // How many contexts a search goes outward over at most.
 const LONGEST: u8 = 16;

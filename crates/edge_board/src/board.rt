@@ -5,7 +5,6 @@ ghost use Rattle.edge_board.specs.States.{state_at, raised, AreAtMost};
 ghost use Rattle.edge_board.specs.Seats.{first_board_seat, after_raise, after_read, kept_board_seat, given_board_seat, joined_board_seat};
 
 use crate::known::{Known, OneBoard, Terms};
-use crate::no_memory::NoMemory;
 use crate::plays::{Both, Cut, Look, Raise};
 use crate::seat::BoardSeat;
 use crate::words::{DELETED, state_of, words_of};
@@ -13,6 +12,7 @@ use atomic_table::Table;
 use edge_lattice::State;
 use std::alloc::Global;
 use std::marker::Model;
+use text_parts::NoMemory;
 
 /// One word for each state of a list. Contracts see which board it is, and what it was made with.
 #[derive(Drop)]

@@ -7,11 +7,10 @@
 
 mod board;
 mod known;
-mod no_memory;
 mod plays;
 mod seat;
 mod words;
 
 pub use board::Board;
-pub use no_memory::NoMemory;
 pub use seat::BoardSeat;
+pub use text_parts::NoMemory;

@@ -17,11 +17,11 @@ use Rattle.grove_edits.specs.declared.edge.Edge.{Edge}
 use Rattle.grove_edits.specs.Edge.{edge_cmp}
 use Rattle.grove_edits.specs.Graph.{is_same_edge}
 use Rattle.grove_edits.proofs.Orders.{edge_cmp_exact, one_edge, same_edge_laws}
-use Rattle.walks.specs.Live.{IsInEdgeOrder, holds_edge}
+use Rattle.graph_words.specs.Live.{IsInEdgeOrder, holds_edge}
 use Rattle.edge_index.specs.Lists.{with_key, stands_among, keys_of_edges}
-use Rattle.walks.specs.Ordered.{put_before, with_edge, without_edge}
+use Rattle.graph_words.specs.Ordered.{put_before, with_edge, without_edge}
 use Rattle.edge_index.specs.ByKey.{ListsByKey, edges_of, edges_at, all_edges, IsByKey}
-use Rattle.walks.proofs.Ordered.{holds-with_edge, holds-filter, in_order-with_edge, in_order-filter, same_lists}
+use Rattle.graph_words.proofs.Ordered.{holds-with_edge, holds-filter, in_order-with_edge, in_order-filter, same_lists}
 use Rattle.edge_index.proofs.Lookups.{edges_at-with_key, in_order-all_edges}
 
 pub from_bool-le : (b : Bool) → from_bool b ≤ 1

@@ -14,14 +14,14 @@ use Rattle.std.proofs.lemmas.Map.Entries.{none_past_head}
 use Rattle.std.proofs.lemmas.Map.Keys.{IsDistinct-tail}
 use Rattle.grove_edits.specs.declared.edge.Edge.{Edge}
 use Rattle.grove_edits.specs.Graph.{is_same_edge}
-use Rattle.walks.specs.Live.{IsInEdgeOrder, holds_edge}
-use Rattle.walks.specs.Ordered.{with_edge, without_edge}
+use Rattle.graph_words.specs.Live.{IsInEdgeOrder, holds_edge}
+use Rattle.graph_words.specs.Ordered.{with_edge, without_edge}
 use Rattle.smallvec.specs.SmallVec.{SmallVec}
 use Rattle.edge_index.specs.Lists.{room_at, with_key}
 use Rattle.edge_index.specs.ByKey.{ListsByKey, room_in, edges_of, room_of, edges_at, all_edges, all_rooms, indexed, IsByKey}
 use Rattle.edge_index.proofs.Ties.{IsPut}
 use Rattle.grove_edits.proofs.Orders.{one_edge}
-use Rattle.walks.proofs.Ordered.{holds-with_edge, holds-with_edges, holds-filter, in_order-with_edge, in_order-with_edges, in_order-filter, same_lists}
+use Rattle.graph_words.proofs.Ordered.{holds-with_edge, holds-with_edges, holds-filter, in_order-with_edge, in_order-with_edges, in_order-filter, same_lists}
 use Rattle.grove_sorts.proofs.Orders.{equal_from_test}
 use Rattle.grove_sorts.proofs.Truths.{false_from, or_false}
 

@@ -9,10 +9,10 @@ use Rattle.grove_edits.specs.declared.edge.Edge.{Edge}
 use Rattle.grove_edits.specs.Edge.{edge_cmp}
 use Rattle.grove_edits.specs.Graph.{is_same_edge}
 use Rattle.grove_edits.proofs.Orders.{edge_cmp_total, edge_cmp_exact, same_edge_laws}
-use Rattle.walks.specs.Live.{IsInEdgeOrder, holds_edge}
-use Rattle.walks.specs.Ordered.{put_before, with_edge, without_edge}
+use Rattle.graph_words.specs.Live.{IsInEdgeOrder, holds_edge}
+use Rattle.graph_words.specs.Ordered.{put_before, with_edge, without_edge}
 use Rattle.edge_index.specs.Places.{place, place_by}
-use Rattle.walks.proofs.Ordered.{not_held_before, without_none, not_same_from_greater, all_after}
+use Rattle.graph_words.proofs.Ordered.{not_held_before, without_none, not_same_from_greater, all_after}
 use Rattle.grove_sorts.proofs.Truths.{less_from_test}
 
 after_first : (x : Edge) (xs : List Edge) → AllByRecursion (λ later. edge_cmp x later ≡ Less) xs → (j : ℕ) (d : Edge) → j < length xs → edge_cmp x (get_or xs j d) ≡ Less

@@ -7,9 +7,9 @@ use Rattle.std.specs.Map.{lookup, keys_of}
 use Rattle.std.specs.BTreeMap.{is_at}
 use Rattle.smallvec.specs.SmallVec.{SmallVec, small_vec_len}
 use Rattle.grove_edits.specs.declared.edge.Edge.{Edge}
-use Rattle.walks.specs.Live.{IsInEdgeOrder, holds_edge}
+use Rattle.graph_words.specs.Live.{IsInEdgeOrder, holds_edge}
 use Rattle.edge_index.specs.Lists.{Indexed, keys_of_edges}
-use Rattle.walks.specs.Ordered.{with_edges}
+use Rattle.graph_words.specs.Ordered.{with_edges}
 
 abbrev pub ListsByKey : Type 0 → Type 0
 ListsByKey K = List (K × SmallVec Edge)

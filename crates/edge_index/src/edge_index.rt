@@ -1,11 +1,10 @@
 ghost use Rattle.std.specs.Prelude.{◌≡◌, ◌+◌, ◌<◌, ◌≤◌, [], true, false, if◌then◌else◌, count_by, length, IfOk, OnOk};
 ghost use Rattle.std.specs.Ordering.{is_eq};
-ghost use Rattle.walks.specs.Live.{IsInEdgeOrder, holds_edge};
+ghost use Rattle.graph_words.specs.Live.{IsInEdgeOrder, holds_edge};
 ghost use Rattle.edge_index.specs.Lists.{live, room_at, number_at, with_key, keys_of_edges};
-ghost use Rattle.walks.specs.Ordered.{with_edge, without_edge};
+ghost use Rattle.graph_words.specs.Ordered.{with_edge, without_edge};
 
 use crate::in_order::{EdgesInOrder, make_room, put, take_out};
-use crate::no_memory::NoMemory;
 use grove_edits::Edge;
 use indexmap::IndexMap;
 use seeded_hash::HashSeed;
@@ -13,6 +12,7 @@ use smallvec::SmallVec;
 use std::alloc::Global;
 use std::hash::Hash;
 use std::marker::Model;
+use text_parts::NoMemory;
 
 /// What edges are looked up by. A key is found by its hash; the contracts tell keys apart by their order.
 pub trait Keyed: Ord + Hash + Copy + Sized {

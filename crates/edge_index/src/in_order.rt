@@ -1,14 +1,14 @@
 ghost use Rattle.std.specs.Prelude.{◌≡◌, ◌+◌, ◌<◌, ◌≤◌, true, false, OnOk};
-ghost use Rattle.walks.specs.Live.{IsInEdgeOrder, holds_edge};
+ghost use Rattle.graph_words.specs.Live.{IsInEdgeOrder, holds_edge};
 ghost use Rattle.grove_edits.specs.Edge.{edge_cmp};
 ghost use Rattle.edge_index.specs.ByKey.{room_in};
-ghost use Rattle.walks.specs.Ordered.{with_edge, without_edge};
+ghost use Rattle.graph_words.specs.Ordered.{with_edge, without_edge};
 ghost use Rattle.edge_index.specs.Places.{place};
 
-use crate::no_memory::NoMemory;
 use grove_edits::Edge;
 use smallvec::SmallVec;
 use std::cmp::Ordering;
+use text_parts::NoMemory;
 
 /// The edges of one key, in edge order. Most keys have one, which then needs no memory of its own.
 pub(crate) type EdgesInOrder = SmallVec<Edge, 1>;

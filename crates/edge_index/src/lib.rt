@@ -4,7 +4,6 @@
 
 mod edge_index;
 mod in_order;
-mod no_memory;
 
 pub use edge_index::{EdgeIndex, Keyed};
-pub use no_memory::NoMemory;
+pub use text_parts::NoMemory;

@@ -11,8 +11,8 @@ use Rattle.std.proofs.lemmas.Cmp.{tied_itself}
 use Rattle.grove_edits.specs.declared.edge.Edge.{Edge}
 use Rattle.grove_edits.specs.Graph.{is_same_edge}
 use Rattle.grove_edits.proofs.Orders.{one_edge, same_edge_laws}
-use Rattle.walks.specs.Live.{holds_edge}
-use Rattle.walks.specs.Ordered.{put_before, without_edge}
+use Rattle.graph_words.specs.Live.{holds_edge}
+use Rattle.graph_words.specs.Ordered.{put_before, without_edge}
 use Rattle.edge_lists.specs.Lists.{holds_number, without_number}
 use Rattle.edge_lists.specs.Order.{IsInOrder, with_edge_by, with_number}
 use Rattle.edge_lists.proofs.Prefixes.{Falls}

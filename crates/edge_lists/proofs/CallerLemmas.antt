@@ -5,8 +5,8 @@ use Rattle.std.proofs.lemmas.Bool.{eq-eqb}
 use Rattle.grove_sorts.proofs.Truths.{or_right}
 use Rattle.grove_edits.specs.declared.edge.Edge.{Edge}
 use Rattle.grove_edits.specs.Edge.{edge_cmp}
-use Rattle.walks.specs.Live.{IsInEdgeOrder}
-use Rattle.walks.specs.Ordered.{put_before, with_edge}
+use Rattle.graph_words.specs.Live.{IsInEdgeOrder}
+use Rattle.graph_words.specs.Ordered.{put_before, with_edge}
 use Rattle.edge_numbers.specs.Numbered.{Numbered, edge_at, KeepsNumbers}
 use Rattle.edge_lists.specs.Lists.{holds_number, AreEdgeNumbers}
 use Rattle.edge_lists.specs.Order.{IsInOrder, with_edge_by}

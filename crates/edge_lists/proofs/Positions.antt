@@ -12,8 +12,8 @@ use Rattle.grove_sorts.specs.Position.{position_cmp, is_same_position}
 use Rattle.grove_sorts.proofs.Orders.{position_cmp_total, equal_from_test}
 use Rattle.grove_edits.specs.declared.edge.Edge.{Edge}
 use Rattle.grove_edits.specs.Edge.{edge_cmp}
-use Rattle.walks.specs.Live.{IsInEdgeOrder}
-use Rattle.walks.specs.Ordered.{put_before, with_edge}
+use Rattle.graph_words.specs.Live.{IsInEdgeOrder}
+use Rattle.graph_words.specs.Ordered.{put_before, with_edge}
 use Rattle.edge_lists.specs.Lists.{with_position}
 use Rattle.edge_lists.specs.Order.{IsInOrder, position_first, with_edge_by}
 use Rattle.edge_lists.specs.Places.{is_up_to}

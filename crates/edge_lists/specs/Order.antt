@@ -7,7 +7,7 @@ use Rattle.std.specs.Ordering.{ordering_then, is_lt}
 use Rattle.grove_sorts.specs.Position.{position_cmp}
 use Rattle.grove_edits.specs.declared.edge.Edge.{Edge}
 use Rattle.grove_edits.specs.Edge.{edge_cmp}
-use Rattle.walks.specs.Ordered.{put_before}
+use Rattle.graph_words.specs.Ordered.{put_before}
 use Rattle.edge_numbers.specs.Numbered.{Numbered, edge_at}
 
 -- edges by position, and those of one position in edge order

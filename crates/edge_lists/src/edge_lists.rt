@@ -1,20 +1,20 @@
 ghost use Rattle.std.specs.Prelude.{◌≡◌, ℕ, ◌+◌, ◌<◌, ◌≤◌, ◌^◌, ◌++◌, ◌∷◌, ◌||◌, ◌&&◌, ◌==◌, not, true, false, [], length, map, if◌then◌else◌, OnOk, OnErr};
 ghost use Rattle.grove_sorts.specs.declared.position.Position.{Position};
 ghost use Rattle.grove_sorts.specs.Position.{is_same_position};
-ghost use Rattle.walks.specs.Live.{IsInEdgeOrder, holds_edge};
-ghost use Rattle.walks.specs.Ordered.{with_edge, without_edge};
+ghost use Rattle.graph_words.specs.Live.{IsInEdgeOrder, holds_edge};
+ghost use Rattle.graph_words.specs.Ordered.{with_edge, without_edge};
 ghost use Rattle.edge_numbers.specs.Numbered.{edge_at, IsEdgeNumber};
 ghost use Rattle.edge_lists.specs.Lists.{nothing_listed, numbers_at, places_at, edges_at, HasVertex, HasFreePlace, KeepsOthers, AreEdgeNumbers, holds_number, without_number, with_position, numbers_with_position};
 ghost use Rattle.edge_lists.specs.Order.{IsInOrder, position_first, with_edge_by, by_edge, with_number};
 
 use crate::list_order::{ByPosition, ListOrder};
 use crate::listed::Listed;
-use crate::no_memory::NoMemory;
 use crate::places::{place_in, place_of};
 use edge_numbers::EdgeNumbers;
 use grove_sorts::Position;
 use std::alloc::Global;
 use std::marker::{Model, PhantomData};
+use text_parts::NoMemory;
 
 /// Lists of edges by number, one for each vertex by number, each in an order.
 #[derive(Drop)]

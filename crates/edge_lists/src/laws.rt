@@ -1,8 +1,8 @@
 ghost use Rattle.std.specs.Prelude.{◌≡◌, ℕ, List, map};
 ghost use Rattle.grove_edits.specs.declared.edge.Edge.{Edge};
 ghost use Rattle.grove_edits.specs.Edge.{edge_cmp};
-ghost use Rattle.walks.specs.Live.{IsInEdgeOrder};
-ghost use Rattle.walks.specs.Ordered.{with_edge};
+ghost use Rattle.graph_words.specs.Live.{IsInEdgeOrder};
+ghost use Rattle.graph_words.specs.Ordered.{with_edge};
 ghost use Rattle.edge_numbers.specs.Numbered.{Numbered, edge_at, KeepsNumbers};
 ghost use Rattle.edge_lists.specs.Lists.{AreEdgeNumbers};
 ghost use Rattle.edge_lists.specs.Order.{IsInOrder, with_edge_by};

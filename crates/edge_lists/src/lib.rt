@@ -6,10 +6,9 @@ mod edge_lists;
 mod laws;
 mod list_order;
 mod listed;
-mod no_memory;
 mod places;
 
 pub use edge_lists::EdgeLists;
 pub use laws::{listed_edges_stay, lists_by_edge_are_in_edge_order};
 pub use list_order::{ByEdge, ByPosition, ListOrder};
-pub use no_memory::NoMemory;
+pub use text_parts::NoMemory;

@@ -1,10 +1,10 @@
 ghost use Rattle.std.specs.Prelude.{◌≡◌, ◌+◌, ◌<◌, ◌≤◌, length, insert, remove, OnOk, OnErr};
 ghost use Rattle.edge_lists.specs.Lists.{nothing_listed};
 
-use crate::no_memory::NoMemory;
 use smallvec::SmallVec;
 use std::alloc::Global;
 use std::marker::Model;
+use text_parts::NoMemory;
 
 /// The numbers of the edges at a vertex, and how many have a place. Most vertices have few, which then need no memory of their own.
 #[derive(Drop)]

@@ -5,7 +5,7 @@ use Rattle.grove_edits.specs.declared.vertex.Vertex.{Vertex}
 use Rattle.grove_edits.specs.declared.edge.Edge.{Edge}
 use Rattle.edge_numbers.specs.declared.narrow_edge.NarrowEdge.{NarrowEdge}
 use Rattle.edge_numbers.specs.Numbered.{with_entry, IsNumberOfEdge}
-use Rattle.walks.specs.States.{Entries, state_in, HasRoom, KeepsRoom}
+use Rattle.graph_words.specs.States.{Entries, state_in, HasRoom, KeepsRoom}
 use Rattle.edge_numbers.specs.Narrow.{NarrowEntries, edge_of, numbered}
 use Rattle.edge_numbers.proofs.Narrow.{number_read}
 use Rattle.edge_numbers.proofs.States.{KeepsPlaces, state_entered, room_entered, room_stays, numbers_entered}

@@ -16,7 +16,7 @@ use Rattle.grove_edits.specs.declared.edge.Edge.{Edge}
 use Rattle.grove_edits.specs.Graph.{is_same_edge}
 use Rattle.grove_edits.proofs.Orders.{one_edge, same_edge_laws}
 use Rattle.edge_numbers.specs.Numbered.{Numbered, edges_of, state_at, with_entry, no_edge, IsNumberOfEdge}
-use Rattle.walks.specs.States.{Entries, entry_at, state_in, with_state, HasRoom, KeepsRoom}
+use Rattle.graph_words.specs.States.{Entries, entry_at, state_in, with_state, HasRoom, KeepsRoom}
 
 same_number : (m n : ℕ) → Some m ≡ Some n → m ≡ n
 same_number m n same = cc

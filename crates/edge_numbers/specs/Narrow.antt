@@ -9,7 +9,7 @@ use Rattle.grove_edits.specs.Vertex.{root, is_same_vertex}
 use Rattle.grove_edits.specs.Graph.{is_same_edge}
 use Rattle.edge_numbers.specs.declared.narrow_edge.NarrowEdge.{NarrowEdge}
 use Rattle.edge_numbers.specs.Numbered.{Numbered, edges_of}
-use Rattle.walks.specs.States.{Entries}
+use Rattle.graph_words.specs.States.{Entries}
 
 -- the edge that a narrow one stands for
 abbrev pub edge_of : List Vertex → NarrowEdge → Edge

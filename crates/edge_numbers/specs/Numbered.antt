@@ -8,7 +8,7 @@ use Rattle.grove_edits.specs.declared.vertex.Vertex.{Vertex}
 use Rattle.grove_edits.specs.declared.edge.Edge.{Edge}
 use Rattle.grove_edits.specs.Vertex.{root, stands_in}
 use Rattle.grove_edits.specs.Graph.{is_same_edge}
-use Rattle.walks.specs.States.{Entries}
+use Rattle.graph_words.specs.States.{Entries}
 
 -- the vertices and the edges in the order of their numbers
 pub record Numbered : Type 0 where

@@ -7,12 +7,11 @@ ghost use Rattle.grove_edits.specs.Edge.{edge_cmp};
 ghost use Rattle.grove_edits.specs.Graph.{is_same_edge};
 ghost use Rattle.grove_edits.specs.Vertex.{is_same_vertex};
 ghost use Rattle.edge_numbers.specs.Numbered.{edges_of, states_of, edge_at, state_at, vertex_at, with_vertex, with_entry, IsEdgeNumber, IsVertexNumber, IsNumberOfEdge, IsNumberOfVertex, HasEndsIn, BeginsWith, KeepsNumbers};
-ghost use Rattle.walks.specs.States.{state_in, with_state, HasRoom, KeepsRoom};
+ghost use Rattle.graph_words.specs.States.{state_in, with_state, HasRoom, KeepsRoom};
 ghost use Rattle.edge_numbers.specs.Narrow.{edge_of, entries_of, HasEnds, IsNumbered};
 
 use crate::ends::{enter_vertex, find_ends};
 use crate::narrow_edge::NarrowEdge;
-use crate::no_memory::NoMemory;
 use crate::order::compare_edges;
 use edge_lattice::State;
 use grove_edits::{Edge, Vertex};
@@ -23,6 +22,7 @@ use seeded_hash::HashSeed;
 use std::alloc::Global;
 use std::cmp::Ordering;
 use std::marker::Model;
+use text_parts::NoMemory;
 
 /// The edges of a graph, each with its state, by number, and the vertices that they join by theirs.
 #[derive(Drop)]

@@ -6,10 +6,10 @@ ghost use Rattle.edge_numbers.specs.Numbered.{with_vertex, BeginsWith};
 ghost use Rattle.edge_numbers.specs.Narrow.{edge_of, HasEnds};
 
 use crate::narrow_edge::NarrowEdge;
-use crate::no_memory::NoMemory;
 use grove_edits::{Edge, Vertex};
 use indexmap::IndexSet;
 use seeded_hash::HashSeed;
+use text_parts::NoMemory;
 
 /// The number of a vertex, which gets the next one where it has none.
 pub(crate) fn enter_vertex(

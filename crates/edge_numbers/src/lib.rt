@@ -6,8 +6,7 @@
 mod edge_numbers;
 mod ends;
 mod narrow_edge;
-mod no_memory;
 mod order;
 
 pub use edge_numbers::EdgeNumbers;
-pub use no_memory::NoMemory;
+pub use text_parts::NoMemory;

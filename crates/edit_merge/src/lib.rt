@@ -7,8 +7,7 @@ mod edit_line;
 mod merge;
 mod named_line;
 mod naming;
-mod no_memory;
 mod writing;
 
 pub use merge::merge_lines;
-pub use no_memory::NoMemory;
+pub use text_parts::NoMemory;

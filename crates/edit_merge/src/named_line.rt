@@ -1,7 +1,7 @@
 ghost use Rattle.std.specs.Prelude.{◌≡◌, IfOk};
 
-use crate::no_memory::NoMemory;
 use grove_names::Name;
+use text_parts::NoMemory;
 
 /// The name of a line's edge, and the indexes of the line's first byte and of its LF in the text, ordered by the name first. Many are sorted
 /// at once, so the indexes are narrow.

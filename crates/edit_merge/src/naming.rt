@@ -3,11 +3,10 @@ ghost use Rattle.edit_text.specs.Text.{HasTextFault};
 ghost use Rattle.edit_merge.specs.Named.{AreNamed};
 
 use crate::named_line::NamedLine;
-use crate::no_memory::NoMemory;
 use edit_text::{TextFault, read_spelled_line};
 use grove_sorts::Version;
 use std::alloc::Global;
-use text_parts::split_at_first;
+use text_parts::{NoMemory, split_at_first};
 
 /// The named lines of a text, in the order in which they stand, or the first line that spells no edit.
 pub(crate) fn name_lines(

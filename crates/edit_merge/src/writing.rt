@@ -12,12 +12,12 @@ ghost use Rattle.edit_merge.specs.Named.{Stands, DoesStand, DoStand, StandsForAl
 
 use crate::edit_line::EditLine;
 use crate::named_line::NamedLine;
-use crate::no_memory::NoMemory;
 use edit_text::read_line;
 use grove_edits::Edit;
 use grove_names::Name;
 use grove_sorts::Version;
 use std::alloc::Global;
+use text_parts::NoMemory;
 
 /// The canonical text of the edits that sorted lines stand for.
 pub(crate) fn write_lines(

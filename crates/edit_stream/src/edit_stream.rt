@@ -7,14 +7,13 @@ ghost use Rattle.edit_stream.specs.Fault.{IsFeedFault, IfMalformed, IfNoMemory, 
 
 use crate::feed_fault::FeedFault;
 use crate::finish_fault::FinishFault;
-use crate::no_memory::NoMemory;
 use crate::reading::read_lines;
 use edit_text::LineFault;
 use grove_edits::EditList;
 use grove_sorts::Version;
 use std::alloc::Global;
 use std::marker::Model;
-use text_parts::split_at_first;
+use text_parts::{NoMemory, split_at_first};
 
 /// The lines of edits as they come in pieces: their version, the bytes behind the last LF, how many lines were ended, and the first fault.
 #[derive(Drop)]

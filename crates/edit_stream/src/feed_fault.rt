@@ -1,8 +1,8 @@
 ghost use Rattle.std.specs.Prelude.{◌≡◌};
 
-use crate::no_memory::NoMemory;
 use edit_text::LineFault;
 use std::alloc::AllocError;
+use text_parts::NoMemory;
 
 /// Why a piece was not taken.
 #[derive(Clone, Copy, Debug, PartialEq, Eq)]
@@ -29,16 +29,6 @@ impl From<AllocError> for FeedFault {
     ghost from_gives = { λ _ fault. fault ≡ NoMemory };
 
     fn from(_error: AllocError) -> FeedFault {
-        FeedFault::NoMemory
-    }
-}
-
-impl From<grove_edits::NoMemory> for FeedFault {
-    ghost use Rattle.edit_stream.specs.declared.feed_fault.FeedFault.TheVariants.{NoMemory};
-
-    ghost from_gives = { λ _ fault. fault ≡ NoMemory };
-
-    fn from(_error: grove_edits::NoMemory) -> FeedFault {
         FeedFault::NoMemory
     }
 }

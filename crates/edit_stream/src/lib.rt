@@ -6,11 +6,10 @@ mod edit_stream;
 mod feed_fault;
 mod finish_fault;
 mod laws;
-mod no_memory;
 mod reading;
 
 pub use edit_stream::EditStream;
 pub use feed_fault::FeedFault;
 pub use finish_fault::FinishFault;
 pub use laws::{a_stream_reads_its_text, cuts_do_not_matter};
-pub use no_memory::NoMemory;
+pub use text_parts::NoMemory;

@@ -4,12 +4,11 @@ ghost use Rattle.edit_text.specs.Line.{Spells, HasFault};
 ghost use Rattle.edit_text.specs.Text.{text_of, AreOf};
 ghost use Rattle.edit_stream.specs.Stream.{Reads};
 
-use crate::no_memory::NoMemory;
 use edit_text::{LineFault, read_line};
 use grove_edits::{Edit, EditList};
 use grove_sorts::Version;
 use std::alloc::Global;
-use text_parts::split_at_first;
+use text_parts::{NoMemory, split_at_first};
 
 /// What the ended lines of a text give: their edits up to the first bad line, its fault if there is one, and else the bytes behind the last LF.
 #[derive(Drop)]

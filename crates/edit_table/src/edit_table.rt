@@ -5,7 +5,6 @@ ghost use Rattle.edit_table.specs.Table.{edge_at, kind_at, vertex_at, AreEnds, I
 use crate::edit_table_builder::EditTableBuilder;
 use crate::lending::lent_ctor;
 use crate::lent_vertex::LentVertex;
-use crate::no_memory::NoMemory;
 use crate::record::Record;
 use crate::table_vertex::TableVertex;
 use crate::vertex_key::VertexKey;
@@ -16,6 +15,7 @@ use indexmap::IndexSet;
 use seeded_hash::HashSeed;
 use std::alloc::Global;
 use std::marker::Model;
+use text_parts::NoMemory;
 
 /// Edits in order, in a few bytes each, whose vertices are numbered: the root is number 0, and each other vertex has the next number
 /// where it is met first. A table is only read. Contracts see the edits and the vertices, in the order of their numbers.

@@ -5,7 +5,6 @@ ghost use Rattle.grove_edits.specs.Vertex.{root};
 
 use crate::edit_table::EditTable;
 use crate::likely_ends::WAITING;
-use crate::no_memory::NoMemory;
 use crate::numbering::{plain_ctors, push_records};
 use crate::ranking::rank_ctors;
 use crate::record::Record;
@@ -18,6 +17,7 @@ use indexmap::IndexSet;
 use seeded_hash::HashSeed;
 use std::alloc::Global;
 use std::marker::Model;
+use text_parts::NoMemory;
 
 /// A table of edits that grows. Contracts see what they see of a table that is read.
 #[derive(Drop)]

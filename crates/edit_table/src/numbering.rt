@@ -11,7 +11,6 @@ ghost use Rattle.edit_table.specs.Keys.{plain_key, is_short, vertices_of, with_v
 ghost use Rattle.edit_table.specs.Records.{edits_of, AreRecords};
 
 use crate::likely_ends::LikelyEnds;
-use crate::no_memory::NoMemory;
 use crate::record::Record;
 use crate::vertex_key::{CtorKey, NONE, VertexKey};
 use grove_edits::{SpelledEdit, SpelledVertex};
@@ -19,6 +18,7 @@ use grove_sorts::{Ctor, SpelledCtor, all_plain};
 use indexmap::IndexSet;
 use seeded_hash::HashSeed;
 use std::alloc::Global;
+use text_parts::NoMemory;
 
 /// The constructors that carry nothing, each at the index that is its number.
 pub(crate) fn plain_ctors(

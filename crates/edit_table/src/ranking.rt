@@ -4,9 +4,9 @@ ghost use Rattle.edit_table.specs.declared.ranking.NumberedCtor.{NumberedCtor};
 ghost use Rattle.edit_table.specs.Keys.{StandOnce};
 ghost use Rattle.edit_table.specs.Ranks.{numbered_from, AreIndices, AreRanks};
 
-use crate::no_memory::NoMemory;
 use grove_sorts::Ctor;
 use std::alloc::Global;
+use text_parts::NoMemory;
 
 // A constructor beside its number. They are sorted whole, so that memory is read in order: what numbers alone point to lies all over it.
 #[derive(Clone, Copy)]

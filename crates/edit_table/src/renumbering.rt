@@ -6,10 +6,10 @@ ghost use Rattle.edit_table.specs.Keys.{vertices_of};
 ghost use Rattle.edit_table.specs.Records.{edits_of, AreRecords};
 ghost use Rattle.edit_table.specs.Renumbered.{AreRenumbered, DifferInNumber, HasNewEnds};
 
-use crate::no_memory::NoMemory;
 use crate::record::Record;
 use crate::vertex_key::{NONE, VertexKey};
 use std::alloc::Global;
+use text_parts::NoMemory;
 
 /// Numbers the vertices of records anew, in the order in which they are met there; the root stays number 0. Gives their keys by the new
 /// numbers.

@@ -1,4 +1,5 @@
 -- The one line of each edit, and the first fault of a line that is none.
+-- The promise of the commands rests on these definitions.
 use Rattle.std.specs.Prelude.{◌≡◌, ◌≢◌, ℕ, List, [], ◌∷◌, ◌++◌, Some}
 use Rattle.grove_names.specs.Name.{name_text}
 use Rattle.grove_sorts.specs.Ctor.{ctor_text}

@@ -1,4 +1,5 @@
 -- The text of a list of edits, and where a text that is none goes wrong.
+-- The promise of the commands rests on these definitions.
 use Rattle.std.specs.Prelude.{◌≡◌, ◌≢◌, ℕ, ◌+◌, List, [], ◌∷◌, ◌++◌, length}
 use Rattle.std.specs.List.{flat_map, AllByRecursion}
 use Rattle.text_parts.specs.Separated.{Lacks}

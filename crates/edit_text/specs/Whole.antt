@@ -1,4 +1,5 @@
 -- Texts with the line that tells their version, and where a text that is none goes wrong.
+-- The promise of the commands rests on these definitions.
 use Rattle.std.specs.Prelude.{◌≡◌, ◌≢◌, ℕ, ◌+◌, List, [], ◌∷◌, ◌++◌, codes}
 use Rattle.grove_sorts.specs.declared.version.Version.{Version}
 use Rattle.grove_sorts.specs.declared.version.Version.TheVariants.{One, Two}

@@ -6,7 +6,6 @@
 mod laws;
 mod line;
 mod line_fault;
-mod no_memory;
 mod text_fault;
 mod version;
 mod write;
@@ -14,7 +13,7 @@ mod write;
 pub use laws::{lines_are_exact, texts_are_exact, whole_texts_are_exact};
 pub use line::{read_line, read_spelled_line};
 pub use line_fault::LineFault;
-pub use no_memory::NoMemory;
 pub use text_fault::TextFault;
+pub use text_parts::NoMemory;
 pub use version::{header_lines, split_version, write_version};
 pub use write::{write_edits, write_line};

@@ -2,6 +2,7 @@ ghost use Rattle.std.specs.Prelude.{◌≡◌};
 ghost use Rattle.edit_text.specs.declared.text_fault.TextFault.TheVariants.{NoMemory};
 
 use crate::line_fault::LineFault;
+use text_parts::NoMemory;
 
 /// Why a text was not read.
 #[derive(Clone, Copy, Debug, PartialEq, Eq)]
@@ -14,10 +15,10 @@ pub enum TextFault {
     NoMemory,
 }
 
-impl From<grove_edits::NoMemory> for TextFault {
+impl From<NoMemory> for TextFault {
     ghost from_gives = { λ _ fault. fault ≡ NoMemory };
 
-    fn from(_error: grove_edits::NoMemory) -> TextFault {
+    fn from(_error: NoMemory) -> TextFault {
         TextFault::NoMemory
     }
 }

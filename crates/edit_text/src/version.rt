@@ -1,8 +1,8 @@
 ghost use Rattle.std.specs.Prelude.{◌≡◌, ◌++◌, OnOk, OnErr};
 ghost use Rattle.edit_text.specs.Whole.{HasVersion, header, header_lines};
 
-use crate::no_memory::NoMemory;
 use grove_sorts::Version;
+use text_parts::NoMemory;
 
 // The line that a text of version two begins with.
 const VERSION_TWO: &[u8] = b"grove 2\n";

@@ -4,10 +4,10 @@ ghost use Rattle.grove_sorts.specs.Ctor.{ctor_text};
 ghost use Rattle.edit_text.specs.Line.{spaced, edge_parts, Extends};
 ghost use Rattle.edit_text.specs.Text.{line_of, text_of};
 
-use crate::no_memory::NoMemory;
 use grove_edits::{Edge, Edit, EditKind, Vertex};
 use grove_names::write_name;
 use grove_sorts::{write_ctor, write_position};
+use text_parts::NoMemory;
 
 /// Appends an edit's line with its LF.
 pub fn write_line(edit: &Edit, out: &mut Vec<u8>) -> Result<(), NoMemory>

@@ -22,9 +22,9 @@ use Rattle.grove_edits.specs.Vertex.{vertex_cmp, root}
 use Rattle.grove_edits.specs.Edge.{edge_cmp}
 use Rattle.grove_edits.proofs.Orders.{vertex_cmp_total, vertex_cmp_exact, cmp_is_vertex_cmp, edge_cmp_total, edge_cmp_exact, cmp_is_edge_cmp}
 use Rattle.graph_store.specs.Counts.{count_at, count_of, IsCounted}
-use Rattle.walks.specs.States.{is_present, Entries, entry_at, state_in}
+use Rattle.graph_words.specs.States.{is_present, Entries, entry_at, state_in}
 use Rattle.graph_store.specs.Greatest.{IsNameOfCounted}
-use Rattle.walks.specs.Names.{IsNameOf, IsNameOfEdge, IsGreatest}
+use Rattle.graph_words.specs.Names.{IsNameOf, IsNameOfEdge, IsGreatest}
 use Rattle.graph_store.proofs.Joins.{in_edge_order}
 use Rattle.graph_store.proofs.Names.{absent_not_present, present_from_state}
 use Rattle.graph_store.proofs.Leasts.{holds, sorted_part, found_part}

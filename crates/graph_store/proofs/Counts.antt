@@ -16,7 +16,7 @@ use Rattle.grove_edits.proofs.Orders.{one_edge}
 use Rattle.grove_edits.proofs.Vertices.{same_vertex_laws, same_vertex_exact, order_is_same_vertex}
 use Rattle.graph_store.specs.Counts.{once, ends_at, weight, uses, count_at, count_of, KeepsCounts, IsCounted}
 use Rattle.graph_store.specs.Room.{GetsRoom, GetsEntry}
-use Rattle.walks.specs.States.{is_present, Entries, entry_at, state_in, HasRoom}
+use Rattle.graph_words.specs.States.{is_present, Entries, entry_at, state_in, HasRoom}
 use Rattle.graph_store.proofs.Lookups.{lookup_congr, test_is_same_edge, entry_kept, entry_set}
 
 -- ---- one number set

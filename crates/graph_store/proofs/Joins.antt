@@ -16,7 +16,7 @@ use Rattle.grove_edits.specs.Edit.{edit_edge, edit_kind}
 use Rattle.grove_edits.specs.Graph.{Graph, is_same_edge, IsSame, graph, graph_join, state_of}
 use Rattle.grove_edits.proofs.Orders.{edge_cmp_total, cmp_is_edge_cmp, same_edge_laws, one_edge}
 use Rattle.graph_store.specs.Store.{only}
-use Rattle.walks.specs.States.{Entries, entry_at, state_in, HasRoom, KeepsRoom, with_state}
+use Rattle.graph_words.specs.States.{Entries, entry_at, state_in, HasRoom, KeepsRoom, with_state}
 
 -- ---- one state
 

@@ -7,9 +7,9 @@ use Rattle.grove_edits.specs.contracts.vertex.VertexOrd.TheImpl as vertex_impl
 use Rattle.grove_edits.specs.Vertex.{is_same_vertex, root}
 use Rattle.grove_edits.proofs.Orders.{vertex_cmp_exact, cmp_is_vertex_cmp}
 use Rattle.grove_edits.proofs.Vertices.{same_vertex_itself}
-use Rattle.walks.specs.Whole.{IsVertexOf}
+use Rattle.graph_words.specs.Whole.{IsVertexOf}
 use Rattle.graph_store.specs.Counts.{count_at, count_of, IsCounted}
-use Rattle.walks.specs.States.{Entries, state_in}
+use Rattle.graph_words.specs.States.{Entries, state_in}
 use Rattle.graph_store.proofs.Counts.{get_vertex}
 use Rattle.graph_store.proofs.VertexOrder.{vertex_is_counted}
 

@@ -14,7 +14,7 @@ use Rattle.grove_edits.specs.Edge.{edge_cmp, edge_fault}
 use Rattle.grove_edits.specs.Edit.{edit_edge, edit_kind}
 use Rattle.grove_edits.specs.Graph.{graph, state_of, is_same_edge, IsSame, Ascends, IsCanonical}
 use Rattle.graph_store.specs.Store.{only}
-use Rattle.walks.specs.States.{Entries, state_in, well_formed, IsEditOf}
+use Rattle.graph_words.specs.States.{Entries, state_in, well_formed, IsEditOf}
 use Rattle.graph_store.specs.Listed.{Lists}
 use Rattle.grove_edits.proofs.Orders.{one_edge}
 use Rattle.graph_store.proofs.Joins.{joined, joined-state_in, in_edge_order}

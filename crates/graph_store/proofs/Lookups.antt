@@ -15,7 +15,7 @@ use Rattle.grove_edits.specs.contracts.edge.EdgeOrd.TheImpl as edge_impl
 use Rattle.grove_edits.specs.Graph.{is_same_edge, IsSame}
 use Rattle.grove_edits.proofs.Orders.{edge_cmp_exact, cmp_is_edge_cmp, same_edge_laws}
 use Rattle.graph_store.specs.Room.{GetsRoom}
-use Rattle.walks.specs.States.{Entries, entry_at, state_in, HasRoom, KeepsRoom, with_state}
+use Rattle.graph_words.specs.States.{Entries, entry_at, state_in, HasRoom, KeepsRoom, with_state}
 
 -- ---- any map
 

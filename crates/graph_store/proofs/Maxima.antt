@@ -10,7 +10,7 @@ use Rattle.std.proofs.lemmas.Cmp.{tied_itself, nat_cmp_total}
 use Rattle.std.proofs.Math.Nat.{max-eq_left, max-eq_right}
 use Rattle.grove_names.specs.declared.name.Name.{Name}
 use Rattle.grove_names.specs.Name.{name_cmp}
-use Rattle.walks.specs.Names.{name_by, IsGreatest}
+use Rattle.graph_words.specs.Names.{name_by, IsGreatest}
 use Rattle.grove_sorts.proofs.Orders.{equal_from_test}
 use Rattle.graph_store.proofs.Leasts.{holds, found_later, found_behind, sorted_part}
 

@@ -26,7 +26,7 @@ use Rattle.grove_edits.specs.Edge.{edge_cmp}
 use Rattle.grove_edits.proofs.Orders.{edge_cmp_total, edge_cmp_exact, cmp_is_edge_cmp}
 use Rattle.graph_store.specs.Least.{IsLeast}
 use Rattle.graph_store.specs.Named.{IsNamedFrom}
-use Rattle.walks.specs.States.{is_present, Entries, entry_at}
+use Rattle.graph_words.specs.States.{is_present, Entries, entry_at}
 use Rattle.graph_store.proofs.Joins.{in_edge_order}
 use Rattle.graph_store.proofs.Leasts.{pick, holds, Fits, AreByName, pick_is_least, least_same, sorted_part, found_part}
 use Rattle.grove_sorts.proofs.Truths.{less_from_test}

@@ -15,9 +15,9 @@ use Rattle.grove_edits.specs.contracts.edge.EdgeOrd.TheImpl as edge_impl
 use Rattle.grove_edits.specs.Vertex.{vertex_cmp, is_same_vertex, stands_in, root}
 use Rattle.grove_edits.specs.Edge.{edge_cmp}
 use Rattle.grove_edits.proofs.Orders.{vertex_cmp_total, vertex_cmp_exact}
-use Rattle.walks.specs.Whole.{IsVertexOf, IsInVertexOrder, AreVertices}
+use Rattle.graph_words.specs.Whole.{IsVertexOf, IsInVertexOrder, AreVertices}
 use Rattle.graph_store.specs.Counts.{count_at, count_of, IsCounted}
-use Rattle.walks.specs.States.{Entries, state_in}
+use Rattle.graph_words.specs.States.{Entries, state_in}
 use Rattle.grove_sorts.proofs.Orders.{equal_from_test}
 use Rattle.graph_store.proofs.Joins.{in_edge_order}
 use Rattle.graph_store.proofs.Names.{root_le}

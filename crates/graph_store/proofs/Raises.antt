@@ -10,7 +10,7 @@ use Rattle.grove_edits.specs.Edge.{edge_fault}
 use Rattle.grove_edits.specs.Graph.{graph, graph_join, IsSame, IsCanonical}
 use Rattle.grove_edits.proofs.Graphs.{graph-append, unnamed}
 use Rattle.graph_store.specs.Raised.{IsRaised, AreRaised}
-use Rattle.walks.specs.States.{Entries, entry_at, state_in, HasRoom, well_formed}
+use Rattle.graph_words.specs.States.{Entries, entry_at, state_in, HasRoom, well_formed}
 use Rattle.graph_store.proofs.Joins.{join_nothing}
 
 pub has_room_from_state : (es : Entries) (e : Edge) → state_in es e ≢ Absent → HasRoom es e

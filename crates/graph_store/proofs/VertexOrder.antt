@@ -23,12 +23,12 @@ use Rattle.grove_edits.specs.declared.edge.Edge.{Edge}
 use Rattle.grove_edits.specs.contracts.edge.EdgeOrd.TheImpl as edge_impl
 use Rattle.grove_edits.specs.Edge.{edge_cmp}
 use Rattle.grove_edits.specs.Graph.{is_same_edge}
-use Rattle.walks.specs.States.{is_present, Entries, entry_at, state_in}
+use Rattle.graph_words.specs.States.{is_present, Entries, entry_at, state_in}
 use Rattle.graph_store.specs.Counts.{count_at, count_of, uses, weight, ends_at, once, IsCounted}
-use Rattle.walks.specs.Whole.{IsVertexOf}
+use Rattle.graph_words.specs.Whole.{IsVertexOf}
 use Rattle.graph_store.specs.Vertices.{IsCountedFrom, IsCountedNamed}
-use Rattle.walks.specs.Named.{IsVertexNamed, AreLeastTwo}
-use Rattle.walks.specs.declared.named.Named.TheVariants.{Zero, One, More}
+use Rattle.graph_words.specs.Named.{IsVertexNamed, AreLeastTwo}
+use Rattle.graph_words.specs.declared.named.Named.TheVariants.{Zero, One, More}
 use Rattle.graph_store.proofs.Joins.{in_edge_order}
 use Rattle.graph_store.proofs.Names.{root_le, absent_not_present, present_from_state}
 use Rattle.grove_sorts.proofs.Truths.{less_from_test}

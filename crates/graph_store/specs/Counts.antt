@@ -5,7 +5,7 @@ use Rattle.edge_lattice.specs.declared.state.State.{State}
 use Rattle.grove_edits.specs.declared.vertex.Vertex.{Vertex}
 use Rattle.grove_edits.specs.declared.edge.Edge.{Edge}
 use Rattle.grove_edits.specs.Vertex.{is_same_vertex}
-use Rattle.walks.specs.States.{is_present, Entries, HasRoom}
+use Rattle.graph_words.specs.States.{is_present, Entries, HasRoom}
 
 abbrev pub once : Bool → ℕ
 once true = 1

@@ -3,7 +3,7 @@ use Rattle.std.specs.Prelude.{◌≡◌, ◌<◌, ℕ, List}
 use Rattle.grove_names.specs.declared.name.Name.{Name}
 use Rattle.grove_edits.specs.declared.vertex.Vertex.{Vertex}
 use Rattle.graph_store.specs.Counts.{count_of}
-use Rattle.walks.specs.Names.{name_by}
+use Rattle.graph_words.specs.Names.{name_by}
 
 abbrev pub first_name : ℕ → Name
 first_name author = name_by author 0

@@ -1,7 +1,7 @@
 -- The edits that a store's entries list.
 use Rattle.std.specs.Prelude.{◌≡◌, ◌⊎◌, Some, None, List, [], ◌∷◌}
 use Rattle.grove_edits.specs.declared.edit.Edit.{Edit}
-use Rattle.walks.specs.States.{Entries, IsEditOf}
+use Rattle.graph_words.specs.States.{Entries, IsEditOf}
 
 -- the list has, in order, the edit of each entry that has one
 abbrev pub Lists : Entries → List Edit → Type 0

@@ -7,7 +7,7 @@ use Rattle.edge_lattice.specs.declared.state.State.TheVariants.{Absent}
 use Rattle.grove_names.specs.declared.name.Name.{Name}
 use Rattle.grove_edits.specs.declared.edge.Edge.{Edge}
 use Rattle.grove_edits.specs.Edge.{edge_cmp}
-use Rattle.walks.specs.States.{Entries, state_in}
+use Rattle.graph_words.specs.States.{Entries, state_in}
 
 abbrev pub IsAfter : Option Edge → Edge → Type 0
 IsAfter None e = Unit {0}

@@ -2,7 +2,7 @@
 use Rattle.std.specs.Prelude.{List, [], ◌∷◌}
 use Rattle.grove_edits.specs.declared.edit.Edit.{Edit}
 use Rattle.grove_edits.specs.Graph.{graph, graph_join, IsSame}
-use Rattle.walks.specs.States.{Entries, state_in}
+use Rattle.graph_words.specs.States.{Entries, state_in}
 
 -- raising the edit leads from one store to the other
 abbrev pub IsRaised : Edit → Entries → Entries → Type 0

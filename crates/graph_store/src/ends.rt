@@ -4,10 +4,10 @@ ghost use Rattle.grove_edits.specs.Vertex.{is_same_vertex};
 ghost use Rattle.graph_store.specs.Counts.{count_at, count_of, once, weight, KeepsCounts};
 
 use crate::named::is_present;
-use crate::no_memory::NoMemory;
 use crate::room_map::RoomMap;
 use edge_lattice::State;
 use grove_edits::{Edge, Vertex};
+use text_parts::NoMemory;
 
 // Room for the numbers of an edge's ends.
 pub(crate) fn make_room_at_ends(

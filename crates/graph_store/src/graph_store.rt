@@ -8,28 +8,28 @@ ghost use Rattle.grove_edits.specs.Edge.{edge_cmp};
 ghost use Rattle.grove_edits.specs.Vertex.{root};
 ghost use Rattle.grove_edits.specs.Edit.{edit_edge, edit_kind};
 ghost use Rattle.grove_edits.specs.Graph.{IsSame, IsCanonical, graph, graph_join, is_same_edge, state_of};
-ghost use Rattle.walks.specs.Whole.{AreVertices, IsVertexOf};
-ghost use Rattle.walks.specs.Change.{IsChange};
-ghost use Rattle.walks.specs.Names.{IsGreatest, IsNameOf};
+ghost use Rattle.graph_words.specs.Whole.{AreVertices, IsVertexOf};
+ghost use Rattle.graph_words.specs.Change.{IsChange};
+ghost use Rattle.graph_words.specs.Names.{IsGreatest, IsNameOf};
 ghost use Rattle.graph_store.specs.Least.{IsLeast};
-ghost use Rattle.walks.specs.States.{IsEditOf, state_in, HasRoom, KeepsRoom, with_state, well_formed};
+ghost use Rattle.graph_words.specs.States.{IsEditOf, state_in, HasRoom, KeepsRoom, with_state, well_formed};
 ghost use Rattle.graph_store.specs.Named.{IsNamed};
-ghost use Rattle.walks.specs.Named.{AreLeastTwo, IsVertexNamed};
+ghost use Rattle.graph_words.specs.Named.{AreLeastTwo, IsVertexNamed};
 ghost use Rattle.graph_store.specs.Store.{only};
 
 use crate::ends::{make_room_at_ends, recount};
 use crate::greatest::{greatest_of_edges, greatest_of_vertices};
 use crate::named::{bound_after, first_named};
-use crate::no_memory::NoMemory;
 use crate::room_map::RoomMap;
 use crate::vertices::{first_counted, first_vertex};
 use edge_lattice::{State, join, leq};
+use graph_words::{Change, Named, asked_by};
 use grove_edits::{Edge, Edit, EditKind, EditList, Vertex, is_same_vertex};
 use grove_names::Name;
 use std::alloc::Global;
 use std::marker::Model;
 use std::ops::Bound;
-use walks::{Change, Named, asked_by};
+use text_parts::NoMemory;
 
 /// A live graph: the state of each edge. Contracts see its entries, of which those with the state Absent are room.
 #[derive(Debug, Drop)]
@@ -50,7 +50,7 @@ struct Root {
 }
 
 impl Model for GraphStore {
-    ghost use Rattle.walks.specs.States.{Entries};
+    ghost use Rattle.graph_words.specs.States.{Entries};
     ghost use Rattle.graph_store.specs.Counts.{IsCounted};
 
     ghost Value = { Entries };

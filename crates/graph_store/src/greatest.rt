@@ -5,7 +5,7 @@ ghost use Rattle.grove_edits.specs.declared.edge.Edge.{Edge};
 ghost use Rattle.grove_edits.specs.Vertex.{vertex_cmp};
 ghost use Rattle.grove_edits.specs.Edge.{edge_cmp};
 ghost use Rattle.graph_store.specs.Greatest.{IsNameOfCounted, first_name};
-ghost use Rattle.walks.specs.Names.{IsGreatest, IsNameOfEdge};
+ghost use Rattle.graph_words.specs.Names.{IsGreatest, IsNameOfEdge};
 
 use crate::named::is_present;
 use crate::room_map::RoomMap;

@@ -4,7 +4,7 @@ ghost use Rattle.grove_edits.specs.declared.edge.Edge.{Edge};
 ghost use Rattle.grove_edits.specs.declared.edit.Edit.{Edit};
 ghost use Rattle.grove_edits.specs.Graph.{IsSame, IsCanonical, graph, graph_join};
 ghost use Rattle.graph_store.specs.Raised.{IsRaised, AreRaised};
-ghost use Rattle.walks.specs.States.{Entries, state_in, HasRoom, well_formed};
+ghost use Rattle.graph_words.specs.States.{Entries, state_in, HasRoom, well_formed};
 
 /// Law: in an empty store each edge is Absent, and an edge that is not Absent has room.
 pub fn an_edge_with_a_state_has_room()

@@ -8,13 +8,12 @@ mod graph_store;
 mod greatest;
 mod laws;
 mod named;
-mod no_memory;
 mod room_map;
 mod vertices;
 
 pub use graph_store::GraphStore;
+pub use graph_words::{Change, Named};
 pub use laws::{
     an_edge_with_a_state_has_room, graphs_of_edits_are_well_formed, raising_makes_the_graph,
 };
-pub use no_memory::NoMemory;
-pub use walks::{Change, Named};
+pub use text_parts::NoMemory;

@@ -5,7 +5,7 @@ ghost use Rattle.grove_edits.specs.declared.edge.Edge.{Edge};
 ghost use Rattle.grove_edits.specs.Edge.{edge_cmp};
 ghost use Rattle.graph_store.specs.Least.{IsLeast};
 ghost use Rattle.graph_store.specs.Named.{IsAfter, IsNamedFrom};
-ghost use Rattle.walks.specs.States.{is_present};
+ghost use Rattle.graph_words.specs.States.{is_present};
 
 use crate::room_map::RoomMap;
 use edge_lattice::State;

@@ -4,10 +4,10 @@ ghost use Rattle.std.specs.declared.cmp.Ordering.TheVariants.{Equal};
 ghost use Rattle.std.specs.Map.{set_value};
 ghost use Rattle.graph_store.specs.Room.{GetsRoom, GetsEntry};
 
-use crate::no_memory::NoMemory;
 use std::alloc::Global;
 use std::collections::BTreeMap;
 use std::mem::replace;
+use text_parts::NoMemory;
 
 // A map in the order of its keys, in which a value can be set without memory wherever the key has room: an entry of its own.
 #[derive(Debug, Drop)]

@@ -15,11 +15,11 @@ use Rattle.grove_edits.specs.Edge.{IsWellFormed, edge_cmp}
 use Rattle.grove_edits.specs.Edit.{edit_edge, edit_kind}
 use Rattle.grove_edits.specs.Graph.{graph, state_of, is_same_edge, Ascends}
 use Rattle.grove_edits.proofs.Orders.{edge_cmp_total, one_edge}
-use Rattle.walks.specs.Live.{IsInEdgeOrder, holds_edge}
-use Rattle.walks.specs.Whole.{AreLive}
+use Rattle.graph_words.specs.Live.{IsInEdgeOrder, holds_edge}
+use Rattle.graph_words.specs.Whole.{AreLive}
 use Rattle.graph_table.specs.Table.{Table, inserted, live, is_insertion}
-use Rattle.walks.proofs.Truths.{live_from_test}
-use Rattle.walks.specs.States.{is_live}
+use Rattle.graph_words.proofs.Truths.{live_from_test}
+use Rattle.graph_words.specs.States.{is_live}
 
 -- what holds of the edge of each edit holds of each inserted edge
 pub inserted_all : (P : Edge → Type 0) (edits : List Edit) → AllByRecursion (λ edit. P (edit_edge edit)) edits → AllByRecursion P (inserted edits)

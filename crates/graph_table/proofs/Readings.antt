@@ -8,8 +8,8 @@ use Rattle.grove_edits.specs.declared.vertex.Vertex.{Vertex}
 use Rattle.grove_edits.specs.declared.edge.Edge.{Edge}
 use Rattle.grove_edits.specs.declared.edit.Edit.{Edit}
 use Rattle.grove_edits.specs.Edit.{edit_edge, edit_kind}
-use Rattle.walks.specs.Few.{first_two}
-use Rattle.walks.specs.Live.{parents_of, children_of}
+use Rattle.graph_words.specs.Few.{first_two}
+use Rattle.graph_words.specs.Live.{parents_of, children_of}
 use Rattle.grove_edits.specs.Vertex.{is_same_vertex}
 use Rattle.grove_sorts.specs.Position.{is_same_position}
 use Rattle.graph_table.specs.declared.link.Link.{Link}

@@ -5,8 +5,8 @@ use Rattle.grove_edits.specs.declared.edit.Edit.{Edit}
 use Rattle.grove_edits.specs.declared.edit.EditKind.{EditKind}
 use Rattle.grove_edits.specs.declared.edit.EditKind.TheVariants.{Insert, Delete}
 use Rattle.grove_edits.specs.Edit.{edit_edge, edit_kind}
-use Rattle.walks.specs.declared.few.Few.{Few}
-use Rattle.walks.specs.declared.few.Few.TheVariants as few
+use Rattle.graph_words.specs.declared.few.Few.{Few}
+use Rattle.graph_words.specs.declared.few.Few.TheVariants as few
 pub use Rattle.edit_table.specs.Table.{Table, vertex_or_root, vertex_at, edge_or_none, edge_at, kind_or_insert, kind_at, IsNumber, IsIndex, IsEndIn, AreEnds}
 use Rattle.graph_table.specs.declared.parents.Parents.{Parents}
 use Rattle.graph_table.specs.declared.parents.Parents.TheVariants.{Zero, One, More}

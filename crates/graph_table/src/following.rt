@@ -3,8 +3,8 @@ ghost use Rattle.graph_table.specs.Around.{Child, indices_at};
 ghost use Rattle.graph_table.specs.Chain.{IsChain, IsChained};
 
 use crate::link::Link;
-use crate::no_memory::NoMemory;
 use grove_sorts::Position;
+use text_parts::NoMemory;
 
 /// Appends the indices of those children that have a position, the last child first.
 fn push_indices(

@@ -5,12 +5,12 @@ ghost use Rattle.graph_table.specs.Parts.{AreLinks};
 
 use crate::around::Around;
 use crate::link::Link;
-use crate::no_memory::NoMemory;
 use edit_table::EditTable;
 use grove_edits::EditKind;
 use grove_names::Name;
 use grove_sorts::Position;
 use std::alloc::Global;
+use text_parts::NoMemory;
 
 /// What is around each vertex by number, and a link for each edit by index.
 #[derive(Drop)]

@@ -3,10 +3,10 @@ ghost use Rattle.std.specs.List.{AllByRecursion, IsDistinct};
 ghost use Rattle.std.specs.List.Sorted.{IsPermutation, IsSorted};
 ghost use Rattle.grove_edits.specs.declared.vertex.Vertex.{Vertex};
 ghost use Rattle.grove_edits.specs.Graph.{graph, Ascends};
-ghost use Rattle.walks.specs.Few.{first_two};
-ghost use Rattle.walks.specs.Live.{parents_of, children_of};
+ghost use Rattle.graph_words.specs.Few.{first_two};
+ghost use Rattle.graph_words.specs.Live.{parents_of, children_of};
 ghost use Rattle.grove_edits.specs.Vertex.{vertex_cmp, stands_in, is_same_vertex};
-ghost use Rattle.walks.specs.Whole.{AreLive, IsVertexOf};
+ghost use Rattle.graph_words.specs.Whole.{AreLive, IsVertexOf};
 ghost use Rattle.edit_table.specs.Lent.{lent_vertex};
 ghost use Rattle.edit_table.specs.TableVertex.{table_vertex};
 ghost use Rattle.graph_table.specs.GraphEdge.{graph_edge};
@@ -18,7 +18,6 @@ use crate::following::children_at;
 use crate::gathering::{Gathered, gather};
 use crate::graph_edge::GraphEdge;
 use crate::link::Link;
-use crate::no_memory::NoMemory;
 use crate::ordering::in_vertex_order;
 use crate::parents::Parents;
 use edit_table::{EditTable, LentVertex, TableVertex};
@@ -26,6 +25,7 @@ use grove_names::Name;
 use grove_sorts::Position;
 use std::alloc::Global;
 use std::marker::Model;
+use text_parts::NoMemory;
 
 /// A graph by numbers. Contracts see its edits and its vertices, in the order of their numbers.
 #[derive(Drop)]

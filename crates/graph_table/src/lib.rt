@@ -10,11 +10,10 @@ mod graph_table;
 mod link;
 mod named_vertex;
 mod narrow_parents;
-mod no_memory;
 mod ordering;
 mod parents;
 
 pub use graph_edge::GraphEdge;
 pub use graph_table::GraphTable;
-pub use no_memory::NoMemory;
 pub use parents::Parents;
+pub use text_parts::NoMemory;

@@ -6,9 +6,9 @@ ghost use Rattle.graph_table.specs.Table.{vertex_at, IsNumber};
 ghost use Rattle.graph_table.specs.Named.{numbers_of, IsNamed};
 
 use crate::named_vertex::NamedVertex;
-use crate::no_memory::NoMemory;
 use edit_table::{EditTable, compare_lent};
 use std::alloc::Global;
+use text_parts::NoMemory;
 
 // Some numbers of vertices, in vertex order.
 pub(crate) fn in_vertex_order(

@@ -11,10 +11,10 @@ use Rattle.grove_edits.specs.declared.edit.EditKind.TheVariants.{Insert}
 use Rattle.grove_edits.specs.Edit.{edit_edge, edit_kind}
 use Rattle.grove_edits.specs.Graph.{Graph, graph, graph_join, state_of, is_same_edge, IsSame}
 use Rattle.grove_edits.proofs.Orders.{one_edge}
-use Rattle.walks.specs.Live.{holds_edge}
-use Rattle.walks.specs.Whole.{AreLive}
-use Rattle.walks.specs.Ordered.{with_edge}
-use Rattle.walks.proofs.Ordered.{holds-with_edge, in_order-with_edge}
+use Rattle.graph_words.specs.Live.{holds_edge}
+use Rattle.graph_words.specs.Whole.{AreLive}
+use Rattle.graph_words.specs.Ordered.{with_edge}
+use Rattle.graph_words.proofs.Ordered.{holds-with_edge, in_order-with_edge}
 
 abbrev after : Bool → State → State
 after here s = state_join s (state_join (cond here Live Absent) Absent)

@@ -2,6 +2,7 @@ ghost use Rattle.std.specs.Prelude.{◌≡◌, ◌<◌, []};
 ghost use Rattle.edge_index.specs.Lists.{live};
 
 use child_index::*;
+use graph_words::Steps;
 use grove_edits::{Edge, Vertex};
 use grove_names::Name;
 use grove_sorts::{Ctor, Position};
@@ -9,7 +10,6 @@ use std::marker::Brand;
 use std::process::Abort;
 use std::sync::ledger::{Blank, Ledger};
 use std::test::Fail;
-use walks::Steps;
 
 const PLUS: Vertex = Vertex {
     name: Name {

@@ -1,7 +1,7 @@
 ghost use Rattle.std.specs.Prelude.{OnOk};
-ghost use Rattle.walks.specs.Whole.{AreLive};
+ghost use Rattle.graph_words.specs.Whole.{AreLive};
 ghost use Rattle.edge_index.specs.Lists.{live as live_edges};
-ghost use Rattle.walks.specs.States.{state_in};
+ghost use Rattle.graph_words.specs.States.{state_in};
 
 use child_index::ChildIndex;
 use edge_lattice::State;

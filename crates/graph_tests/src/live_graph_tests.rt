@@ -1,6 +1,7 @@
 ghost use Rattle.std.specs.Prelude.{◌≡◌, ◌<◌};
 
 use edge_lattice::State;
+use graph_words::{Few, ParentOf, Steps};
 use grove_edits::{Edge, Edit, EditKind, EditList, Vertex};
 use grove_names::Name;
 use grove_sorts::{Ctor, Position};
@@ -10,7 +11,6 @@ use std::marker::Brand;
 use std::process::Abort;
 use std::sync::ledger::{Blank, Ledger};
 use std::test::Fail;
-use walks::{Few, ParentOf, Steps};
 
 fn edge(counter: u64, child: u64) -> Edge {
     Edge {

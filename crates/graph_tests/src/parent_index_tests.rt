@@ -1,5 +1,6 @@
 ghost use Rattle.std.specs.Prelude.{◌≡◌, ◌<◌};
 
+use graph_words::{Few, ParentOf, Steps};
 use grove_edits::{Edge, Vertex};
 use grove_names::Name;
 use grove_sorts::{Ctor, Position};
@@ -8,7 +9,6 @@ use std::marker::Brand;
 use std::process::Abort;
 use std::sync::ledger::{Blank, Ledger};
 use std::test::Fail;
-use walks::{Few, ParentOf, Steps};
 
 const PLUS: Vertex = Vertex {
     name: Name {

@@ -1,8 +1,9 @@
 ghost use Rattle.std.specs.Prelude.{◌≡◌, ◌<◌, ◌++◌, [], ◌∷◌, List};
 ghost use Rattle.grove_edits.specs.declared.edge.Edge.{Edge};
-ghost use Rattle.walks.specs.Few.{first_two};
-ghost use Rattle.walks.specs.Live.{parents_of};
+ghost use Rattle.graph_words.specs.Few.{first_two};
+ghost use Rattle.graph_words.specs.Live.{parents_of};
 
+use graph_words::{Few, ParentOf, Steps};
 use grove_edits::{Edge, Vertex, is_same_vertex};
 use grove_names::Name;
 use grove_sorts::{Ctor, Position};
@@ -12,7 +13,6 @@ use std::marker::{Brand, Model};
 use std::sync::ledger::{Blank, Ledger};
 use std::test::Fail;
 use unicycle_roots::*;
-use walks::{Few, ParentOf, Steps};
 
 // Live edges in edge order, and how many vertices they lead to.
 #[derive(Drop)]
@@ -24,7 +24,7 @@ struct Edges {
 impl Model for Edges {
     ghost use Rattle.std.specs.Prelude.{◌≡◌, List, length};
     ghost use Rattle.grove_edits.specs.declared.edge.Edge.{Edge};
-    ghost use Rattle.walks.specs.Live.{IsInEdgeOrder, targets_of};
+    ghost use Rattle.graph_words.specs.Live.{IsInEdgeOrder, targets_of};
 
     ghost Value = { List Edge };
 

@@ -1,8 +1,8 @@
 ghost use Rattle.std.specs.Prelude.{◌≡◌, ◌<◌};
 
+use graph_words::Steps;
 use std::marker::Brand;
 use std::sync::ledger::{Blank, Ledger};
-use walks::Steps;
 
 // A counter takes no bytes, so what it counted shows in contracts alone.
 fn wants_two<L: Ledger>(_steps: &Steps<L>)

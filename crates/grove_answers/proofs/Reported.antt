@@ -3,9 +3,9 @@ use Rattle.std.proofs.Common.{◌≡◌, ℕ, suc, List, [], ◌∷◌, ◌++◌
 use Rattle.grove_edits.specs.declared.vertex.Vertex.{Vertex}
 use Rattle.grove_edits.specs.declared.edge.Edge.{Edge}
 use Rattle.grove_edits.specs.Graph.{graph}
-use Rattle.walks.specs.declared.class.Class.TheVariants.{Cycle as CycleClass}
-use Rattle.walks.specs.Class.{of_class}
-use Rattle.walks.specs.Whole.{AreVertices}
+use Rattle.graph_words.specs.declared.class.Class.TheVariants.{Cycle as CycleClass}
+use Rattle.graph_words.specs.Class.{of_class}
+use Rattle.graph_words.specs.Whole.{AreVertices}
 use Rattle.graph_table.specs.Table.{live}
 use Rattle.grove_terms.specs.declared.node.Node.{Node}
 use Rattle.grove_terms.specs.Grove.{IsTreeOf, AreTreesOf}

@@ -1,4 +1,5 @@
 -- How many trees a graph has, and how many of their nodes are conflicts and have a mark.
+-- The promise of the commands rests on these definitions.
 use Rattle.std.specs.Prelude.{◌≡◌, ℕ, ◌+◌, Bool, true, false, List, ◌++◌, length, sum_by, count_by}
 use Rattle.grove_edits.specs.Graph.{Graph}
 use Rattle.grove_terms.specs.declared.grove.Grove.{Grove}

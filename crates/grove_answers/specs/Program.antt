@@ -3,9 +3,9 @@ use Rattle.std.specs.Prelude.{◌≡◌, ◌≢◌, ℕ, List}
 use Rattle.std.specs.List.{AllByRecursion}
 use Rattle.grove_edits.specs.declared.vertex.Vertex.{Vertex}
 use Rattle.grove_edits.specs.Graph.{graph}
-use Rattle.walks.specs.declared.class.Class.TheVariants.{NoParent, Multi, Inner}
-use Rattle.walks.specs.Class.{class, of_class}
-use Rattle.walks.specs.Whole.{AreVertices, AreLive}
+use Rattle.graph_words.specs.declared.class.Class.TheVariants.{NoParent, Multi, Inner}
+use Rattle.graph_words.specs.Class.{class, of_class}
+use Rattle.graph_words.specs.Whole.{AreVertices, AreLive}
 use Rattle.graph_table.specs.Table.{Table, live, vertex_at, IsNumber}
 use Rattle.grove_decompose.specs.Trees.{vertices_of}
 use Rattle.grove_answers.specs.declared.program.Program.{Program}

@@ -7,7 +7,6 @@ ghost use Rattle.grove_answers.specs.Texts.{IsCheckText, roots_line};
 ghost use Rattle.grove_answers.specs.Laws.{lines_none, lines_more, typed_none, typed_more};
 
 use crate::marks::marks_in;
-use crate::no_memory::NoMemory;
 use crate::program::Program;
 use crate::report::Report;
 use crate::reporting::report_program;
@@ -16,7 +15,7 @@ use grove_printer::{Section, print_marked_lines_of};
 use marking::MarkedTree;
 use seeded_hash::HashSeed;
 use std::alloc::Global;
-use text_parts::write_number;
+use text_parts::{NoMemory, write_number};
 use type_core::TypeTable;
 
 /// The text of `check`, of a table whose edits ascend: the lines of `show` with a mark, and how many trees there are and how many are typed.

@@ -6,7 +6,6 @@ ghost use Rattle.grove_answers.specs.Laws.{nodes_none, nodes_more};
 
 use crate::counts::Counts;
 use crate::marks::marks_in;
-use crate::no_memory::NoMemory;
 use crate::program::Program;
 use crate::report::Report;
 use crate::reporting::report_program;
@@ -16,6 +15,7 @@ use grove_terms::{LentNode, LentWhat};
 use marking::MarkedTree;
 use seeded_hash::HashSeed;
 use std::alloc::Global;
+use text_parts::NoMemory;
 use type_core::TypeTable;
 
 /// The counts of the graph of a table whose edits ascend. What it looks up it finds by hashes under a seed.

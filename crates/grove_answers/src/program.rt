@@ -2,12 +2,12 @@ ghost use Rattle.std.specs.Prelude.{◌≡◌, IfOk};
 ghost use Rattle.grove_edits.specs.Graph.{Ascends};
 ghost use Rattle.grove_answers.specs.Program.{IsProgram};
 
-use crate::no_memory::NoMemory;
 use edit_table::EditTable;
 use graph_table::GraphTable;
 use grove_decompose::{NumberedHeads, heads_of};
 use seeded_hash::HashSeed;
 use std::alloc::Global;
+use text_parts::NoMemory;
 
 /// A graph by numbers, and the vertices that head its trees but for those of cycles.
 #[derive(Drop)]

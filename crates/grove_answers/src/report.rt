@@ -6,9 +6,9 @@ ghost use Rattle.marking.specs.Reading.{meant_nodes};
 ghost use Rattle.marking.specs.Numbers.{AreMarkedNodesOf};
 ghost use Rattle.grove_printer.specs.declared.section.Section.{Section};
 
-use crate::no_memory::NoMemory;
 use grove_printer::Section;
 use marking::MarkedTree;
+use text_parts::NoMemory;
 use type_core::TypeTable;
 
 /// What is written of the trees of a graph. It takes them in one after the other, so that one at a time is kept.

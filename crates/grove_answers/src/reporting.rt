@@ -1,13 +1,12 @@
 ghost use Rattle.std.specs.Prelude.{◌≡◌, OnOk};
 ghost use Rattle.std.specs.List.{AllByRecursion};
 ghost use Rattle.grove_edits.specs.Graph.{graph};
-ghost use Rattle.walks.specs.Whole.{AreLive};
+ghost use Rattle.graph_words.specs.Whole.{AreLive};
 ghost use Rattle.graph_table.specs.Table.{live};
 ghost use Rattle.grove_decompose.specs.Trees.{OnlyInner, vertices_of};
 ghost use Rattle.grove_answers.specs.Program.{IsHead, IsProgram};
 ghost use Rattle.grove_answers.specs.Reports.{AreReported, TakesSection, IsReported};
 
-use crate::no_memory::NoMemory;
 use crate::program::Program;
 use crate::report::Report;
 use crate::walk::Walk;
@@ -15,6 +14,7 @@ use graph_table::GraphTable;
 use grove_decompose::cycle_heads;
 use grove_printer::Section;
 use std::alloc::Global;
+use text_parts::NoMemory;
 
 /// Reports all trees, in the order of the print text.
 pub(crate) fn report_program<R: Report>(

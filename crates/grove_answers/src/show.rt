@@ -4,7 +4,6 @@ ghost use Rattle.grove_printer.specs.Print.{heading, trees_text};
 ghost use Rattle.grove_answers.specs.Texts.{IsPrintText};
 ghost use Rattle.grove_answers.specs.Laws.{prints_none, prints_more};
 
-use crate::no_memory::NoMemory;
 use crate::program::Program;
 use crate::report::Report;
 use crate::reporting::report_program;
@@ -13,6 +12,7 @@ use grove_printer::{Section, print_heading, print_tree};
 use marking::MarkedTree;
 use seeded_hash::HashSeed;
 use std::alloc::Global;
+use text_parts::NoMemory;
 use type_core::TypeTable;
 
 /// The text of `show`, of a table whose edits ascend: under a heading for each of the three lists of trees a line for each node. What it

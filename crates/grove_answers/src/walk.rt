@@ -8,7 +8,6 @@ ghost use Rattle.marking.specs.Reading.{meant_nodes};
 ghost use Rattle.marking.specs.Numbers.{AreMarkedNodesOf};
 ghost use Rattle.grove_answers.specs.Program.{IsHead};
 
-use crate::no_memory::NoMemory;
 use ctx_table::CtxTable;
 use graph_table::GraphTable;
 use grove_decompose::{Seen, tree_by_number};
@@ -17,6 +16,7 @@ use mark_rules::{OpenFrames, mark_tree};
 use marking::MarkedTree;
 use seeded_hash::HashSeed;
 use std::alloc::Global;
+use text_parts::NoMemory;
 use type_core::TypeTable;
 
 /// What is kept from one tree of a program to the next.

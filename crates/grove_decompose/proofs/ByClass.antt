@@ -2,13 +2,13 @@
 use Rattle.std.proofs.Common.{◌≡◌, Bool, true, false, cond, List, [], ◌∷◌, ◌++◌, refl, sym, ap, ◌∙◌, append_assoc}
 use Rattle.grove_edits.specs.declared.vertex.Vertex.{Vertex}
 use Rattle.grove_edits.specs.declared.edge.Edge.{Edge}
-use Rattle.walks.specs.declared.class.Class.{Class}
-use Rattle.walks.specs.declared.class.Class.TheVariants.{NoParent, Multi}
-use Rattle.walks.specs.declared.few.Few.{Few}
-use Rattle.walks.specs.declared.few.Few.TheVariants.{Zero, One, More}
-use Rattle.walks.specs.Few.{first_two}
-use Rattle.walks.specs.Live.{parents_of}
-use Rattle.walks.specs.Class.{class_by, is_cycle_root, class, is_same_class, of_class}
+use Rattle.graph_words.specs.declared.class.Class.{Class}
+use Rattle.graph_words.specs.declared.class.Class.TheVariants.{NoParent, Multi}
+use Rattle.graph_words.specs.declared.few.Few.{Few}
+use Rattle.graph_words.specs.declared.few.Few.TheVariants.{Zero, One, More}
+use Rattle.graph_words.specs.Few.{first_two}
+use Rattle.graph_words.specs.Live.{parents_of}
+use Rattle.graph_words.specs.Class.{class_by, is_cycle_root, class, is_same_class, of_class}
 
 pub passed_by : (c : Class) (live : List Edge) (v : Vertex) (items left rest whole : List Vertex) → left ≡ v ∷ rest → is_same_class (class live v) c ≡ false → items ++ of_class c live left ≡ whole
     → items ++ of_class c live rest ≡ whole

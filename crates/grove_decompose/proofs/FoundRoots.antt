@@ -6,13 +6,13 @@ use Rattle.std.proofs.lemmas.List.{length-map}
 use Rattle.grove_edits.specs.declared.vertex.Vertex.{Vertex}
 use Rattle.grove_edits.specs.Vertex.{is_same_vertex, stands_in}
 use Rattle.grove_edits.proofs.Vertices.{same_vertex_itself}
-use Rattle.walks.specs.declared.class.Class.TheVariants.{Cycle}
-use Rattle.walks.specs.Class.{class, is_cycle_root, is_same_class}
-use Rattle.walks.specs.Met.{met_by, KeepsMet, HasEnded}
-use Rattle.walks.specs.Cycle.{leads_to}
-use Rattle.walks.proofs.Cycles.{class_is_cycle}
+use Rattle.graph_words.specs.declared.class.Class.TheVariants.{Cycle}
+use Rattle.graph_words.specs.Class.{class, is_cycle_root, is_same_class}
+use Rattle.graph_words.specs.Met.{met_by, KeepsMet, HasEnded}
+use Rattle.graph_words.specs.Cycle.{leads_to}
+use Rattle.graph_words.proofs.Cycles.{class_is_cycle}
 use Rattle.grove_sorts.proofs.Truths.{or_true}
-use Rattle.walks.proofs.Found.{AreFound, found_none, found_one, all_found}
+use Rattle.graph_words.proofs.Found.{AreFound, found_none, found_one, all_found}
 use Rattle.graph_table.specs.Table.{Table, live, vertex_at, IsNumber}
 use Rattle.grove_decompose.specs.Met.{met_of, marked}
 use Rattle.grove_decompose.proofs.Marks.{none_at_first, none_marked_first, marked_at, marked_more}

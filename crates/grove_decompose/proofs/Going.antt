@@ -4,9 +4,9 @@ use Rattle.grove_sorts.specs.Ctor.{positions}
 use Rattle.grove_edits.specs.declared.vertex.Vertex.{Vertex}
 use Rattle.grove_edits.specs.declared.edge.Edge.{Edge}
 use Rattle.std.specs.List.{AllByRecursion}
-use Rattle.walks.specs.declared.class.Class.{Class}
-use Rattle.walks.specs.declared.class.Class.TheVariants.{Inner}
-use Rattle.walks.specs.Class.{class, of_class}
+use Rattle.graph_words.specs.declared.class.Class.{Class}
+use Rattle.graph_words.specs.declared.class.Class.TheVariants.{Inner}
+use Rattle.graph_words.specs.Class.{class, of_class}
 use Rattle.grove_terms.specs.declared.node.Node.{Node}
 use Rattle.grove_terms.specs.Nodes.{head_node, tree_nodes}
 use Rattle.grove_terms.specs.Grove.{IsTreeOf, AreTreesOf}

@@ -5,7 +5,7 @@ use Rattle.grove_sorts.specs.declared.position.Position.{Position}
 use Rattle.grove_sorts.specs.declared.sort.Sort.{Sort}
 use Rattle.grove_edits.specs.declared.vertex.Vertex.{Vertex}
 use Rattle.grove_edits.specs.declared.edge.Edge.{Edge}
-use Rattle.walks.specs.Live.{children_of}
+use Rattle.graph_words.specs.Live.{children_of}
 use Rattle.grove_terms.specs.declared.node.Node.{Node}
 use Rattle.grove_terms.specs.declared.node.What.TheVariants as whats
 use Rattle.grove_terms.specs.Nodes.{node_at}

@@ -5,8 +5,8 @@ use Rattle.std.specs.List.{AllByRecursion, IsDistinct, slice_index_or}
 use Rattle.grove_edits.specs.declared.vertex.Vertex.{Vertex}
 use Rattle.grove_edits.specs.Vertex.{is_same_vertex, stands_in}
 use Rattle.grove_edits.proofs.Vertices.{same_vertex_exact, same_vertex_itself, same_vertex_laws}
-use Rattle.walks.specs.Met.{met_by}
-use Rattle.walks.proofs.Unmet.{HasEntered}
+use Rattle.graph_words.specs.Met.{met_by}
+use Rattle.graph_words.proofs.Unmet.{HasEntered}
 use Rattle.grove_decompose.specs.Met.{walk_at, met_of, marked}
 use Rattle.grove_sorts.proofs.Truths.{or_again}
 

@@ -6,13 +6,13 @@ use Rattle.grove_edits.specs.declared.vertex.Vertex.{Vertex}
 use Rattle.grove_edits.specs.declared.edge.Edge.{Edge}
 use Rattle.grove_edits.specs.Vertex.{vertex_cmp, is_same_vertex}
 use Rattle.grove_edits.proofs.Vertices.{same_vertex_itself}
-use Rattle.walks.specs.Walk.{above}
-use Rattle.walks.specs.Class.{is_cycle_root}
-use Rattle.walks.proofs.Up.{up, next_above, up-shift, walk_len}
-use Rattle.walks.proofs.Returns.{some_same}
-use Rattle.walks.specs.Cycle.{is_on_cycle, leads_to}
-use Rattle.walks.proofs.Cycles.{up_through, back_from_cycle}
-use Rattle.walks.proofs.Around.{IsAround, around_first, around_next, root_from_around, above_from_around, around_ends}
+use Rattle.graph_words.specs.Walk.{above}
+use Rattle.graph_words.specs.Class.{is_cycle_root}
+use Rattle.graph_words.proofs.Up.{up, next_above, up-shift, walk_len}
+use Rattle.graph_words.proofs.Returns.{some_same}
+use Rattle.graph_words.specs.Cycle.{is_on_cycle, leads_to}
+use Rattle.graph_words.proofs.Cycles.{up_through, back_from_cycle}
+use Rattle.graph_words.proofs.Around.{IsAround, around_first, around_next, root_from_around, above_from_around, around_ends}
 use Rattle.graph_table.specs.Table.{Table, live, vertex_at, IsNumber}
 use Rattle.grove_decompose.proofs.Marks.{numbers_apart}
 use Rattle.grove_decompose.proofs.Walking.{vertex_read}

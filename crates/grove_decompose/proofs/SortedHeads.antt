@@ -14,9 +14,9 @@ use Rattle.grove_edits.specs.Vertex.{vertex_cmp, is_same_vertex, stands_in}
 use Rattle.grove_edits.specs.Graph.{graph}
 use Rattle.grove_edits.proofs.Orders.{vertex_cmp_total, vertex_cmp_exact}
 use Rattle.grove_edits.proofs.Vertices.{same_vertex_laws}
-use Rattle.walks.specs.declared.class.Class.{Class}
-use Rattle.walks.specs.Class.{class, is_same_class, of_class}
-use Rattle.walks.specs.Whole.{IsInVertexOrder, IsVertexOf, AreVertices}
+use Rattle.graph_words.specs.declared.class.Class.{Class}
+use Rattle.graph_words.specs.Class.{class, is_same_class, of_class}
+use Rattle.graph_words.specs.Whole.{IsInVertexOrder, IsVertexOf, AreVertices}
 use Rattle.grove_terms.proofs.InOrder.{IsExactOrder, IsInOrder, holds, one_in_order, in_order_filter, holds-filter}
 use Rattle.graph_table.specs.Table.{Table, live, vertex_at}
 use Rattle.grove_decompose.specs.Trees.{vertices_of}

@@ -9,12 +9,12 @@ use Rattle.grove_sorts.proofs.Orders.{one_position}
 use Rattle.grove_sorts.proofs.Rows.{row_short}
 use Rattle.grove_edits.specs.declared.vertex.Vertex.{Vertex}
 use Rattle.grove_edits.specs.declared.edge.Edge.{Edge}
-use Rattle.walks.specs.declared.class.Class.{Class}
-use Rattle.walks.specs.declared.class.Class.TheVariants.{NoParent, Multi, Cycle, Inner}
-use Rattle.walks.specs.Live.{children_of}
-use Rattle.walks.specs.Walk.{above}
-use Rattle.walks.specs.Class.{class}
-use Rattle.walks.proofs.Up.{up, up-shift}
+use Rattle.graph_words.specs.declared.class.Class.{Class}
+use Rattle.graph_words.specs.declared.class.Class.TheVariants.{NoParent, Multi, Cycle, Inner}
+use Rattle.graph_words.specs.Live.{children_of}
+use Rattle.graph_words.specs.Walk.{above}
+use Rattle.graph_words.specs.Class.{class}
+use Rattle.graph_words.proofs.Up.{up, up-shift}
 use Rattle.grove_terms.specs.declared.node.Node.{Node}
 use Rattle.grove_terms.specs.declared.node.What.TheVariants as whats
 use Rattle.grove_terms.specs.Nodes.{node_at, child_node, place_nodes}

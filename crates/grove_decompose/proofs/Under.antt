@@ -5,13 +5,13 @@ use Rattle.grove_edits.proofs.Orders.{one_edge}
 use Rattle.grove_edits.specs.declared.vertex.Vertex.{Vertex}
 use Rattle.grove_edits.specs.declared.edge.Edge.{Edge}
 use Rattle.grove_edits.specs.Graph.{is_same_edge}
-use Rattle.walks.specs.declared.class.Class.{Class}
-use Rattle.walks.specs.declared.class.Class.TheVariants.{NoParent, Multi, Cycle, Inner}
-use Rattle.walks.specs.Live.{holds_edge, parents_of}
-use Rattle.walks.specs.Walk.{only_source, above}
-use Rattle.walks.specs.Class.{is_cycle_root, class_by, class}
-use Rattle.walks.proofs.Up.{up, next_above, up-shift}
-use Rattle.walks.proofs.Cycles.{no_root_below_none, one_root}
+use Rattle.graph_words.specs.declared.class.Class.{Class}
+use Rattle.graph_words.specs.declared.class.Class.TheVariants.{NoParent, Multi, Cycle, Inner}
+use Rattle.graph_words.specs.Live.{holds_edge, parents_of}
+use Rattle.graph_words.specs.Walk.{only_source, above}
+use Rattle.graph_words.specs.Class.{is_cycle_root, class_by, class}
+use Rattle.graph_words.proofs.Up.{up, next_above, up-shift}
+use Rattle.graph_words.proofs.Cycles.{no_root_below_none, one_root}
 use Rattle.grove_terms.specs.declared.node.What.TheVariants as whats
 use Rattle.grove_terms.proofs.InLive.{stands_among, target_has_parent}
 use Rattle.grove_decompose.specs.Tasks.{what_by, are_several, is_shared, IsUnder}

@@ -4,12 +4,12 @@ use Rattle.std.specs.Prelude.{slice_get, slice_set}
 use Rattle.std.specs.List.{IsDistinct}
 use Rattle.grove_edits.specs.declared.vertex.Vertex.{Vertex}
 use Rattle.grove_edits.specs.Vertex.{is_same_vertex}
-use Rattle.walks.specs.Walk.{above}
-use Rattle.walks.proofs.Up.{up}
-use Rattle.walks.proofs.Returns.{some_same}
-use Rattle.walks.specs.Met.{met_by, unmet, AreNumbered, HasEnded}
-use Rattle.walks.proofs.Unmet.{HasEntered, unmet-entered, sole_parent}
-use Rattle.walks.proofs.Meetings.{Met, IsMeeting, IsEntered, meeting_entered, meeting_next, ended_at_none, ended_at_itself, ended_at_earlier, first_entered}
+use Rattle.graph_words.specs.Walk.{above}
+use Rattle.graph_words.proofs.Up.{up}
+use Rattle.graph_words.proofs.Returns.{some_same}
+use Rattle.graph_words.specs.Met.{met_by, unmet, AreNumbered, HasEnded}
+use Rattle.graph_words.proofs.Unmet.{HasEntered, unmet-entered, sole_parent}
+use Rattle.graph_words.proofs.Meetings.{Met, IsMeeting, IsEntered, meeting_entered, meeting_next, ended_at_none, ended_at_itself, ended_at_earlier, first_entered}
 use Rattle.graph_table.specs.Table.{Table, live, vertex_at, vertex_or_root, IsNumber}
 use Rattle.grove_decompose.specs.Met.{walk_at, met_of}
 use Rattle.grove_decompose.proofs.Marks.{met_at, entered_at}

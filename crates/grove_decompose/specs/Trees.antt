@@ -1,8 +1,8 @@
 -- Vertices by number, and which of them were met.
 use Rattle.std.specs.Prelude.{◌≡◌, ℕ, Bool, true, List, Some, map, slice_get}
 use Rattle.grove_edits.specs.declared.vertex.Vertex.{Vertex}
-use Rattle.walks.specs.declared.class.Class.TheVariants.{Inner}
-use Rattle.walks.specs.Class.{class}
+use Rattle.graph_words.specs.declared.class.Class.TheVariants.{Inner}
+use Rattle.graph_words.specs.Class.{class}
 use Rattle.graph_table.specs.Table.{Table, live, vertex_at}
 
 -- the vertices of some numbers, in order

@@ -1,5 +1,5 @@
 ghost use Rattle.std.specs.Prelude.{◌≡◌, None, Some, IfSome, IfNone};
-ghost use Rattle.walks.specs.Walk.{above};
+ghost use Rattle.graph_words.specs.Walk.{above};
 ghost use Rattle.graph_table.specs.Table.{live, vertex_at, IsNumber};
 
 use graph_table::{GraphTable, Parents};

@@ -1,11 +1,11 @@
 ghost use Rattle.std.specs.Prelude.{◌≡◌};
 
-use crate::no_memory::NoMemory;
 use crate::noted_numbers::NotedNumbers;
 use crate::tree_source::TreeSource;
 use graph_table::{GraphTable, Parents};
 use grove_sorts::Position;
 use grove_terms::LentEdge;
+use text_parts::NoMemory;
 
 /// Nothing is counted.
 #[derive(Clone, Copy, Debug)]

@@ -1,14 +1,14 @@
 ghost use Rattle.std.specs.Prelude.{◌≡◌, ◌≢◌, false, length, IfOk};
 ghost use Rattle.std.specs.List.{AllByRecursion};
-ghost use Rattle.walks.specs.declared.class.Class.TheVariants.{Cycle};
-ghost use Rattle.walks.specs.Class.{class, of_class};
+ghost use Rattle.graph_words.specs.declared.class.Class.TheVariants.{Cycle};
+ghost use Rattle.graph_words.specs.Class.{class, of_class};
 ghost use Rattle.graph_table.specs.Table.{live, vertex_at, IsNumber};
 ghost use Rattle.grove_decompose.specs.Trees.{OnlyInner, vertices_of};
 
-use crate::no_memory::NoMemory;
 use crate::seen::Seen;
 use graph_table::{GraphTable, Parents};
 use std::alloc::Global;
+use text_parts::NoMemory;
 
 // Whether a vertex was not seen and has one parent. No other one is the least of a cycle.
 fn may_be_root(table: &GraphTable, number: usize, seen: &Seen) -> bool

@@ -1,19 +1,19 @@
 ghost use Rattle.std.specs.Prelude.{◌≡◌, ◌≢◌, ◌++◌, ◌∷◌, ◌≤◌, [], true, length, map, OnOk, IfOk, IfSome};
 ghost use Rattle.std.specs.List.{AllByRecursion};
-ghost use Rattle.walks.specs.declared.class.Class.TheVariants.{Inner};
-ghost use Rattle.walks.specs.Live.{holds_edge};
-ghost use Rattle.walks.specs.Class.{class};
+ghost use Rattle.graph_words.specs.declared.class.Class.TheVariants.{Inner};
+ghost use Rattle.graph_words.specs.Live.{holds_edge};
+ghost use Rattle.graph_words.specs.Class.{class};
 ghost use Rattle.edit_table.specs.Lent.{lent_vertex};
 ghost use Rattle.grove_terms.specs.Lent.{edge_of, what_as};
 ghost use Rattle.grove_terms.specs.Nodes.{child_node};
 ghost use Rattle.grove_decompose.specs.Tasks.{what_by, child_rest, task_at, IsFound, IsUnder};
 
-use crate::no_memory::NoMemory;
 use crate::place::push_lent_places;
 use crate::task::Task;
 use crate::tree_source::TreeSource;
 use edit_table::{LentVertex, is_same_lent};
 use grove_terms::{LentEdge, LentNode, Role, Tree};
+use text_parts::NoMemory;
 
 // What a child is: under a root only the root itself heads a tree with one parent.
 fn role_of<'g, G: TreeSource<'g>>(

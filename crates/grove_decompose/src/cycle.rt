@@ -2,8 +2,8 @@ ghost use Rattle.std.specs.Prelude.{◌≡◌, true, if◌then◌else◌};
 ghost use Rattle.std.specs.List.{IsDistinct};
 ghost use Rattle.std.specs.Ordering.{is_gt};
 ghost use Rattle.grove_edits.specs.Vertex.{vertex_cmp, is_same_vertex};
-ghost use Rattle.walks.specs.Class.{is_cycle_root};
-ghost use Rattle.walks.specs.Cycle.{is_on_cycle, leads_to};
+ghost use Rattle.graph_words.specs.Class.{is_cycle_root};
+ghost use Rattle.graph_words.specs.Cycle.{is_on_cycle, leads_to};
 ghost use Rattle.graph_table.specs.Table.{live, vertex_at, IsNumber};
 
 use crate::above::number_above;

@@ -2,17 +2,17 @@ ghost use Rattle.std.specs.Prelude.{◌≡◌, ◌<◌, ◌+◌, ◌^◌, true, 
 ghost use Rattle.std.specs.List.{AllByRecursion, IsDistinct};
 ghost use Rattle.grove_edits.specs.declared.vertex.Vertex.{Vertex};
 ghost use Rattle.grove_edits.specs.Vertex.{is_same_vertex, stands_in};
-ghost use Rattle.walks.specs.declared.class.Class.TheVariants.{Cycle};
-ghost use Rattle.walks.specs.Class.{is_cycle_root, of_class};
+ghost use Rattle.graph_words.specs.declared.class.Class.TheVariants.{Cycle};
+ghost use Rattle.graph_words.specs.Class.{is_cycle_root, of_class};
 ghost use Rattle.graph_table.specs.Table.{live, IsNumber};
 ghost use Rattle.grove_decompose.specs.Trees.{vertices_of};
 ghost use Rattle.grove_decompose.specs.Met.{marked};
 
 use crate::cycle::root_of_cycle;
 use crate::met::{Met, walk_up};
-use crate::no_memory::NoMemory;
 use graph_table::GraphTable;
 use std::alloc::Global;
+use text_parts::NoMemory;
 
 // The numbers of walks, and those that are one more, are kept in 32 bits.
 fn want_walks(starts: &[u32]) -> Result<(), NoMemory>

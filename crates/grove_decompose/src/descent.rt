@@ -1,7 +1,7 @@
 ghost use Rattle.std.specs.Prelude.{◌≡◌, ◌≢◌, ◌++◌, ◌∷◌, ◌≤◌, [], length, map, OnOk, IfOk, IfSome};
 ghost use Rattle.std.specs.List.{AllByRecursion};
-ghost use Rattle.walks.specs.declared.class.Class.TheVariants.{Inner};
-ghost use Rattle.walks.specs.Class.{class};
+ghost use Rattle.graph_words.specs.declared.class.Class.TheVariants.{Inner};
+ghost use Rattle.graph_words.specs.Class.{class};
 ghost use Rattle.edit_table.specs.Lent.{lent_vertex};
 ghost use Rattle.grove_terms.specs.Lent.{node_of};
 ghost use Rattle.grove_terms.specs.Nodes.{head_node};
@@ -9,7 +9,6 @@ ghost use Rattle.grove_terms.specs.Grove.{IsTreeOf};
 ghost use Rattle.grove_decompose.specs.Tasks.{IsFound, IsSound, step_nodes, step_tasks, task_at};
 
 use crate::child::list_child;
-use crate::no_memory::NoMemory;
 use crate::place::{list_place, push_lent_places};
 use crate::room::Room;
 use crate::task::Task;
@@ -17,6 +16,7 @@ use crate::tree_source::TreeSource;
 use edit_table::LentVertex;
 use grove_terms::{LentNode, Tree};
 use std::alloc::Global;
+use text_parts::NoMemory;
 
 // Lists the first nodes of a part of a tree, and adds tasks for the rest of it. It tells the vertex that it lists under another one,
 // if it does. The list is for the children of a position.

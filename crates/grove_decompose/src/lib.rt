@@ -11,7 +11,6 @@ mod cycles;
 mod descent;
 mod met;
 mod narrow_count;
-mod no_memory;
 mod noted_numbers;
 mod place;
 mod room;
@@ -21,8 +20,8 @@ mod tree_source;
 mod trees;
 
 pub use descent::tree_of;
-pub use no_memory::NoMemory;
 pub use room::Room;
 pub use seen::Seen;
+pub use text_parts::NoMemory;
 pub use tree_source::TreeSource;
 pub use trees::{NumberedHeads, cycle_heads, heads_of, tree_by_number};

@@ -1,15 +1,15 @@
 ghost use Rattle.std.specs.Prelude.{◌≡◌, ◌<◌, ◌+◌, ◌^◌, length, option_map, replicate, slice_set, IfOk, IfSome, IsSome};
 ghost use Rattle.std.specs.List.{IsDistinct};
 ghost use Rattle.grove_edits.specs.Vertex.{is_same_vertex};
-ghost use Rattle.walks.specs.Met.{met_by, KeepsMet, AreNumbered, HasEnded};
+ghost use Rattle.graph_words.specs.Met.{met_by, KeepsMet, AreNumbered, HasEnded};
 ghost use Rattle.graph_table.specs.Table.{live, vertex_at, IsNumber};
 ghost use Rattle.grove_decompose.specs.Met.{met_of, walk_at};
 
 use crate::above::number_above;
-use crate::no_memory::NoMemory;
 use graph_table::GraphTable;
 use std::alloc::Global;
 use std::marker::Model;
+use text_parts::NoMemory;
 
 /// Which walk up met each vertex first, by the numbers of the vertices.
 #[derive(Drop)]

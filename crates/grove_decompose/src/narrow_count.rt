@@ -3,10 +3,10 @@ ghost use Rattle.std.specs.List.{IsDistinct};
 ghost use Rattle.grove_edits.specs.declared.vertex.Vertex.{Vertex};
 ghost use Rattle.grove_edits.specs.Graph.{graph};
 ghost use Rattle.grove_edits.specs.Vertex.{is_same_vertex, stands_in};
-ghost use Rattle.walks.specs.Whole.{IsVertexOf};
+ghost use Rattle.graph_words.specs.Whole.{IsVertexOf};
 
-use crate::no_memory::NoMemory;
 use graph_table::GraphTable;
+use text_parts::NoMemory;
 
 /// How many vertices a table has, in 32 bits, as lists keep their numbers.
 pub(crate) fn narrow_count(table: &GraphTable) -> Result<u32, NoMemory>

@@ -1,13 +1,13 @@
 ghost use Rattle.std.specs.Prelude.{◌≡◌, Some, true, slice_get, IfOk};
-ghost use Rattle.walks.specs.declared.class.Class.TheVariants.{Inner};
-ghost use Rattle.walks.specs.Class.{class};
+ghost use Rattle.graph_words.specs.declared.class.Class.TheVariants.{Inner};
+ghost use Rattle.graph_words.specs.Class.{class};
 ghost use Rattle.graph_table.specs.Table.{live, vertex_at};
 ghost use Rattle.grove_decompose.specs.Trees.{OnlyInner};
 
-use crate::no_memory::NoMemory;
 use graph_table::GraphTable;
 use std::alloc::Global;
 use std::marker::Model;
+use text_parts::NoMemory;
 
 /// The numbers of vertices that were listed in the tree of another one.
 #[derive(Drop)]

@@ -3,11 +3,11 @@ ghost use Rattle.grove_sorts.specs.Ctor.{positions};
 ghost use Rattle.edit_table.specs.Lent.{lent_ctor};
 ghost use Rattle.grove_decompose.specs.Tasks.{place_tasks, child_tasks, place_head, place_rest};
 
-use crate::no_memory::NoMemory;
 use crate::task::Task;
 use edit_table::LentCtor;
 use grove_sorts::{Ctor, Position, Sort, place_at, position_count};
 use grove_terms::{LentNode, Tree};
+use text_parts::NoMemory;
 
 // Adds a task for each position of a vertex, so that the first position is taken first.
 fn push_places<S: Copy, L: Copy>(

@@ -1,12 +1,12 @@
 ghost use Rattle.std.specs.Prelude.{◌≡◌, Some, true, slice_get, IfOk};
 ghost use Rattle.grove_decompose.specs.Trees.{OnlyInner};
 
-use crate::no_memory::NoMemory;
 use crate::noted_numbers::NotedNumbers;
 use crate::room::Room;
 use graph_table::GraphTable;
 use std::alloc::Global;
 use std::marker::Model;
+use text_parts::NoMemory;
 
 /// Which vertices of a graph were listed in the tree of another one, by their numbers. It also keeps the lists by which its trees are
 /// listed, from one tree to the next.

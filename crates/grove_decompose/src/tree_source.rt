@@ -1,14 +1,14 @@
 ghost use Rattle.std.specs.Prelude.{◌≡◌, map, OnOk};
 ghost use Rattle.std.specs.List.{AllByRecursion};
-ghost use Rattle.walks.specs.declared.class.Class.TheVariants.{Inner};
-ghost use Rattle.walks.specs.Live.{children_of};
-ghost use Rattle.walks.specs.Class.{class};
+ghost use Rattle.graph_words.specs.declared.class.Class.TheVariants.{Inner};
+ghost use Rattle.graph_words.specs.Live.{children_of};
+ghost use Rattle.graph_words.specs.Class.{class};
 ghost use Rattle.grove_terms.specs.Lent.{edge_of};
 ghost use Rattle.grove_decompose.specs.Tasks.{is_shared};
 
-use crate::no_memory::NoMemory;
 use grove_sorts::Position;
 use grove_terms::LentEdge;
+use text_parts::NoMemory;
 
 /// A graph as the listing of its trees asks for it. It lends its edges.
 pub trait TreeSource<'g> {

@@ -2,9 +2,9 @@ ghost use Rattle.std.specs.Prelude.{◌≡◌, ◌≢◌, List, length, IfOk};
 ghost use Rattle.std.specs.List.{AllByRecursion};
 ghost use Rattle.grove_edits.specs.declared.vertex.Vertex.{Vertex};
 ghost use Rattle.grove_edits.specs.Graph.{graph};
-ghost use Rattle.walks.specs.declared.class.Class.TheVariants.{NoParent, Multi, Cycle, Inner};
-ghost use Rattle.walks.specs.Class.{class, of_class};
-ghost use Rattle.walks.specs.Whole.{AreVertices};
+ghost use Rattle.graph_words.specs.declared.class.Class.TheVariants.{NoParent, Multi, Cycle, Inner};
+ghost use Rattle.graph_words.specs.Class.{class, of_class};
+ghost use Rattle.graph_words.specs.Whole.{AreVertices};
 ghost use Rattle.graph_table.specs.Table.{live, vertex_at, IsNumber};
 ghost use Rattle.grove_terms.specs.Grove.{IsTreeOf};
 ghost use Rattle.grove_terms.specs.Sorted.{IsSortedTree};
@@ -15,11 +15,11 @@ use crate::candidates::candidates_of;
 use crate::cycles::cycle_roots;
 use crate::descent::tree_of;
 use crate::narrow_count::narrow_count;
-use crate::no_memory::NoMemory;
 use crate::seen::Seen;
 use graph_table::{GraphTable, Parents};
 use grove_terms::{LentNode, Tree};
 use std::alloc::Global;
+use text_parts::NoMemory;
 
 /// The numbers of vertices that head trees and stand on no cycle.
 #[derive(Drop)]

@@ -1,4 +1,5 @@
 -- What edges are well formed, the first fault of one that is not, and their order.
+-- The promise of the commands rests on these definitions.
 use Rattle.std.specs.Prelude.{◌<◌, ◌^◌, Bool, true, false, ◌&&◌, nat_lt, Option, Some, None, IsTrue, is_none, is_some, if◌then◌else◌}
 use Rattle.std.specs.declared.cmp.Ordering.{Ordering}
 use Rattle.std.specs.Ordering.{ordering_then}

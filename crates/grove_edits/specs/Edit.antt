@@ -1,4 +1,5 @@
 -- What an edit does, and to which edge.
+-- The promise of the commands rests on these definitions.
 use Rattle.std.specs.Prelude.{ℕ}
 use Rattle.std.specs.declared.cmp.Ordering.{Ordering}
 use Rattle.std.specs.Ordering.{nat_cmp, ordering_then}

@@ -3,9 +3,9 @@ ghost use Rattle.grove_edits.specs.Graph.{graph, IsCanonical};
 
 use crate::canonical::keep_last_of_each_edge;
 use crate::edit::Edit;
-use crate::no_memory::NoMemory;
 use std::alloc::Global;
 use std::marker::Model;
+use text_parts::NoMemory;
 
 /// Edits in order.
 #[derive(Debug, Drop)]

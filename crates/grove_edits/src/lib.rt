@@ -14,7 +14,6 @@ mod edge;
 mod edit;
 mod edit_list;
 mod laws;
-mod no_memory;
 mod spelled;
 mod vertex;
 
@@ -31,6 +30,6 @@ pub use laws::{
     a_well_formed_edge_fits, an_edit_is_its_kind_and_edge, edges_are_ordered, edits_commute,
     graphs_join, one_canonical_list,
 };
-pub use no_memory::NoMemory;
 pub use spelled::{SpelledEdge, SpelledEdit, SpelledVertex};
+pub use text_parts::NoMemory;
 pub use vertex::{Vertex, compare_vertices, is_same_vertex};

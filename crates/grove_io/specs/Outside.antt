@@ -1,4 +1,5 @@
 -- What a call of a source or of a sink does to the bytes, where they are told, and to the count of faults.
+-- The promise of the commands rests on these definitions.
 use Rattle.std.specs.Prelude.{◌≡◌, ◌<◌, ◌⊎◌, ◌+◌, ◌-◌, ◌^◌, ℕ, min, List, [], ◌++◌, take, Option, None, Some, Result, Ok, Err}
 use Rattle.std.specs.Option.{option_map}
 

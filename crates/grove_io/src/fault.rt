@@ -5,6 +5,7 @@ ghost use Rattle.grove_io.specs.declared.fault.InputFault.TheVariants.{NoMemory,
 use std::alloc::AllocError;
 use std::error::Error;
 use std::fmt;
+use text_parts::NoMemory;
 
 /// A call of a source or of a sink failed. It moved no byte, and the count of faults has risen.
 #[derive(Clone, Copy, Debug, PartialEq, Eq)]
@@ -57,10 +58,10 @@ impl From<AllocError> for InputFault {
     }
 }
 
-impl From<crate::NoMemory> for InputFault {
+impl From<NoMemory> for InputFault {
     ghost from_gives = { λ _ fault. fault ≡ NoMemory };
 
-    fn from(_: crate::NoMemory) -> Self {
+    fn from(_: NoMemory) -> Self {
         InputFault::NoMemory
     }
 }

@@ -4,10 +4,9 @@
 
 mod fault;
 mod name;
-mod no_memory;
 mod text;
 
 pub use fault::NameFault;
 pub use name::{Name, names_are_ordered};
-pub use no_memory::NoMemory;
 pub use text::{name_has_one_text, read_name, take_name, write_name};
+pub use text_parts::NoMemory;

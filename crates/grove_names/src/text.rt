@@ -6,8 +6,7 @@ ghost use Rattle.grove_names.specs.Name.{InRange, name_text};
 
 use crate::fault::NameFault;
 use crate::name::Name;
-use crate::no_memory::NoMemory;
-use text_parts::{put_number, take_number};
+use text_parts::{NoMemory, put_number, take_number};
 
 // Room for two numbers and a dot. An author has 10 digits at most, but `put_number` asks for the room of the longest number, 20.
 const ROOM_FOR_A_NAME: usize = 41;

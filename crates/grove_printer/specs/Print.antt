@@ -1,4 +1,5 @@
 -- The print text of groves.
+-- The promise of the commands rests on these definitions.
 use Rattle.std.specs.Prelude.{◌≡◌, ℕ, List, [], ◌∷◌, ◌++◌, length, Option, Some, None, codes, decimal, if◌then◌else◌}
 use Rattle.grove_names.specs.Name.{name_text}
 use Rattle.grove_sorts.specs.declared.position.Position.{Position}

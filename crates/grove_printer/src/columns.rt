@@ -5,12 +5,11 @@ ghost use Rattle.grove_terms.specs.Lent.{edge_of, node_of, what_of};
 ghost use Rattle.std.specs.Option.{option_map};
 ghost use Rattle.grove_printer.specs.Print.{Extends, position_column, edge_column, vertex_column, what_column, place_columns, node_columns};
 
-use crate::no_memory::NoMemory;
 use edit_table::LentCtor;
 use grove_names::write_name;
 use grove_sorts::{Position, write_ctor, write_position};
 use grove_terms::{LentEdge, LentNode, LentWhat};
-use text_parts::{write_number, write_short};
+use text_parts::{NoMemory, write_number, write_short};
 
 // After an error each of these functions may have appended a part.
 

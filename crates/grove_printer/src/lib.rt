@@ -5,12 +5,11 @@ mod columns;
 mod line;
 mod marked_lines;
 mod marks;
-mod no_memory;
 mod print;
 mod section;
 
 pub use line::whole_or_nothing;
 pub use marked_lines::{append_marked_lines_of, print_marked_lines_of};
-pub use no_memory::NoMemory;
 pub use print::{append_heading, append_tree, print_heading, print_tree};
 pub use section::Section;
+pub use text_parts::NoMemory;

@@ -6,9 +6,9 @@ ghost use Rattle.grove_printer.specs.Print.{Extends, node_line};
 
 use crate::columns::append_columns;
 use crate::marks::append_marks;
-use crate::no_memory::NoMemory;
 use grove_terms::LentNode;
 use marking::Added;
+use text_parts::NoMemory;
 use type_core::TypePrinter;
 
 /// Appends the line of a node and what marking adds to it; after an error a part of it may stand.

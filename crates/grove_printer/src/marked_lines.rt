@@ -4,8 +4,8 @@ ghost use Rattle.marking.specs.Numbers.{AreMarkedNodesOf};
 ghost use Rattle.grove_printer.specs.Print.{Extends, tree_marked_lines};
 
 use crate::line::{append_line, whole_or_nothing};
-use crate::no_memory::NoMemory;
 use marking::MarkedTree;
+use text_parts::NoMemory;
 use type_core::{TypePrinter, TypeTable};
 
 /// Appends the lines of a marked tree whose nodes have a mark.

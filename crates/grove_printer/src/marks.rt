@@ -8,12 +8,11 @@ ghost use Rattle.marking.specs.Reading.{meant};
 ghost use Rattle.marking.specs.Numbers.{IsMarkedNodeOf};
 ghost use Rattle.grove_printer.specs.Print.{Extends, sort_of_node, mode_column, type_column, mark_text, mark_columns};
 
-use crate::no_memory::NoMemory;
 use grove_sorts::{Sort, write_sort};
 use grove_terms::{LentNode, LentWhat};
 use mark_step::{Mark, Mode};
 use marking::Added;
-use text_parts::write_short;
+use text_parts::{NoMemory, write_short};
 use type_core::{TypeId, TypePrinter};
 
 /// How many levels of a type are printed.

@@ -4,10 +4,9 @@ ghost use Rattle.marking.specs.Numbers.{AreMarkedNodesOf};
 ghost use Rattle.grove_printer.specs.Print.{Extends, tree_text, heading};
 
 use crate::line::{append_line, whole_or_nothing};
-use crate::no_memory::NoMemory;
 use crate::section::Section;
 use marking::MarkedTree;
-use text_parts::{write_number, write_short};
+use text_parts::{NoMemory, write_number, write_short};
 use type_core::{TypePrinter, TypeTable};
 
 /// Appends the heading of a list of trees: which list it is, and how many trees there are.

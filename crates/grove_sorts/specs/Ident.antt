@@ -1,4 +1,5 @@
 -- The bytes of an identifier.
+-- The promise of the commands rests on these definitions.
 use Rattle.std.specs.Prelude.{ℕ, List, take}
 use Rattle.std.specs.declared.cmp.Ordering.{Ordering}
 use Rattle.std.specs.Ordering.{nat_cmp}

@@ -1,4 +1,5 @@
 -- Which bytes are an identifier.
+-- The promise of the commands rests on these definitions.
 use Rattle.std.specs.Prelude.{ℕ, Bool, false, ◌&&◌, ◌||◌, nat_le, ◌==◌, List, [], ◌∷◌, length, IsTrue}
 use Rattle.std.specs.List.{list_all}
 use Rattle.grove_sorts.specs.declared.version.Version.{Version}

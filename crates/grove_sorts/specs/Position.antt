@@ -1,4 +1,5 @@
 -- The table of positions: their words and their order.
+-- The promise of the commands rests on these definitions.
 use Rattle.std.specs.Prelude.{ℕ, Bool, List, codes}
 use Rattle.std.specs.declared.cmp.Ordering.{Ordering}
 use Rattle.std.specs.Ordering.{nat_cmp, is_eq}

@@ -1,4 +1,5 @@
 -- The table of constructors: one row for each. All that is said of a constructor beside its rule of typing is read off its row.
+-- The promise of the commands rests on these definitions.
 use Rattle.std.specs.Prelude.{ℕ, List, [], ◌∷◌, Option, Some, None, codes}
 use Rattle.grove_sorts.specs.declared.version.Version.{Version}
 use Rattle.grove_sorts.specs.declared.version.Version.TheVariants.{One, Two}

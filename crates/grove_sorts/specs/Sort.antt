@@ -1,4 +1,5 @@
 -- The texts of sorts, and their numbers.
+-- The promise of the commands rests on these definitions.
 use Rattle.std.specs.Prelude.{ℕ, List, codes}
 use Rattle.grove_sorts.specs.declared.sort.Sort.{Sort}
 use Rattle.grove_sorts.specs.declared.sort.Sort.TheVariants.{Top, Exp, Pat, Typ}

@@ -1,4 +1,5 @@
 -- What each version of the text knows.
+-- The promise of the commands rests on these definitions.
 use Rattle.std.specs.Prelude.{ℕ, Bool, true, false, ◌&&◌, nat_le, List, [], length, IsTrue}
 use Rattle.grove_sorts.specs.declared.version.Version.{Version}
 use Rattle.grove_sorts.specs.declared.version.Version.TheVariants.{One, Two}

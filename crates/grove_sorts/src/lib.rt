@@ -5,7 +5,6 @@
 mod ctor;
 mod ident;
 mod laws;
-mod no_memory;
 mod plain;
 mod position;
 mod read;
@@ -22,7 +21,6 @@ pub use laws::{
     plain_constructors_are_their_constructors, positions_are_ordered, positions_are_their_words,
     rows_are_in_order,
 };
-pub use no_memory::NoMemory;
 pub use plain::{Plain, all_plain};
 pub use position::Position;
 pub use read::{read_ctor, read_ident, read_position, read_spelled};
@@ -31,5 +29,6 @@ pub use spelled::{SpelledCtor, Spelling};
 pub use table::{
     WIDEST, first_position_of_sort, place_at, position_at, position_count, position_sort, sort_of,
 };
+pub use text_parts::NoMemory;
 pub use version::{Version, longest_identifier};
 pub use write::{write_ctor, write_ident, write_position, write_sort};

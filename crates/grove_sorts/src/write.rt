@@ -6,11 +6,10 @@ ghost use Rattle.grove_sorts.specs.Sort.{sort_text};
 
 use crate::ctor::Ctor;
 use crate::ident::Ident;
-use crate::no_memory::NoMemory;
 use crate::plain::Plain;
 use crate::position::Position;
 use crate::sort::Sort;
-use text_parts::{write_number, write_short};
+use text_parts::{NoMemory, write_number, write_short};
 
 /// Appends an identifier.
 pub fn write_ident(ident: &Ident, out: &mut Vec<u8>) -> Result<(), NoMemory>

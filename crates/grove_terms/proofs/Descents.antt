@@ -4,12 +4,12 @@ use Rattle.std.specs.Prelude.{◌||◌, Some}
 use Rattle.grove_sorts.proofs.Truths.{or_left, or_right, false_from}
 use Rattle.grove_edits.specs.declared.vertex.Vertex.{Vertex}
 use Rattle.grove_edits.specs.declared.edge.Edge.{Edge}
-use Rattle.walks.specs.declared.class.Class.TheVariants.{Inner}
+use Rattle.graph_words.specs.declared.class.Class.TheVariants.{Inner}
 use Rattle.grove_edits.specs.Vertex.{is_same_vertex, stands_in}
-use Rattle.walks.specs.Walk.{above}
-use Rattle.walks.specs.Class.{class}
+use Rattle.graph_words.specs.Walk.{above}
+use Rattle.graph_words.specs.Class.{class}
 use Rattle.grove_edits.proofs.Vertices.{same_vertex_itself, same_vertex_exact}
-use Rattle.walks.proofs.Endings.{AllStandIn, AreApart, target_list, length-target_list, target-from_above, length-AllStandIn}
+use Rattle.graph_words.proofs.Endings.{AllStandIn, AreApart, target_list, length-target_list, target-from_above, length-AllStandIn}
 
 -- vertices from the lowest up to a root, each of them but the root inner and below the next
 abbrev pub IsDescent : List Edge → Vertex → List Vertex → Type 0

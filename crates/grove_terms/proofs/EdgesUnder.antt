@@ -7,7 +7,7 @@ use Rattle.grove_sorts.specs.Ctor.{positions}
 use Rattle.grove_edits.specs.declared.vertex.Vertex.{Vertex}
 use Rattle.grove_edits.specs.declared.edge.Edge.{Edge}
 use Rattle.grove_edits.specs.Edge.{IsWellFormed}
-use Rattle.walks.specs.Live.{children_of}
+use Rattle.graph_words.specs.Live.{children_of}
 use Rattle.grove_edits.specs.Vertex.{is_same_vertex}
 use Rattle.grove_sorts.specs.Position.{is_same_position}
 use Rattle.grove_edits.proofs.Vertices.{same_vertex_exact}

@@ -4,11 +4,11 @@ use Rattle.std.specs.Prelude.{Some}
 use Rattle.std.specs.List.{AllByRecursion}
 use Rattle.grove_edits.specs.declared.vertex.Vertex.{Vertex}
 use Rattle.grove_edits.specs.declared.edge.Edge.{Edge}
-use Rattle.walks.specs.declared.class.Class.{Class}
-use Rattle.walks.specs.declared.class.Class.TheVariants.{NoParent, Multi, Cycle, Inner}
-use Rattle.walks.specs.Walk.{above}
-use Rattle.walks.specs.Class.{class}
-use Rattle.walks.proofs.Endings.{AreApart}
+use Rattle.graph_words.specs.declared.class.Class.{Class}
+use Rattle.graph_words.specs.declared.class.Class.TheVariants.{NoParent, Multi, Cycle, Inner}
+use Rattle.graph_words.specs.Walk.{above}
+use Rattle.graph_words.specs.Class.{class}
+use Rattle.graph_words.proofs.Endings.{AreApart}
 use Rattle.grove_terms.specs.Forest.{Forest, none, multi_ref, cycle_ref, tree, child_edges, edges_under, AreChildren, StandsUnder}
 use Rattle.grove_terms.proofs.InLive.{IsFrom, target_has_parent, above_target, under_lead}
 use Rattle.grove_terms.proofs.Descents.{IsDescent, new_below, length-descent}

@@ -11,13 +11,13 @@ use Rattle.grove_edits.specs.declared.edit.Edit.{Edit}
 use Rattle.grove_edits.specs.Vertex.{vertex_cmp, is_same_vertex, stands_in}
 use Rattle.grove_edits.specs.Edge.{IsWellFormed}
 use Rattle.grove_edits.specs.Graph.{Graph, graph, is_same_edge}
-use Rattle.walks.specs.declared.class.Class.{Class}
-use Rattle.walks.specs.declared.class.Class.TheVariants.{NoParent, Multi, Cycle, Inner}
-use Rattle.walks.specs.Live.{parents_of, holds_edge}
-use Rattle.walks.specs.Class.{class, is_same_class, of_class}
-use Rattle.walks.specs.Whole.{IsVertexOf, IsInVertexOrder, AreLive}
+use Rattle.graph_words.specs.declared.class.Class.{Class}
+use Rattle.graph_words.specs.declared.class.Class.TheVariants.{NoParent, Multi, Cycle, Inner}
+use Rattle.graph_words.specs.Live.{parents_of, holds_edge}
+use Rattle.graph_words.specs.Class.{class, is_same_class, of_class}
+use Rattle.graph_words.specs.Whole.{IsVertexOf, IsInVertexOrder, AreLive}
 use Rattle.grove_edits.proofs.Vertices.{same_vertex_exact, same_vertex_laws}
-use Rattle.walks.proofs.Chains.{IsChain, chain_top, has_chain, chain_apart, is_inner, not_inner_from_test, heads_on_chain}
+use Rattle.graph_words.proofs.Chains.{IsChain, chain_top, has_chain, chain_apart, is_inner, not_inner_from_test, heads_on_chain}
 use Rattle.grove_terms.specs.declared.grove.Grove.{Grove}
 use Rattle.grove_terms.specs.declared.node.Node.{Node}
 use Rattle.grove_terms.specs.Forest.{Forest, none, multi_ref, cycle_ref, tree, child_edges, edges_under, AreChildren}

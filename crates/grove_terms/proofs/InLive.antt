@@ -12,12 +12,12 @@ use Rattle.grove_edits.specs.declared.edge.Edge.{Edge}
 use Rattle.grove_edits.specs.Graph.{is_same_edge}
 use Rattle.std.proofs.lemmas.Cmp.{tied_itself}
 use Rattle.grove_edits.proofs.Orders.{edge_cmp_total, one_edge}
-use Rattle.walks.specs.declared.class.Class.TheVariants.{NoParent, Inner}
-use Rattle.walks.specs.Live.{holds_edge, parents_of, children_of}
+use Rattle.graph_words.specs.declared.class.Class.TheVariants.{NoParent, Inner}
+use Rattle.graph_words.specs.Live.{holds_edge, parents_of, children_of}
 use Rattle.grove_edits.specs.Vertex.{is_same_vertex}
 use Rattle.grove_sorts.specs.Position.{is_same_position}
-use Rattle.walks.specs.Walk.{only_source, above}
-use Rattle.walks.specs.Class.{is_cycle_root, class_by, class}
+use Rattle.graph_words.specs.Walk.{only_source, above}
+use Rattle.graph_words.specs.Class.{is_cycle_root, class_by, class}
 use Rattle.grove_edits.proofs.Vertices.{same_vertex_itself, same_vertex_exact}
 use Rattle.grove_terms.specs.Forest.{edges_from, edges_under}
 

@@ -17,11 +17,11 @@ use Rattle.grove_edits.specs.Edit.{edit_edge, edit_kind}
 use Rattle.grove_edits.specs.Graph.{Graph, graph, state_of, is_same_edge, IsSame, HasSameEdits}
 use Rattle.grove_edits.proofs.Graphs.{graph-same_edits}
 use Rattle.grove_edits.proofs.Orders.{vertex_cmp_total, vertex_cmp_exact, edge_cmp_total, edge_cmp_exact, one_edge}
-use Rattle.walks.specs.declared.class.Class.{Class}
-use Rattle.walks.specs.declared.class.Class.TheVariants.{NoParent, Multi, Cycle, Inner}
-use Rattle.walks.specs.Live.{IsInEdgeOrder, holds_edge}
-use Rattle.walks.specs.Class.{class, is_same_class, of_class}
-use Rattle.walks.specs.Whole.{IsVertexOf, IsInVertexOrder, AreVertices, AreLive}
+use Rattle.graph_words.specs.declared.class.Class.{Class}
+use Rattle.graph_words.specs.declared.class.Class.TheVariants.{NoParent, Multi, Cycle, Inner}
+use Rattle.graph_words.specs.Live.{IsInEdgeOrder, holds_edge}
+use Rattle.graph_words.specs.Class.{class, is_same_class, of_class}
+use Rattle.graph_words.specs.Whole.{IsVertexOf, IsInVertexOrder, AreVertices, AreLive}
 use Rattle.grove_edits.proofs.Vertices.{same_vertex_itself, same_vertex_exact}
 use Rattle.grove_terms.specs.declared.node.Node.{Node}
 use Rattle.grove_terms.specs.declared.grove.Grove.{Grove}
@@ -29,8 +29,8 @@ use Rattle.grove_terms.specs.Nodes.{tree_nodes}
 use Rattle.grove_terms.specs.Grove.{IsTreeOf, AreTreesOf, IsGrove}
 use Rattle.grove_terms.proofs.InOrder.{IsExactOrder, IsInOrder, holds, put, one_in_order, test_itself, in_order_put, holds-put, in_order_filter, holds-filter}
 use Rattle.grove_terms.proofs.Forests.{forest_of, root_stands, one_forest}
-use Rattle.walks.proofs.Truths.{live_from_test, present_from_test, test_from_present}
-use Rattle.walks.specs.States.{is_live, is_present}
+use Rattle.graph_words.proofs.Truths.{live_from_test, present_from_test, test_from_present}
+use Rattle.graph_words.specs.States.{is_live, is_present}
 
 -- ---- lists of edges and of vertices, as lists in an order
 

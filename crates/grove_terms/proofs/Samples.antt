@@ -8,8 +8,8 @@ use Rattle.grove_sorts.specs.declared.sort.Sort.TheVariants.{Exp}
 use Rattle.grove_edits.specs.declared.vertex.Vertex.{Vertex as VertexOf}
 use Rattle.grove_edits.specs.declared.edge.Edge.{Edge}
 use Rattle.grove_edits.specs.Vertex.{root}
-use Rattle.walks.specs.declared.class.Class.TheVariants.{Multi, Cycle, Inner}
-use Rattle.walks.specs.Class.{of_class}
+use Rattle.graph_words.specs.declared.class.Class.TheVariants.{Multi, Cycle, Inner}
+use Rattle.graph_words.specs.Class.{of_class}
 use Rattle.grove_terms.specs.declared.node.Node.{Node}
 use Rattle.grove_terms.specs.declared.node.What.TheVariants.{Vertex, Hole, Conflict, MultiRef, CycleRef}
 use Rattle.grove_terms.specs.Forest.{Forest, none, multi_ref, cycle_ref, tree, StandsUnder, IsWellSorted}

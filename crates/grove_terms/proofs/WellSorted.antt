@@ -14,9 +14,9 @@ use Rattle.grove_edits.specs.Edge.{IsWellFormed, edge_fault}
 use Rattle.grove_edits.specs.Graph.{Graph, graph, is_same_edge}
 use Rattle.grove_edits.proofs.Orders.{same_edge_laws}
 use Rattle.grove_edits.proofs.Graphs.{unnamed}
-use Rattle.walks.specs.Live.{children_of, holds_edge}
+use Rattle.graph_words.specs.Live.{children_of, holds_edge}
 use Rattle.grove_edits.specs.Vertex.{is_same_vertex}
-use Rattle.walks.specs.Whole.{AreLive}
+use Rattle.graph_words.specs.Whole.{AreLive}
 use Rattle.grove_edits.proofs.Vertices.{same_vertex_exact}
 use Rattle.grove_sorts.proofs.Rows.{positions_rise}
 use Rattle.grove_sorts.proofs.Orders.{one_position}

@@ -1,11 +1,12 @@
 -- The grove of a graph.
+-- The promise of the commands rests on these definitions.
 use Rattle.std.specs.Prelude.{◌≡◌, List, [], ◌∷◌, ◌++◌}
 use Rattle.grove_edits.specs.declared.vertex.Vertex.{Vertex}
 use Rattle.grove_edits.specs.declared.edge.Edge.{Edge}
 use Rattle.grove_edits.specs.Graph.{Graph}
-use Rattle.walks.specs.declared.class.Class.TheVariants.{NoParent, Multi, Cycle}
-use Rattle.walks.specs.Class.{of_class}
-use Rattle.walks.specs.Whole.{AreVertices, AreLive}
+use Rattle.graph_words.specs.declared.class.Class.TheVariants.{NoParent, Multi, Cycle}
+use Rattle.graph_words.specs.Class.{of_class}
+use Rattle.graph_words.specs.Whole.{AreVertices, AreLive}
 use Rattle.grove_terms.specs.declared.node.Node.{Node}
 use Rattle.grove_terms.specs.declared.grove.Grove.{Grove}
 use Rattle.grove_terms.specs.Forest.{Forest, StandsUnder}

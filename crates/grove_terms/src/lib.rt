@@ -4,7 +4,6 @@
 
 mod grove;
 mod laws;
-mod no_memory;
 mod node;
 mod tree;
 mod tree_list;
@@ -14,7 +13,7 @@ pub use laws::{
     a_list_is_one_tree, each_live_edge_stands_once, each_vertex_heads_one_tree,
     every_graph_has_one_grove, recomposing_gives_the_edges, trees_are_well_sorted,
 };
-pub use no_memory::NoMemory;
 pub use node::{LentEdge, LentNode, LentWhat, Node, Role, What};
+pub use text_parts::NoMemory;
 pub use tree::Tree;
 pub use tree_list::TreeList;

@@ -1,10 +1,10 @@
 ghost use Rattle.std.specs.Prelude.{◌≡◌, ◌<◌, ◌^◌, [], ◌∷◌, ◌++◌, length, slice_get, OnOk, OnErr};
 ghost use Rattle.grove_terms.specs.Lent.{node_of, nodes_of};
 
-use crate::no_memory::NoMemory;
 use crate::node::{LentNode, Node};
 use std::alloc::Global;
 use std::marker::Model;
+use text_parts::NoMemory;
 
 /// The nodes of a tree in preorder, with edges and vertices lent by the graph.
 #[derive(Debug, Drop)]

@@ -2,7 +2,6 @@
 //! Each form of words is a variant of `Tool`, with a module that forms its answer and a file of definitions that says what it is.
 #![tactic(auto)]
 
-mod no_memory;
 mod outcome;
 mod relay;
 mod tool;

@@ -11,7 +11,6 @@ ghost use Rattle.grove_tools.specs.declared.tool.Tool.TheVariants.{Relay};
 ghost use Rattle.grove_tools.specs.Due.{tool_rules};
 ghost use Rattle.grove_tools.specs.Relay.{AreDealt, IsRelayed, dealt_to, sender_line, sender_lines};
 
-use crate::no_memory::NoMemory;
 use crate::outcome::Handed;
 use grove_calls::{Formed, Refusal, read_edits};
 use grove_edits::{Edit, EditList};
@@ -22,7 +21,7 @@ use shared_replica::Journal;
 use std::alloc::Global;
 use std::sync::Wait;
 use std::thread::Threads;
-use text_parts::write_number;
+use text_parts::{NoMemory, write_number};
 
 /// How many edits the queue of the relay has room for.
 const ROOM: usize = 64;

@@ -1,4 +1,5 @@
 -- The words of the commands.
+-- The promise of the commands rests on these definitions.
 use Rattle.std.specs.declared.alloc.Global.{Global}
 use Rattle.std.specs.Prelude.{String, ◌≡◌, ℕ, ◌≤◌, List, [], ◌∷◌, map, codes, decimal, string_bytes}
 use Rattle.grove_top.specs.declared.command.Command.{Command}

@@ -11,7 +11,6 @@ ghost use Rattle.grove_top.specs.Words.{most_loads};
 ghost use Rattle.grove_top.specs.Due.{IsAnswerTo, IsAnswered, IsReported, IsSummarized, top_rules};
 
 use crate::command::Question;
-use crate::no_memory::NoMemory;
 use edit_merge::merge_lines;
 use edit_table::EditTable;
 use edit_text::{TextFault, split_version, write_version};
@@ -28,6 +27,7 @@ use session_script::{Session, read_session};
 use std::alloc::Global;
 use std::sync::Wait;
 use std::thread::Threads;
+use text_parts::NoMemory;
 
 /// The answer to a question of the graph of a text.
 pub(crate) fn form_answer(

@@ -7,7 +7,6 @@ mod commands;
 mod forms;
 mod laws;
 mod limit;
-mod no_memory;
 mod outcome;
 mod top;
 mod words;

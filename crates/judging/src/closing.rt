@@ -12,13 +12,13 @@ ghost use Rattle.judging.specs.Machine.{made, made_of, of_type, type_added, give
 ghost use Rattle.judging.specs.Frames.{given_at, given_before, opened_at, added_at, IsFilledOf, IsOpenOf, IsClosedOf};
 
 use crate::frame::{Closed, Given, OpenVertex};
-use crate::no_memory::NoMemory;
 use crate::opening::nothing;
 use crate::view::view;
 use ctx_table::CtxTable;
 use grove_sorts::{Ctor, Ident, Sort, sort_of};
 use mark_step::{Demand, Mark, Mode, Settled, settle, settle_literal};
 use std::alloc::Global;
+use text_parts::NoMemory;
 use type_core::{TypeId, TypeTable};
 
 // The type that a constructor makes of two types.

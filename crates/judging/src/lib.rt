@@ -5,12 +5,11 @@
 mod closing;
 mod frame;
 mod laws;
-mod no_memory;
 mod opening;
 mod view;
 
 pub use closing::{close, close_literal};
 pub use frame::{Closed, Frame, Given, GivenRow, OpenVertex};
 pub use laws::taking_all_nodes_marks_the_tree;
-pub use no_memory::NoMemory;
 pub use opening::{demand_at, demand_next, fill, fresh, nothing};
+pub use text_parts::NoMemory;

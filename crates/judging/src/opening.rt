@@ -11,12 +11,12 @@ ghost use Rattle.judging.specs.Machine.{demanded_by};
 ghost use Rattle.judging.specs.Frames.{given_at, opened_at, left_of, demanded_of, with_given, filled_with, IsGivenOf, IsOpenOf, IsFrameOf};
 
 use crate::frame::{Frame, Given, GivenRow, OpenVertex};
-use crate::no_memory::NoMemory;
 use crate::view::{sort_at_place, view};
 use ctx_table::CtxTable;
 use grove_sorts::{Ctor, Sort, sort_of};
 use mark_step::{Demand, Mode, child_demand};
 use std::alloc::Global;
+use text_parts::NoMemory;
 use type_core::TypeTable;
 
 /// What is given where there is neither a type nor a name.

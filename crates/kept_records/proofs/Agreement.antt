@@ -14,8 +14,8 @@ use Rattle.grove_sorts.specs.Ctor.{positions, Rises, sort_in, sort_at, sort_of_c
 use Rattle.grove_edits.specs.declared.vertex.Vertex.{Vertex}
 use Rattle.grove_edits.specs.declared.edge.Edge.{Edge}
 use Rattle.grove_sorts.specs.Position.{position_number, is_same_position}
-use Rattle.walks.specs.Class.{is_same_class}
-use Rattle.walks.specs.declared.class.Class.TheVariants.{Inner}
+use Rattle.graph_words.specs.Class.{is_same_class}
+use Rattle.graph_words.specs.declared.class.Class.TheVariants.{Inner}
 use Rattle.grove_terms.specs.Forest.{Forest, none, multi_ref, cycle_ref, tree, child_edges, edges_under, AreChildren, StandsUnder}
 use Rattle.grove_terms.specs.Nodes.{count_at}
 use Rattle.grove_sorts.proofs.Orders.{one_position, same_position_laws}
@@ -159,8 +159,8 @@ module _ (live : List Edge) (records : Records) (es : List Edge) (x : Expression
   agrees_in low (p ∷ ps) before rises each = (
     λ is. each p.0 (found_first p ps ∙ ap Some (exp_from p.1 is)) ∙ ap (λ b. judge p.0 (demand x (cond b before (types_before x judge p.0 ps (if is_exp p.1 then (before ++ judge p.0 (demand x before) ∷ []) else before))))) (same_position_laws.refl p.0),
     agrees_in (suc (position_number p.0)) ps (if is_exp p.1 then (before ++ judge p.0 (demand x before) ∷ []) else before) rises.1 (λ q there.
-    each q (found_behind p ps q Exp rises.1 there)
-    ∙ ap (λ b. judge q (demand x (cond b before (types_before x judge q ps (if is_exp p.1 then (before ++ judge p.0 (demand x before) ∷ []) else before))))) (other_behind p ps q Exp rises.1 there)),
+        each q (found_behind p ps q Exp rises.1 there)
+        ∙ ap (λ b. judge q (demand x (cond b before (types_before x judge q ps (if is_exp p.1 then (before ++ judge p.0 (demand x before) ∷ []) else before))))) (other_behind p ps q Exp rises.1 there)),
   )
 
   pub agrees : (c : Ctor) → ((q : Position) → sort_at c q ≡ Some Exp → kept_in live records es q ≡ judge q (demand x (types_before x judge q (positions c) []))) → Agrees (positions c) []
@@ -172,8 +172,8 @@ module _ (live : List Edge) (records : Records) (es : List Edge) (x : Expression
   agrees_after low (p ∷ ps) before rises each = (
     λ is. each p.0 (found_first p ps ∙ ap Some (exp_from p.1 is)) ∙ ap (λ b. judge p.0 (demand x (cond b before (kept_before live records es p.0 ps (if is_exp p.1 then (before ++ kept_in live records es p.0 ∷ []) else before))))) (same_position_laws.refl p.0),
     agrees_after (suc (position_number p.0)) ps (if is_exp p.1 then (before ++ kept_in live records es p.0 ∷ []) else before) rises.1 (λ q there.
-    each q (found_behind p ps q Exp rises.1 there)
-    ∙ ap (λ b. judge q (demand x (cond b before (kept_before live records es q ps (if is_exp p.1 then (before ++ kept_in live records es p.0 ∷ []) else before))))) (other_behind p ps q Exp rises.1 there)),
+        each q (found_behind p ps q Exp rises.1 there)
+        ∙ ap (λ b. judge q (demand x (cond b before (kept_before live records es q ps (if is_exp p.1 then (before ++ kept_in live records es p.0 ∷ []) else before))))) (other_behind p ps q Exp rises.1 there)),
   )
 
   pub agrees_by_kept : (c : Ctor) → ((q : Position) → sort_at c q ≡ Some Exp → kept_in live records es q ≡ judge q (demand x (kept_before live records es q (positions c) []))) → Agrees (positions c) []

@@ -13,7 +13,7 @@ use Rattle.grove_sorts.specs.Position.{is_same_position}
 use Rattle.grove_sorts.proofs.Orders.{one_position}
 use Rattle.grove_edits.specs.declared.vertex.Vertex.{Vertex}
 use Rattle.grove_edits.specs.declared.edge.Edge.{Edge}
-use Rattle.walks.specs.Class.{class}
+use Rattle.graph_words.specs.Class.{class}
 use Rattle.grove_terms.specs.Forest.{Forest, none, multi_ref, cycle_ref, tree, child_edges, edges_under, AreChildren, StandsUnder}
 use Rattle.grove_terms.specs.Nodes.{count_at}
 use Rattle.grove_terms.proofs.Forests.{one_forest}

@@ -12,11 +12,11 @@ use Rattle.grove_edits.specs.Edge.{IsWellFormed}
 use Rattle.grove_edits.specs.Graph.{Graph}
 use Rattle.grove_edits.specs.Vertex.{is_same_vertex, stands_in}
 use Rattle.grove_edits.proofs.Vertices.{same_vertex_exact}
-use Rattle.walks.specs.declared.class.Class.TheVariants.{Inner}
-use Rattle.walks.specs.Live.{parents_of}
-use Rattle.walks.specs.Class.{class}
-use Rattle.walks.specs.Whole.{IsVertexOf, AreLive}
-use Rattle.walks.proofs.Chains.{IsChain, has_chain, chain_is_one}
+use Rattle.graph_words.specs.declared.class.Class.TheVariants.{Inner}
+use Rattle.graph_words.specs.Live.{parents_of}
+use Rattle.graph_words.specs.Class.{class}
+use Rattle.graph_words.specs.Whole.{IsVertexOf, AreLive}
+use Rattle.graph_words.proofs.Chains.{IsChain, has_chain, chain_is_one}
 use Rattle.grove_terms.specs.Forest.{Forest, child_edges, StandsUnder}
 use Rattle.mark_step.specs.Expression.{Demanded}
 use Rattle.kept_records.specs.Kept.{Kept, Records, AreKept, expression_of, demanded_at, IsTreeIn, Stands}

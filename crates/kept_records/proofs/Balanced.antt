@@ -5,7 +5,7 @@ use Rattle.grove_sorts.specs.declared.position.Position.TheVariants.{Main, Left,
 use Rattle.grove_sorts.specs.declared.ctor.Ctor.TheVariants.{Plus, Num}
 use Rattle.grove_edits.specs.declared.vertex.Vertex.{Vertex}
 use Rattle.grove_edits.specs.declared.edge.Edge.{Edge}
-use Rattle.walks.specs.Walk.{walk}
+use Rattle.graph_words.specs.Walk.{walk}
 use Rattle.grove_edits.specs.Vertex.{root}
 use Rattle.kept_records.specs.Change.{near_size}
 

@@ -11,7 +11,7 @@ use Rattle.grove_sorts.proofs.Orders.{same_position_laws, one_position, other_po
 use Rattle.grove_sorts.proofs.Rows.{positions_rise}
 use Rattle.grove_edits.specs.declared.vertex.Vertex.{Vertex}
 use Rattle.grove_edits.specs.declared.edge.Edge.{Edge}
-use Rattle.walks.specs.Live.{children_of}
+use Rattle.graph_words.specs.Live.{children_of}
 use Rattle.grove_terms.specs.Forest.{Forest, child_edges, edges_from, edges_under}
 use Rattle.grove_terms.specs.Nodes.{count_at}
 use Rattle.grove_terms.proofs.InLive.{IsFromPlace, children_lead}

@@ -12,11 +12,11 @@ use Rattle.grove_edits.specs.declared.vertex.Vertex.{Vertex}
 use Rattle.grove_edits.specs.declared.edge.Edge.{Edge}
 use Rattle.grove_edits.specs.Edge.{IsWellFormed}
 use Rattle.grove_edits.specs.Graph.{is_same_edge}
-use Rattle.walks.specs.declared.class.Class.{Class}
-use Rattle.walks.specs.declared.class.Class.TheVariants.{Multi, Cycle, Inner}
-use Rattle.walks.specs.Live.{holds_edge, parents_of, children_of}
+use Rattle.graph_words.specs.declared.class.Class.{Class}
+use Rattle.graph_words.specs.declared.class.Class.TheVariants.{Multi, Cycle, Inner}
+use Rattle.graph_words.specs.Live.{holds_edge, parents_of, children_of}
 use Rattle.grove_edits.specs.Vertex.{is_same_vertex}
-use Rattle.walks.specs.Class.{class, class_by, is_cycle_root}
+use Rattle.graph_words.specs.Class.{class, class_by, is_cycle_root}
 use Rattle.grove_edits.proofs.Vertices.{same_vertex_itself, same_vertex_exact}
 use Rattle.grove_terms.specs.Forest.{Forest, none, multi_ref, cycle_ref, tree, child_edges, edges_from, edges_under, AreChildren, StandsUnder}
 use Rattle.grove_edits.proofs.Orders.{one_edge}

@@ -20,11 +20,11 @@ use Rattle.grove_edits.specs.Graph.{Graph, graph, is_same_edge}
 use Rattle.grove_edits.specs.Vertex.{is_same_vertex, stands_in}
 use Rattle.grove_edits.proofs.Orders.{same_edge_laws}
 use Rattle.grove_edits.proofs.Vertices.{same_vertex_exact, same_vertex_itself}
-use Rattle.walks.specs.declared.class.Class.TheVariants.{Inner}
-use Rattle.walks.specs.Live.{holds_edge, children_of, parents_of}
-use Rattle.walks.specs.Class.{class}
-use Rattle.walks.specs.Whole.{IsVertexOf, AreLive}
-use Rattle.walks.proofs.Chains.{has_chain, chain_is_one}
+use Rattle.graph_words.specs.declared.class.Class.TheVariants.{Inner}
+use Rattle.graph_words.specs.Live.{holds_edge, children_of, parents_of}
+use Rattle.graph_words.specs.Class.{class}
+use Rattle.graph_words.specs.Whole.{IsVertexOf, AreLive}
+use Rattle.graph_words.proofs.Chains.{has_chain, chain_is_one}
 use Rattle.grove_terms.specs.Forest.{Forest, none, multi_ref, cycle_ref, tree, child_edges, edges_from, edges_under, StandsUnder}
 use Rattle.grove_terms.specs.Nodes.{count_at}
 use Rattle.grove_terms.proofs.Forests.{one_forest}

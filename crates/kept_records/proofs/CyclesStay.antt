@@ -4,17 +4,17 @@ use Rattle.std.specs.Prelude.{◌&&◌, Option, Some, None}
 use Rattle.std.proofs.lemmas.Bool.{and_parts, or_left, or_right}
 use Rattle.grove_edits.specs.declared.vertex.Vertex.{Vertex}
 use Rattle.grove_edits.specs.declared.edge.Edge.{Edge}
-use Rattle.walks.specs.declared.class.Class.TheVariants.{Inner}
-use Rattle.walks.specs.Live.{parents_of}
+use Rattle.graph_words.specs.declared.class.Class.TheVariants.{Inner}
+use Rattle.graph_words.specs.Live.{parents_of}
 use Rattle.grove_edits.specs.Vertex.{is_same_vertex, stands_in}
-use Rattle.walks.specs.Walk.{only_source, above, above_last, GoesOn, walk}
-use Rattle.walks.specs.Class.{is_vertex_of, is_least, is_cycle_root, class_by}
+use Rattle.graph_words.specs.Walk.{only_source, above, above_last, GoesOn, walk}
+use Rattle.graph_words.specs.Class.{is_vertex_of, is_least, is_cycle_root, class_by}
 use Rattle.grove_edits.proofs.Vertices.{same_vertex_exact, same_vertex_itself}
-use Rattle.walks.proofs.Endings.{walk_is, walk_is_one}
-use Rattle.walks.proofs.Up.{up, next_above, walk_len}
-use Rattle.walks.proofs.Tops.{HasTop, has_top}
-use Rattle.walks.specs.Cycle.{is_on_cycle, leads_to}
-use Rattle.walks.proofs.Cycles.{Reaches, up_through, leads_from_reaches, reaches_from_leads, back_from_cycle, cycle_from_back, leads_back, returns, never_none, back_from_return}
+use Rattle.graph_words.proofs.Endings.{walk_is, walk_is_one}
+use Rattle.graph_words.proofs.Up.{up, next_above, walk_len}
+use Rattle.graph_words.proofs.Tops.{HasTop, has_top}
+use Rattle.graph_words.specs.Cycle.{is_on_cycle, leads_to}
+use Rattle.graph_words.proofs.Cycles.{Reaches, up_through, leads_from_reaches, reaches_from_leads, back_from_cycle, cycle_from_back, leads_back, returns, never_none, back_from_return}
 use Rattle.kept_records.specs.Change.{HasOneMore, Changes, same, comes, goes, CyclesStay}
 use Rattle.grove_sorts.proofs.Truths.{not_both as clash}
 use Rattle.kept_records.proofs.Edits.{change_back, above_stays}

@@ -4,7 +4,7 @@ use Rattle.std.specs.Prelude.{Option, Some, None}
 use Rattle.grove_sorts.specs.declared.ident.Ident.{Ident}
 use Rattle.grove_edits.specs.declared.edge.Edge.{Edge}
 use Rattle.grove_edits.specs.Graph.{is_same_edge}
-use Rattle.walks.specs.declared.class.Class.{Class}
+use Rattle.graph_words.specs.declared.class.Class.{Class}
 use Rattle.grove_edits.proofs.Orders.{one_edge}
 use Rattle.grove_terms.proofs.InLive.{same_edge_itself}
 use Rattle.type_core.specs.declared.former.Former.{Former}

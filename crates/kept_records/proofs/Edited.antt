@@ -13,12 +13,12 @@ use Rattle.grove_edits.specs.declared.edit.EditKind.TheVariants.{Insert, Delete}
 use Rattle.grove_edits.specs.Edge.{IsWellFormed}
 use Rattle.grove_edits.specs.Edit.{edit_edge, edit_kind}
 use Rattle.grove_edits.specs.Graph.{graph, state_of, is_same_edge}
-use Rattle.walks.specs.declared.class.Class.TheVariants.{NoParent, Inner}
-use Rattle.walks.specs.Live.{holds_edge, parents_of}
+use Rattle.graph_words.specs.declared.class.Class.TheVariants.{NoParent, Inner}
+use Rattle.graph_words.specs.Live.{holds_edge, parents_of}
 use Rattle.grove_edits.specs.Vertex.{is_same_vertex, stands_in}
-use Rattle.walks.specs.Class.{class, class_by, is_cycle_root}
-use Rattle.walks.specs.Whole.{IsVertexOf, AreVertices, AreLive}
-use Rattle.walks.specs.Cycle.{is_on_cycle, leads_to}
+use Rattle.graph_words.specs.Class.{class, class_by, is_cycle_root}
+use Rattle.graph_words.specs.Whole.{IsVertexOf, AreVertices, AreLive}
+use Rattle.graph_words.specs.Cycle.{is_on_cycle, leads_to}
 use Rattle.grove_terms.specs.Forest.{Forest, none, edges_under, StandsUnder}
 use Rattle.grove_terms.proofs.InLive.{same_edge_itself, IsFrom, under_lead}
 use Rattle.grove_terms.proofs.OneGrove.{vertices_of, vertices_are}

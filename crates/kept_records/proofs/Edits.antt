@@ -6,11 +6,11 @@ use Rattle.grove_sorts.specs.declared.sort.Sort.{Sort}
 use Rattle.grove_sorts.specs.Ctor.{positions}
 use Rattle.grove_edits.specs.declared.vertex.Vertex.{Vertex}
 use Rattle.grove_edits.specs.declared.edge.Edge.{Edge}
-use Rattle.walks.specs.Live.{parents_of, children_of}
+use Rattle.graph_words.specs.Live.{parents_of, children_of}
 use Rattle.grove_edits.specs.Vertex.{is_same_vertex}
 use Rattle.grove_sorts.specs.Position.{is_same_position}
-use Rattle.walks.specs.Walk.{only_source, above}
-use Rattle.walks.specs.Class.{class, class_by, is_cycle_root}
+use Rattle.graph_words.specs.Walk.{only_source, above}
+use Rattle.graph_words.specs.Class.{class, class_by, is_cycle_root}
 use Rattle.grove_terms.specs.Forest.{edges_from, edges_under}
 use Rattle.kept_records.specs.Change.{HasOneMore, Changes, same, comes, goes}
 

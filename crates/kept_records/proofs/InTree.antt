@@ -8,17 +8,17 @@ use Rattle.grove_edits.specs.declared.edge.Edge.{Edge}
 use Rattle.grove_edits.specs.declared.edit.Edit.{Edit}
 use Rattle.grove_edits.specs.Edge.{IsWellFormed}
 use Rattle.grove_edits.specs.Graph.{graph}
-use Rattle.walks.specs.declared.class.Class.{Class}
-use Rattle.walks.specs.declared.class.Class.TheVariants.{NoParent, Multi, Cycle, Inner}
-use Rattle.walks.specs.Live.{parents_of}
+use Rattle.graph_words.specs.declared.class.Class.{Class}
+use Rattle.graph_words.specs.declared.class.Class.TheVariants.{NoParent, Multi, Cycle, Inner}
+use Rattle.graph_words.specs.Live.{parents_of}
 use Rattle.grove_edits.specs.Vertex.{is_same_vertex, stands_in}
-use Rattle.walks.specs.Walk.{above, GoesOn, walk}
-use Rattle.walks.specs.Class.{class, is_same_class, is_cycle_root}
-use Rattle.walks.specs.Whole.{AreLive}
+use Rattle.graph_words.specs.Walk.{above, GoesOn, walk}
+use Rattle.graph_words.specs.Class.{class, is_same_class, is_cycle_root}
+use Rattle.graph_words.specs.Whole.{AreLive}
 use Rattle.grove_edits.proofs.Vertices.{same_vertex_exact}
-use Rattle.walks.proofs.Endings.{walk_is}
-use Rattle.walks.proofs.Returns.{some_same}
-use Rattle.walks.proofs.Cycles.{class_is_cycle}
+use Rattle.graph_words.proofs.Endings.{walk_is}
+use Rattle.graph_words.proofs.Returns.{some_same}
+use Rattle.graph_words.proofs.Cycles.{class_is_cycle}
 use Rattle.grove_terms.specs.declared.node.Node.{Node}
 use Rattle.grove_terms.specs.Forest.{Forest}
 use Rattle.grove_terms.specs.Nodes.{tree_nodes}

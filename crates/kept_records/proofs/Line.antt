@@ -8,12 +8,12 @@ use Rattle.grove_edits.specs.declared.edge.Edge.{Edge}
 use Rattle.grove_edits.specs.Edge.{IsWellFormed}
 use Rattle.grove_edits.specs.Vertex.{is_same_vertex, stands_in}
 use Rattle.grove_edits.proofs.Vertices.{same_vertex_exact, same_vertex_itself}
-use Rattle.walks.specs.declared.class.Class.TheVariants.{Inner}
-use Rattle.walks.specs.Live.{holds_edge, parents_of}
-use Rattle.walks.specs.Walk.{only_source, above}
-use Rattle.walks.specs.Class.{class}
-use Rattle.walks.proofs.Chains.{IsChain, has_chain, chain_is_one}
-use Rattle.walks.proofs.Returns.{some_same}
+use Rattle.graph_words.specs.declared.class.Class.TheVariants.{Inner}
+use Rattle.graph_words.specs.Live.{holds_edge, parents_of}
+use Rattle.graph_words.specs.Walk.{only_source, above}
+use Rattle.graph_words.specs.Class.{class}
+use Rattle.graph_words.proofs.Chains.{IsChain, has_chain, chain_is_one}
+use Rattle.graph_words.proofs.Returns.{some_same}
 use Rattle.grove_terms.specs.Forest.{Forest, StandsUnder}
 use Rattle.grove_terms.proofs.WellSorted.{held_first}
 use Rattle.mark_step.specs.Expression.{Demanded}

@@ -8,10 +8,10 @@ use Rattle.grove_edits.specs.declared.vertex.Vertex.{Vertex}
 use Rattle.grove_edits.specs.declared.edge.Edge.{Edge}
 use Rattle.grove_edits.specs.Edge.{IsWellFormed}
 use Rattle.grove_edits.specs.Graph.{Graph}
-use Rattle.walks.specs.declared.class.Class.TheVariants.{Inner}
+use Rattle.graph_words.specs.declared.class.Class.TheVariants.{Inner}
 use Rattle.grove_edits.specs.Vertex.{is_same_vertex, stands_in}
-use Rattle.walks.specs.Class.{class}
-use Rattle.walks.specs.Whole.{IsVertexOf, AreLive}
+use Rattle.graph_words.specs.Class.{class}
+use Rattle.graph_words.specs.Whole.{IsVertexOf, AreLive}
 use Rattle.grove_edits.proofs.Vertices.{same_vertex_exact, same_vertex_itself}
 use Rattle.grove_terms.specs.Forest.{Forest, none, multi_ref, cycle_ref, tree}
 use Rattle.mark_step.specs.Expression.{Demanded}

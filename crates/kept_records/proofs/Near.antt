@@ -8,9 +8,9 @@ use Rattle.grove_edits.specs.declared.vertex.Vertex.{Vertex}
 use Rattle.grove_edits.specs.declared.edge.Edge.{Edge}
 use Rattle.grove_edits.specs.Edge.{IsWellFormed}
 use Rattle.grove_edits.specs.Graph.{Graph}
-use Rattle.walks.specs.declared.class.Class.TheVariants.{Inner}
-use Rattle.walks.specs.Class.{class}
-use Rattle.walks.specs.Whole.{IsVertexOf, AreLive}
+use Rattle.graph_words.specs.declared.class.Class.TheVariants.{Inner}
+use Rattle.graph_words.specs.Class.{class}
+use Rattle.graph_words.specs.Whole.{IsVertexOf, AreLive}
 use Rattle.grove_terms.specs.Forest.{Forest, StandsUnder}
 use Rattle.grove_terms.proofs.Forests.{one_forest}
 use Rattle.mark_step.specs.Expression.{Demanded}

@@ -12,12 +12,12 @@ use Rattle.grove_edits.specs.Edge.{IsWellFormed}
 use Rattle.grove_edits.specs.Graph.{Graph}
 use Rattle.grove_edits.specs.Vertex.{is_same_vertex, stands_in}
 use Rattle.grove_edits.proofs.Vertices.{same_vertex_exact, same_vertex_itself}
-use Rattle.walks.specs.declared.class.Class.TheVariants.{Inner}
-use Rattle.walks.specs.Live.{holds_edge, parents_of}
-use Rattle.walks.specs.Walk.{only_source, walk}
-use Rattle.walks.specs.Class.{class, is_same_class}
-use Rattle.walks.specs.Whole.{IsVertexOf, AreLive}
-use Rattle.walks.proofs.Chains.{IsChain, has_chain, chain_apart, inner_from_test, chain_is_one}
+use Rattle.graph_words.specs.declared.class.Class.TheVariants.{Inner}
+use Rattle.graph_words.specs.Live.{holds_edge, parents_of}
+use Rattle.graph_words.specs.Walk.{only_source, walk}
+use Rattle.graph_words.specs.Class.{class, is_same_class}
+use Rattle.graph_words.specs.Whole.{IsVertexOf, AreLive}
+use Rattle.graph_words.proofs.Chains.{IsChain, has_chain, chain_apart, inner_from_test, chain_is_one}
 use Rattle.grove_terms.specs.Forest.{Forest, edges_under, StandsUnder}
 use Rattle.mark_step.specs.Expression.{Demanded}
 use Rattle.mark_step.specs.Step.{settled}

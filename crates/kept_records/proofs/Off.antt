@@ -3,10 +3,10 @@ use Rattle.std.proofs.Common.{◌≡◌, Bool, true, false, List, [], ◌∷◌,
 use Rattle.std.specs.List.{AllByRecursion}
 use Rattle.grove_edits.specs.declared.vertex.Vertex.{Vertex}
 use Rattle.grove_edits.specs.declared.edge.Edge.{Edge}
-use Rattle.walks.specs.declared.class.Class.TheVariants.{Inner}
-use Rattle.walks.specs.Live.{holds_edge}
+use Rattle.graph_words.specs.declared.class.Class.TheVariants.{Inner}
+use Rattle.graph_words.specs.Live.{holds_edge}
 use Rattle.grove_edits.specs.Vertex.{is_same_vertex}
-use Rattle.walks.specs.Class.{class}
+use Rattle.graph_words.specs.Class.{class}
 use Rattle.grove_edits.proofs.Vertices.{same_vertex_exact}
 use Rattle.grove_terms.specs.Forest.{Forest, none, multi_ref, cycle_ref, tree, child_edges, edges_under, AreChildren, StandsUnder}
 use Rattle.grove_terms.proofs.InLive.{IsFrom, under_lead}

@@ -10,11 +10,11 @@ use Rattle.grove_edits.specs.Edge.{IsWellFormed}
 use Rattle.grove_edits.specs.Graph.{Graph}
 use Rattle.grove_edits.specs.Vertex.{is_same_vertex, stands_in}
 use Rattle.grove_edits.proofs.Vertices.{same_vertex_exact}
-use Rattle.walks.specs.declared.class.Class.TheVariants.{Inner}
-use Rattle.walks.specs.Live.{holds_edge}
-use Rattle.walks.specs.Class.{class}
-use Rattle.walks.specs.Whole.{IsVertexOf, AreLive}
-use Rattle.walks.proofs.Chains.{IsChain, has_chain}
+use Rattle.graph_words.specs.declared.class.Class.TheVariants.{Inner}
+use Rattle.graph_words.specs.Live.{holds_edge}
+use Rattle.graph_words.specs.Class.{class}
+use Rattle.graph_words.specs.Whole.{IsVertexOf, AreLive}
+use Rattle.graph_words.proofs.Chains.{IsChain, has_chain}
 use Rattle.grove_terms.specs.Forest.{Forest}
 use Rattle.grove_terms.proofs.WellSorted.{held_first}
 use Rattle.mark_step.specs.Expression.{Demanded}

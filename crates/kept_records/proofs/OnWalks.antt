@@ -5,10 +5,10 @@ use Rattle.std.proofs.lemmas.Bool.{or_cases, or_left, or_right}
 use Rattle.grove_edits.specs.declared.vertex.Vertex.{Vertex}
 use Rattle.grove_edits.specs.declared.edge.Edge.{Edge}
 use Rattle.grove_edits.specs.Vertex.{is_same_vertex, stands_in}
-use Rattle.walks.specs.Walk.{above, GoesOn, walk}
+use Rattle.graph_words.specs.Walk.{above, GoesOn, walk}
 use Rattle.grove_edits.proofs.Vertices.{same_vertex_exact, same_vertex_itself}
-use Rattle.walks.proofs.Endings.{walk_is}
-use Rattle.walks.proofs.Returns.{some_same}
+use Rattle.graph_words.proofs.Endings.{walk_is}
+use Rattle.graph_words.proofs.Returns.{some_same}
 use Rattle.kept_records.specs.Change.{Changes, is_on_walks}
 use Rattle.kept_records.proofs.Edits.{above_stays}
 

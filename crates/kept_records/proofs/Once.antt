@@ -11,15 +11,15 @@ use Rattle.grove_edits.specs.declared.edge.Edge.{Edge}
 use Rattle.grove_edits.specs.Edge.{IsWellFormed, edge_cmp}
 use Rattle.grove_edits.specs.Graph.{Graph, is_same_edge}
 use Rattle.grove_edits.proofs.Orders.{same_edge_laws, one_edge}
-use Rattle.walks.specs.declared.class.Class.TheVariants.{Inner}
-use Rattle.walks.specs.Live.{IsInEdgeOrder, holds_edge, parents_of}
+use Rattle.graph_words.specs.declared.class.Class.TheVariants.{Inner}
+use Rattle.graph_words.specs.Live.{IsInEdgeOrder, holds_edge, parents_of}
 use Rattle.grove_edits.specs.Vertex.{is_same_vertex, stands_in}
-use Rattle.walks.specs.Walk.{only_source, above, GoesOn, walk}
-use Rattle.walks.specs.Class.{class}
-use Rattle.walks.specs.Whole.{IsVertexOf}
+use Rattle.graph_words.specs.Walk.{only_source, above, GoesOn, walk}
+use Rattle.graph_words.specs.Class.{class}
+use Rattle.graph_words.specs.Whole.{IsVertexOf}
 use Rattle.grove_edits.proofs.Vertices.{same_vertex_exact, same_vertex_itself}
-use Rattle.walks.proofs.Endings.{walk_is}
-use Rattle.walks.proofs.Returns.{some_same}
+use Rattle.graph_words.proofs.Endings.{walk_is}
+use Rattle.graph_words.proofs.Returns.{some_same}
 use Rattle.grove_terms.specs.Forest.{Forest, none, multi_ref, cycle_ref, tree, child_edges, edges_under, StandsUnder}
 use Rattle.grove_terms.proofs.InLive.{same_edge_itself}
 use Rattle.grove_terms.proofs.Totals.{once, total}

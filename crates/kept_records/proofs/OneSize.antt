@@ -6,9 +6,9 @@ use Rattle.grove_edits.specs.declared.edit.Edit.{Edit}
 use Rattle.grove_edits.specs.Edit.{edit_edge}
 use Rattle.grove_edits.specs.Graph.{Graph, IsSame, graph}
 use Rattle.grove_edits.specs.Vertex.{stands_in}
-use Rattle.walks.specs.Class.{is_cycle_root}
-use Rattle.walks.specs.Whole.{AreLive}
-use Rattle.walks.specs.Cycle.{is_on_cycle}
+use Rattle.graph_words.specs.Class.{is_cycle_root}
+use Rattle.graph_words.specs.Whole.{AreLive}
+use Rattle.graph_words.specs.Cycle.{is_on_cycle}
 use Rattle.grove_terms.specs.declared.node.Node.{Node}
 use Rattle.grove_terms.proofs.OneGrove.{vertices_of, vertices_are, one_live, one_grove, some_grove}
 use Rattle.kept_records.specs.Kept.{Records, AreKept}

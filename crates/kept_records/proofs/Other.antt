@@ -9,14 +9,14 @@ use Rattle.grove_edits.specs.declared.edit.Edit.{Edit}
 use Rattle.grove_edits.specs.Edge.{IsWellFormed}
 use Rattle.grove_edits.specs.Edit.{edit_edge}
 use Rattle.grove_edits.specs.Graph.{graph, is_same_edge}
-use Rattle.walks.specs.declared.class.Class.{Class}
-use Rattle.walks.specs.declared.class.Class.TheVariants.{NoParent, Multi, Cycle, Inner}
-use Rattle.walks.specs.Live.{IsInEdgeOrder, holds_edge, parents_of}
+use Rattle.graph_words.specs.declared.class.Class.{Class}
+use Rattle.graph_words.specs.declared.class.Class.TheVariants.{NoParent, Multi, Cycle, Inner}
+use Rattle.graph_words.specs.Live.{IsInEdgeOrder, holds_edge, parents_of}
 use Rattle.grove_edits.specs.Vertex.{is_same_vertex}
-use Rattle.walks.specs.Walk.{only_source, above}
-use Rattle.walks.specs.Class.{class, class_by, is_cycle_root, is_same_class, of_class}
-use Rattle.walks.proofs.Up.{up, next_above, up-shift}
-use Rattle.walks.proofs.Cycles.{no_root_below_none, one_root, class_is_cycle}
+use Rattle.graph_words.specs.Walk.{only_source, above}
+use Rattle.graph_words.specs.Class.{class, class_by, is_cycle_root, is_same_class, of_class}
+use Rattle.graph_words.proofs.Up.{up, next_above, up-shift}
+use Rattle.graph_words.proofs.Cycles.{no_root_below_none, one_root, class_is_cycle}
 use Rattle.grove_terms.specs.declared.node.Node.{Node}
 use Rattle.grove_terms.specs.declared.grove.Grove.{Grove}
 use Rattle.grove_terms.specs.Forest.{Forest, none, multi_ref, cycle_ref, tree, child_edges, edges_under, AreChildren, StandsUnder}

@@ -13,8 +13,8 @@ use Rattle.grove_edits.specs.declared.edit.Edit.{Edit}
 use Rattle.grove_edits.specs.Edge.{edge_cmp}
 use Rattle.grove_edits.specs.Edit.{edit_edge, edit_kind}
 use Rattle.grove_edits.specs.Graph.{Graph, graph, state_of, is_same_edge}
-use Rattle.walks.specs.Live.{IsInEdgeOrder, holds_edge}
-use Rattle.walks.specs.Whole.{IsVertexOf, AreLive}
+use Rattle.graph_words.specs.Live.{IsInEdgeOrder, holds_edge}
+use Rattle.graph_words.specs.Whole.{IsVertexOf, AreLive}
 use Rattle.grove_edits.proofs.Orders.{one_edge}
 use Rattle.grove_terms.proofs.InLive.{same_edge_itself}
 use Rattle.grove_terms.proofs.OneGrove.{one_live}

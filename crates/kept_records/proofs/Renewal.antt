@@ -9,7 +9,7 @@ use Rattle.grove_edits.specs.declared.edge.Edge.{Edge}
 use Rattle.grove_edits.specs.Edge.{IsWellFormed}
 use Rattle.grove_edits.specs.Graph.{Graph}
 use Rattle.grove_edits.specs.Vertex.{stands_in}
-use Rattle.walks.specs.Whole.{IsVertexOf, AreLive}
+use Rattle.graph_words.specs.Whole.{IsVertexOf, AreLive}
 use Rattle.mark_step.specs.Expression.{Demanded}
 use Rattle.kept_records.specs.Kept.{Kept, Records, AreKept, Stands, IsKeptOf}
 use Rattle.kept_records.specs.Local.{kept_demand}

@@ -6,8 +6,8 @@ use Rattle.grove_sorts.specs.declared.position.Position.TheVariants.{Main, Param
 use Rattle.grove_sorts.specs.declared.ctor.Ctor.TheVariants.{Lam, Var, PVar, Num}
 use Rattle.grove_edits.specs.declared.vertex.Vertex.{Vertex}
 use Rattle.grove_edits.specs.declared.edge.Edge.{Edge}
-use Rattle.walks.specs.declared.class.Class.TheVariants.{NoParent, Inner}
-use Rattle.walks.specs.Walk.{walk}
+use Rattle.graph_words.specs.declared.class.Class.TheVariants.{NoParent, Inner}
+use Rattle.graph_words.specs.Walk.{walk}
 use Rattle.grove_edits.specs.Vertex.{root}
 use Rattle.grove_terms.specs.Forest.{Forest, none, tree}
 use Rattle.grove_terms.specs.Nodes.{tree_nodes}

@@ -11,14 +11,14 @@ use Rattle.grove_edits.specs.Graph.{Graph, graph, is_same_edge}
 use Rattle.grove_edits.specs.Vertex.{is_same_vertex, stands_in}
 use Rattle.grove_edits.proofs.Orders.{one_edge}
 use Rattle.grove_edits.proofs.Vertices.{same_vertex_exact}
-use Rattle.walks.specs.declared.class.Class.TheVariants.{Inner}
-use Rattle.walks.specs.Live.{holds_edge}
-use Rattle.walks.specs.Walk.{above, GoesOn, walk}
-use Rattle.walks.specs.Class.{class}
-use Rattle.walks.specs.Whole.{IsVertexOf, AreVertices, AreLive}
-use Rattle.walks.proofs.Endings.{walk_is}
-use Rattle.walks.proofs.Chains.{IsChain, has_chain, chain_apart, chain_is_one}
-use Rattle.walks.proofs.Returns.{some_same}
+use Rattle.graph_words.specs.declared.class.Class.TheVariants.{Inner}
+use Rattle.graph_words.specs.Live.{holds_edge}
+use Rattle.graph_words.specs.Walk.{above, GoesOn, walk}
+use Rattle.graph_words.specs.Class.{class}
+use Rattle.graph_words.specs.Whole.{IsVertexOf, AreVertices, AreLive}
+use Rattle.graph_words.proofs.Endings.{walk_is}
+use Rattle.graph_words.proofs.Chains.{IsChain, has_chain, chain_apart, chain_is_one}
+use Rattle.graph_words.proofs.Returns.{some_same}
 use Rattle.grove_terms.specs.Forest.{Forest, edges_under}
 use Rattle.grove_terms.proofs.WellSorted.{live_well_formed}
 use Rattle.grove_terms.proofs.OneGrove.{vertices_of, vertices_are}

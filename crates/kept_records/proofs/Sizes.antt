@@ -6,9 +6,9 @@ use Rattle.std.proofs.lemmas.Bool.{or_left, or_right}
 use Rattle.grove_edits.specs.declared.vertex.Vertex.{Vertex}
 use Rattle.grove_edits.specs.declared.edge.Edge.{Edge}
 use Rattle.grove_edits.specs.Vertex.{is_same_vertex, stands_in}
-use Rattle.walks.specs.Walk.{GoesOn, walk}
+use Rattle.graph_words.specs.Walk.{GoesOn, walk}
 use Rattle.grove_edits.proofs.Vertices.{same_vertex_exact, same_vertex_itself}
-use Rattle.walks.proofs.Endings.{walk_is}
+use Rattle.graph_words.proofs.Endings.{walk_is}
 use Rattle.kept_records.proofs.OnWalks.{on_old_source, on_old_target, on_new_source, on_new_target}
 use Rattle.kept_records.specs.Change.{is_on_walks, IsNear, StandOnce, AreNear, weight, near_size}
 

@@ -5,12 +5,12 @@ use Rattle.std.specs.List.{AllByRecursion}
 use Rattle.grove_edits.specs.declared.vertex.Vertex.{Vertex}
 use Rattle.grove_edits.specs.declared.edge.Edge.{Edge}
 use Rattle.grove_edits.specs.Edge.{IsWellFormed}
-use Rattle.walks.specs.declared.class.Class.TheVariants.{Inner}
-use Rattle.walks.specs.Live.{holds_edge, parents_of}
+use Rattle.graph_words.specs.declared.class.Class.TheVariants.{Inner}
+use Rattle.graph_words.specs.Live.{holds_edge, parents_of}
 use Rattle.grove_edits.specs.Vertex.{is_same_vertex}
-use Rattle.walks.specs.Walk.{only_source, above}
-use Rattle.walks.specs.Class.{class}
-use Rattle.walks.proofs.Chains.{IsChain, has_chain}
+use Rattle.graph_words.specs.Walk.{only_source, above}
+use Rattle.graph_words.specs.Class.{class}
+use Rattle.graph_words.proofs.Chains.{IsChain, has_chain}
 use Rattle.grove_terms.specs.Forest.{Forest, child_edges, edges_under, StandsUnder}
 use Rattle.grove_terms.proofs.Forests.{forest_of, root_stands, one_forest}
 use Rattle.grove_terms.proofs.WellSorted.{held_first}

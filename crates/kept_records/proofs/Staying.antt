@@ -3,12 +3,12 @@ use Rattle.std.proofs.Common.{◌≡◌, Bool, true, false, List, [], ◌∷◌,
 use Rattle.std.specs.Prelude.{Some}
 use Rattle.grove_edits.specs.declared.vertex.Vertex.{Vertex}
 use Rattle.grove_edits.specs.declared.edge.Edge.{Edge}
-use Rattle.walks.specs.declared.class.Class.{Class}
-use Rattle.walks.specs.declared.class.Class.TheVariants.{NoParent, Multi, Cycle, Inner}
-use Rattle.walks.specs.Live.{holds_edge, parents_of}
+use Rattle.graph_words.specs.declared.class.Class.{Class}
+use Rattle.graph_words.specs.declared.class.Class.TheVariants.{NoParent, Multi, Cycle, Inner}
+use Rattle.graph_words.specs.Live.{holds_edge, parents_of}
 use Rattle.grove_edits.specs.Vertex.{is_same_vertex}
-use Rattle.walks.specs.Walk.{only_source, above}
-use Rattle.walks.specs.Class.{class, class_by, is_cycle_root}
+use Rattle.graph_words.specs.Walk.{only_source, above}
+use Rattle.graph_words.specs.Class.{class, class_by, is_cycle_root}
 use Rattle.grove_edits.proofs.Vertices.{same_vertex_exact}
 use Rattle.grove_terms.specs.Forest.{Forest, StandsUnder}
 use Rattle.grove_terms.proofs.InLive.{stands_among, target_has_parent, above_target}

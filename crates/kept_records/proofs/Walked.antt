@@ -10,11 +10,11 @@ use Rattle.grove_sorts.specs.Ctor.{sort_of_ctor}
 use Rattle.grove_edits.specs.declared.vertex.Vertex.{Vertex}
 use Rattle.grove_edits.specs.declared.edge.Edge.{Edge}
 use Rattle.grove_edits.specs.Edge.{IsWellFormed}
-use Rattle.walks.specs.declared.class.Class.TheVariants.{Inner}
+use Rattle.graph_words.specs.declared.class.Class.TheVariants.{Inner}
 use Rattle.grove_edits.specs.Vertex.{is_same_vertex, stands_in}
-use Rattle.walks.specs.Class.{class, is_same_class}
+use Rattle.graph_words.specs.Class.{class, is_same_class}
 use Rattle.grove_edits.proofs.Vertices.{same_vertex_exact, same_vertex_itself}
-use Rattle.walks.proofs.Chains.{is_inner, inner_from_test}
+use Rattle.graph_words.proofs.Chains.{is_inner, inner_from_test}
 use Rattle.grove_terms.specs.Forest.{Forest, none, multi_ref, cycle_ref, tree}
 use Rattle.grove_terms.proofs.Forests.{forest_of, root_stands}
 use Rattle.mark_step.specs.Expression.{Demanded}

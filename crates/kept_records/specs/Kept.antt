@@ -7,11 +7,11 @@ use Rattle.grove_sorts.specs.Ctor.{positions, sort_of_ctor}
 use Rattle.grove_edits.specs.declared.vertex.Vertex.{Vertex}
 use Rattle.grove_edits.specs.declared.edge.Edge.{Edge}
 use Rattle.grove_edits.specs.Graph.{Graph}
-use Rattle.walks.specs.declared.class.Class.{Class}
-use Rattle.walks.specs.declared.class.Class.TheVariants.{Inner}
+use Rattle.graph_words.specs.declared.class.Class.{Class}
+use Rattle.graph_words.specs.declared.class.Class.TheVariants.{Inner}
 use Rattle.grove_sorts.specs.Position.{is_same_position}
-use Rattle.walks.specs.Class.{class}
-use Rattle.walks.specs.Whole.{IsVertexOf}
+use Rattle.graph_words.specs.Class.{class}
+use Rattle.graph_words.specs.Whole.{IsVertexOf}
 use Rattle.grove_terms.specs.Forest.{Forest, none, multi_ref, cycle_ref, tree, edges_under, StandsUnder}
 use Rattle.grove_terms.specs.Nodes.{count_at}
 use Rattle.type_core.specs.Typ.{Typ}

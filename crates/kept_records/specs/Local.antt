@@ -9,11 +9,11 @@ use Rattle.grove_sorts.specs.Ctor.{positions, sort_of_ctor}
 use Rattle.grove_edits.specs.declared.vertex.Vertex.{Vertex}
 use Rattle.grove_edits.specs.declared.edge.Edge.{Edge}
 use Rattle.grove_edits.specs.Graph.{Graph}
-use Rattle.walks.specs.declared.class.Class.TheVariants.{Inner}
-use Rattle.walks.specs.Live.{parents_of}
+use Rattle.graph_words.specs.declared.class.Class.TheVariants.{Inner}
+use Rattle.graph_words.specs.Live.{parents_of}
 use Rattle.grove_sorts.specs.Position.{is_same_position}
-use Rattle.walks.specs.Class.{class, is_same_class}
-use Rattle.walks.specs.Whole.{IsVertexOf}
+use Rattle.graph_words.specs.Class.{class, is_same_class}
+use Rattle.graph_words.specs.Whole.{IsVertexOf}
 use Rattle.grove_terms.specs.Forest.{edges_under}
 use Rattle.type_core.specs.Typ.{Typ, Unknown}
 use Rattle.mark_step.specs.Scope.{Scope}

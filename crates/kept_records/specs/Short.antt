@@ -4,11 +4,11 @@ use Rattle.grove_edits.specs.declared.vertex.Vertex.{Vertex}
 use Rattle.grove_edits.specs.declared.edge.Edge.{Edge}
 use Rattle.grove_edits.specs.Graph.{Graph}
 use Rattle.grove_edits.specs.Vertex.{stands_in}
-use Rattle.walks.specs.declared.class.Class.TheVariants.{Inner}
-use Rattle.walks.specs.Live.{holds_edge}
-use Rattle.walks.specs.Walk.{above}
-use Rattle.walks.specs.Class.{class}
-use Rattle.walks.specs.Whole.{IsVertexOf}
+use Rattle.graph_words.specs.declared.class.Class.TheVariants.{Inner}
+use Rattle.graph_words.specs.Live.{holds_edge}
+use Rattle.graph_words.specs.Walk.{above}
+use Rattle.graph_words.specs.Class.{class}
+use Rattle.graph_words.specs.Whole.{IsVertexOf}
 use Rattle.grove_terms.specs.Forest.{Forest, StandsUnder}
 use Rattle.mark_step.specs.Expression.{Demanded}
 use Rattle.kept_records.specs.Kept.{Kept, Records, alone, kept_of, expression_of, demanded_at}

@@ -11,9 +11,9 @@ use Rattle.grove_edits.specs.declared.edge.Edge.{Edge}
 use Rattle.grove_edits.specs.Vertex.{stands_in}
 use Rattle.grove_edits.specs.Graph.{is_same_edge}
 use Rattle.grove_edits.proofs.Orders.{one_edge}
-use Rattle.walks.specs.Live.{holds_edge}
+use Rattle.graph_words.specs.Live.{holds_edge}
 use Rattle.edge_numbers.specs.Numbered.{Numbered, edges_of, edge_at, no_edge, BeginsWith, HasEndsIn, KeepsNumbers}
-use Rattle.walks.specs.States.{Entries, state_in, is_live}
+use Rattle.graph_words.specs.States.{Entries, state_in, is_live}
 use Rattle.edge_lists.specs.Lists.{Listed, numbers_at, AreEdgeNumbers}
 use Rattle.edge_lists.specs.Order.{IsInOrder}
 use Rattle.live_graph.specs.Around.{once, is_at, total, idle, idle_weight, AreAround, HasPlace, KeepsLists}

@@ -12,11 +12,11 @@ use Rattle.grove_edits.specs.declared.edge.Edge.{Edge}
 use Rattle.grove_edits.specs.Vertex.{is_same_vertex}
 use Rattle.grove_edits.specs.Graph.{is_same_edge}
 use Rattle.grove_edits.proofs.Orders.{one_edge, same_edge_laws}
-use Rattle.walks.specs.Live.{holds_edge}
-use Rattle.walks.specs.Ordered.{put_before, without_edge}
-use Rattle.walks.proofs.Ordered.{holds-filter}
+use Rattle.graph_words.specs.Live.{holds_edge}
+use Rattle.graph_words.specs.Ordered.{put_before, without_edge}
+use Rattle.graph_words.proofs.Ordered.{holds-filter}
 use Rattle.edge_numbers.specs.Numbered.{Numbered, edges_of, edge_at, state_at, IsEdgeNumber, IsNumberOfVertex}
-use Rattle.walks.specs.States.{state_in, with_state, is_live}
+use Rattle.graph_words.specs.States.{state_in, with_state, is_live}
 use Rattle.edge_numbers.proofs.States.{state_numbered}
 use Rattle.edge_lists.specs.Lists.{Listed, listed_at, numbers_at, places_at, edges_at, holds_number, without_number, AreEdgeNumbers, HasVertex, HasFreePlace, KeepsOthers}
 use Rattle.edge_lists.specs.Order.{IsInOrder, with_edge_by, by_edge, with_number}

@@ -12,10 +12,10 @@ use Rattle.grove_edits.specs.Edge.{edge_cmp}
 use Rattle.grove_edits.specs.Graph.{is_same_edge}
 use Rattle.grove_edits.proofs.Orders.{same_edge_laws}
 use Rattle.grove_edits.proofs.Vertices.{same_vertex_exact, same_vertex_itself}
-use Rattle.walks.specs.Live.{IsInEdgeOrder, holds_edge, children_of, parents_of}
-use Rattle.walks.proofs.Ordered.{holds-filter, in_order-filter, same_lists}
+use Rattle.graph_words.specs.Live.{IsInEdgeOrder, holds_edge, children_of, parents_of}
+use Rattle.graph_words.proofs.Ordered.{holds-filter, in_order-filter, same_lists}
 use Rattle.edge_numbers.specs.Numbered.{Numbered, edges_of, edge_at, HasEndsIn, IsNumberOfVertex}
-use Rattle.walks.specs.States.{state_in, is_live}
+use Rattle.graph_words.specs.States.{state_in, is_live}
 use Rattle.edge_lists.specs.Lists.{Listed, numbers_at, edges_at, with_position, numbers_with_position, holds_number, AreEdgeNumbers}
 use Rattle.edge_lists.specs.Order.{IsInOrder, position_first}
 use Rattle.live_graph.specs.Live.{live}

@@ -11,7 +11,7 @@ use Rattle.grove_edits.specs.declared.edge.Edge.{Edge}
 use Rattle.grove_edits.specs.Vertex.{is_same_vertex, stands_in, root}
 use Rattle.grove_edits.specs.Graph.{is_same_edge}
 use Rattle.edge_numbers.specs.Numbered.{Numbered, edges_of, edge_at, state_at, vertex_at, no_edge, with_entry, IsEdgeNumber, IsNumberOfVertex, BeginsWith, HasEndsIn}
-use Rattle.walks.specs.States.{Entries, is_present}
+use Rattle.graph_words.specs.States.{Entries, is_present}
 use Rattle.edge_lists.specs.Lists.{holds_number}
 use Rattle.numbers_by_name.specs.ByName.{Lists, numbers_of}
 use Rattle.live_graph.specs.ByName.{KeepsNames}

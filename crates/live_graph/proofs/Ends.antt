@@ -12,13 +12,13 @@ use Rattle.grove_edits.specs.Vertex.{is_same_vertex, stands_in, root}
 use Rattle.grove_edits.specs.Graph.{is_same_edge}
 use Rattle.grove_edits.proofs.Orders.{one_edge, same_edge_laws}
 use Rattle.grove_edits.proofs.Vertices.{same_vertex_exact, same_vertex_itself}
-use Rattle.walks.specs.Whole.{AreVertices, IsVertexOf, IsInVertexOrder}
+use Rattle.graph_words.specs.Whole.{AreVertices, IsVertexOf, IsInVertexOrder}
 use Rattle.edge_numbers.specs.Numbered.{edges_of, states_of, no_edge}
-use Rattle.walks.specs.States.{Entries, state_in, entry_at, is_present}
+use Rattle.graph_words.specs.States.{Entries, state_in, entry_at, is_present}
 use Rattle.live_graph.specs.Ends.{has_end, IsEndIn}
 use Rattle.live_graph.proofs.Lives.{absent_apart}
 use Rattle.grove_sorts.proofs.Truths.{or_false}
-use Rattle.walks.proofs.Truths.{present_from_test, test_from_present}
+use Rattle.graph_words.proofs.Truths.{present_from_test, test_from_present}
 
 -- the entry with a number is its edge and its state
 pub entry_with_number : (es : Entries) (n : ℕ) → n < length es → get_or es n (no_edge, Absent) ≡ (get_or (edges_of es) n no_edge, get_or (states_of es) n Absent)

@@ -2,7 +2,7 @@
 use Rattle.std.proofs.Common.{◌≡◌, Result, Ok, Err, OnOk, OnErr, sym, ap, subst, ◌∙◌}
 use Rattle.grove_edits.specs.declared.edge.Edge.{Edge}
 use Rattle.edge_numbers.specs.Numbered.{with_entry}
-use Rattle.walks.specs.States.{Entries, state_in, HasRoom, KeepsRoom}
+use Rattle.graph_words.specs.States.{Entries, state_in, HasRoom, KeepsRoom}
 use Rattle.edge_numbers.proofs.States.{state_entered, room_entered, room_stays}
 use Rattle.live_graph.specs.Live.{live}
 use Rattle.live_graph.proofs.Lives.{live-entered}

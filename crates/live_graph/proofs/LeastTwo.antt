@@ -6,9 +6,9 @@ use Rattle.grove_edits.specs.declared.vertex.Vertex.{Vertex}
 use Rattle.grove_edits.specs.Vertex.{vertex_cmp, is_same_vertex}
 use Rattle.grove_edits.proofs.Orders.{vertex_cmp_total, vertex_cmp_exact}
 use Rattle.grove_edits.proofs.Vertices.{same_vertex_exact, same_vertex_itself, vertex_cmp_itself}
-use Rattle.walks.specs.declared.named.Named.{Named}
-use Rattle.walks.specs.declared.named.Named.TheVariants.{Zero, One, More}
-use Rattle.walks.specs.Named.{AreLeastTwo}
+use Rattle.graph_words.specs.declared.named.Named.{Named}
+use Rattle.graph_words.specs.declared.named.Named.TheVariants.{Zero, One, More}
+use Rattle.graph_words.specs.Named.{AreLeastTwo}
 
 -- ---- the order
 

@@ -14,7 +14,7 @@ use Rattle.grove_edits.specs.Vertex.{is_same_vertex, stands_in, root}
 use Rattle.grove_edits.specs.Edge.{edge_cmp}
 use Rattle.grove_edits.specs.Graph.{is_same_edge}
 use Rattle.edge_numbers.specs.Numbered.{Numbered, edges_of, state_at, with_entry, IsEdgeNumber, BeginsWith, HasEndsIn, IsNumberOfVertex, KeepsNumbers}
-use Rattle.walks.specs.States.{Entries, state_in, is_live}
+use Rattle.graph_words.specs.States.{Entries, state_in, is_live}
 use Rattle.edge_numbers.proofs.Vertices.{numbered_stands}
 use Rattle.edge_lists.specs.Lists.{Listed, numbers_at, places_at}
 use Rattle.edge_lists.specs.Order.{position_first}

@@ -22,7 +22,7 @@ use Rattle.grove_edits.specs.Graph.{Graph, graph, state_of, is_same_edge, IsSame
 use Rattle.grove_edits.proofs.Graphs.{asked, graph-append}
 use Rattle.grove_edits.proofs.Orders.{one_edge, same_edge_laws}
 use Rattle.edge_numbers.specs.Numbered.{Numbered, edges_of, edge_at, state_at, IsNumberOfEdge}
-use Rattle.walks.specs.States.{state_in, IsEditOf, well_formed}
+use Rattle.graph_words.specs.States.{state_in, IsEditOf, well_formed}
 use Rattle.edge_lists.specs.Lists.{holds_number}
 use Rattle.numbers_by_name.specs.ByName.{Lists, all_numbers, numbers_of}
 use Rattle.live_graph.specs.ByName.{HasEdgeNames}

@@ -7,14 +7,14 @@ use Rattle.edge_lattice.specs.declared.state.State.TheVariants.{Absent}
 use Rattle.grove_edits.specs.declared.edge.Edge.{Edge}
 use Rattle.grove_edits.specs.Graph.{is_same_edge}
 use Rattle.grove_edits.proofs.Orders.{one_edge, same_edge_laws}
-use Rattle.walks.specs.Live.{IsInEdgeOrder, holds_edge}
-use Rattle.walks.specs.Whole.{AreLive}
-use Rattle.walks.specs.Ordered.{with_edge}
-use Rattle.walks.proofs.Ordered.{holds-with_edge, in_order-with_edge}
+use Rattle.graph_words.specs.Live.{IsInEdgeOrder, holds_edge}
+use Rattle.graph_words.specs.Whole.{AreLive}
+use Rattle.graph_words.specs.Ordered.{with_edge}
+use Rattle.graph_words.proofs.Ordered.{holds-with_edge, in_order-with_edge}
 use Rattle.edge_numbers.specs.Numbered.{edges_of, with_entry}
-use Rattle.walks.specs.States.{Entries, state_in, is_live}
+use Rattle.graph_words.specs.States.{Entries, state_in, is_live}
 use Rattle.live_graph.specs.Live.{live}
-use Rattle.walks.proofs.Truths.{live_from_test}
+use Rattle.graph_words.proofs.Truths.{live_from_test}
 
 pub in_order-live : (entries : Entries) → IsInEdgeOrder (live entries)
 in_order-live [] = tt

@@ -7,13 +7,13 @@ use Rattle.grove_names.specs.declared.name.Name.{Name}
 use Rattle.grove_edits.specs.declared.vertex.Vertex.{Vertex}
 use Rattle.grove_edits.specs.Vertex.{is_same_vertex}
 use Rattle.grove_edits.specs.Graph.{is_same_edge}
-use Rattle.walks.specs.Whole.{IsVertexOf}
+use Rattle.graph_words.specs.Whole.{IsVertexOf}
 use Rattle.edge_numbers.specs.Numbered.{Numbered, edges_of, edge_at, vertex_at}
-use Rattle.walks.specs.States.{Entries, state_in}
+use Rattle.graph_words.specs.States.{Entries, state_in}
 use Rattle.edge_lists.specs.Lists.{holds_number}
 use Rattle.numbers_by_name.specs.ByName.{Lists, numbers_of, name_by, IsBefore, IsLastBefore, HasNoneBefore}
 use Rattle.live_graph.specs.Greatest.{IsNameOfEnd}
-use Rattle.walks.specs.Names.{IsGreatest, IsNameOf, IsNameOfEdge}
+use Rattle.graph_words.specs.Names.{IsGreatest, IsNameOf, IsNameOfEdge}
 use Rattle.live_graph.specs.ByName.{is_named, HasEdgeNames}
 use Rattle.live_graph.specs.Uses.{is_vertex_named, AreUses, HasVertexNames}
 use Rattle.live_graph.proofs.Names.{any_held, any_found, told_edge, edge_told}

@@ -16,16 +16,16 @@ use Rattle.grove_sorts.proofs.Orders.{equal_from_test}
 use Rattle.grove_edits.specs.declared.edge.Edge.{Edge}
 use Rattle.grove_edits.specs.Graph.{is_same_edge}
 use Rattle.grove_edits.proofs.Orders.{one_edge, same_edge_laws}
-use Rattle.walks.specs.Live.{IsInEdgeOrder, holds_edge}
+use Rattle.graph_words.specs.Live.{IsInEdgeOrder, holds_edge}
 use Rattle.edge_numbers.specs.Numbered.{Numbered, edges_of, edge_at, state_at, with_entry, no_edge, IsEdgeNumber, IsNumberOfEdge}
-use Rattle.walks.specs.States.{entry_at, state_in, is_present}
+use Rattle.graph_words.specs.States.{entry_at, state_in, is_present}
 use Rattle.edge_numbers.proofs.States.{state_numbered}
 use Rattle.edge_lists.specs.Lists.{holds_number}
 use Rattle.numbers_by_name.specs.ByName.{Lists, numbers_of, is_same_name}
-use Rattle.walks.specs.Named.{AreNamed}
+use Rattle.graph_words.specs.Named.{AreNamed}
 use Rattle.live_graph.specs.ByName.{is_named, is_named_edge, KeepsNames, HasEdgeNames}
 use Rattle.live_graph.proofs.Ends.{and_left, and_right}
-use Rattle.walks.proofs.Truths.{test_from_present, present_from_test}
+use Rattle.graph_words.proofs.Truths.{test_from_present, present_from_test}
 use Rattle.grove_sorts.proofs.Truths.{or_false}
 use Rattle.live_graph.proofs.Numbers.{one_number, within_edges, number_of_room}
 

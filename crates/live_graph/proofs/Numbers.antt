@@ -14,9 +14,9 @@ use Rattle.grove_edits.specs.Vertex.{is_same_vertex, stands_in, root}
 use Rattle.grove_edits.specs.Graph.{is_same_edge}
 use Rattle.grove_edits.proofs.Orders.{one_edge, same_edge_laws}
 use Rattle.grove_edits.proofs.Vertices.{same_vertex_itself}
-use Rattle.walks.specs.Live.{holds_edge}
+use Rattle.graph_words.specs.Live.{holds_edge}
 use Rattle.edge_numbers.specs.Numbered.{Numbered, edges_of, edge_at, no_edge, IsEdgeNumber, KeepsNumbers}
-use Rattle.walks.specs.States.{Entries, entry_at, HasRoom}
+use Rattle.graph_words.specs.States.{Entries, entry_at, HasRoom}
 use Rattle.edge_lists.specs.Lists.{Listed, holds_number, without_number, AreEdgeNumbers, places_at, listed_at, nothing_listed, HasVertex}
 use Rattle.edge_lists.specs.Order.{with_number}
 use Rattle.live_graph.specs.Around.{is_at}

@@ -2,7 +2,7 @@
 use Rattle.std.proofs.Common.{◌≡◌, ℕ, None, Some, sym, subst, ◌∙◌}
 use Rattle.grove_edits.specs.declared.edge.Edge.{Edge}
 use Rattle.edge_numbers.specs.Numbered.{Numbered, KeepsNumbers}
-use Rattle.walks.specs.States.{Entries, HasRoom}
+use Rattle.graph_words.specs.States.{Entries, HasRoom}
 use Rattle.live_graph.specs.NumberOf.{IsNumberOf, KeepsNumbersOf}
 use Rattle.live_graph.proofs.Numbers.{number_of_room}
 

@@ -20,8 +20,8 @@ use Rattle.grove_edits.specs.Edge.{edge_cmp}
 use Rattle.grove_edits.specs.Graph.{is_same_edge}
 use Rattle.grove_edits.specs.contracts.edge.EdgeOrd.TheImpl as edge_impl
 use Rattle.grove_edits.specs.contracts.edge.EdgePartialEq.TheImpl as edge_eq
-use Rattle.walks.specs.Whole.{IsInVertexOrder}
-use Rattle.walks.specs.Live.{IsInEdgeOrder, holds_edge}
+use Rattle.graph_words.specs.Whole.{IsInVertexOrder}
+use Rattle.graph_words.specs.Live.{IsInEdgeOrder, holds_edge}
 
 -- where what is alike is one, nothing is lost
 module _ {X : Type 0} (E : X → X → Bool) (exact : (x y : X) → E x y ≡ true → x ≡ y) (p : X → Bool) where

@@ -8,7 +8,7 @@ use Rattle.grove_edits.specs.declared.edit.Edit.{Edit}
 use Rattle.grove_edits.specs.Edit.{edit_edge, edit_kind}
 use Rattle.grove_edits.specs.Graph.{Graph, IsSame, graph, graph_join, is_same_edge, state_of}
 use Rattle.grove_edits.proofs.Orders.{one_edge}
-use Rattle.walks.specs.States.{with_state}
+use Rattle.graph_words.specs.States.{with_state}
 
 join_none : (s : State) → state_join s (state_join Absent Absent) ≡ s
 join_none Absent = refl

@@ -15,11 +15,11 @@ use Rattle.grove_edits.specs.Vertex.{is_same_vertex, stands_in}
 use Rattle.grove_edits.specs.Graph.{is_same_edge}
 use Rattle.grove_edits.proofs.Orders.{edge_cmp_exact}
 use Rattle.grove_edits.proofs.Vertices.{same_vertex_exact, same_vertex_itself, same_vertex_laws}
-use Rattle.walks.specs.Live.{targets_of, parents_of}
-use Rattle.walks.specs.Ordered.{with_edge, put_before}
-use Rattle.walks.proofs.Ordered.{holds-with_edge, in_order-with_edge, same_lists}
+use Rattle.graph_words.specs.Live.{targets_of, parents_of}
+use Rattle.graph_words.specs.Ordered.{with_edge, put_before}
+use Rattle.graph_words.proofs.Ordered.{holds-with_edge, in_order-with_edge, same_lists}
 use Rattle.edge_numbers.specs.Numbered.{Numbered, edges_of, edge_at, vertex_at, IsVertexNumber}
-use Rattle.walks.specs.States.{Entries, state_in, with_state, is_live}
+use Rattle.graph_words.specs.States.{Entries, state_in, with_state, is_live}
 use Rattle.edge_lists.specs.Lists.{Listed, numbers_at}
 use Rattle.live_graph.specs.Live.{live}
 use Rattle.live_graph.specs.Around.{once, AreAround, target_of}

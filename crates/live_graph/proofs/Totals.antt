@@ -6,7 +6,7 @@ use Rattle.edge_lattice.specs.declared.state.State.{State}
 use Rattle.edge_lattice.specs.declared.state.State.TheVariants.{Absent}
 use Rattle.grove_edits.specs.declared.edge.Edge.{Edge}
 use Rattle.edge_numbers.specs.Numbered.{edges_of, states_of, no_edge}
-use Rattle.walks.specs.States.{Entries}
+use Rattle.graph_words.specs.States.{Entries}
 use Rattle.live_graph.specs.Around.{total}
 
 module _ (weight : Edge → State → ℕ) where

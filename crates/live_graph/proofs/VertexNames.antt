@@ -9,22 +9,22 @@ use Rattle.grove_edits.specs.declared.edge.Edge.{Edge}
 use Rattle.grove_edits.specs.Vertex.{is_same_vertex, stands_in, root}
 use Rattle.grove_edits.specs.Graph.{is_same_edge}
 use Rattle.grove_edits.proofs.Vertices.{same_vertex_exact, same_vertex_itself}
-use Rattle.walks.specs.Whole.{IsVertexOf}
+use Rattle.graph_words.specs.Whole.{IsVertexOf}
 use Rattle.edge_numbers.specs.Numbered.{Numbered, edges_of, edge_at, state_at, vertex_at, HasEndsIn}
-use Rattle.walks.specs.States.{Entries, state_in, is_present}
+use Rattle.graph_words.specs.States.{Entries, state_in, is_present}
 use Rattle.edge_lists.specs.Lists.{holds_number}
 use Rattle.numbers_by_name.specs.ByName.{Lists, numbers_of, is_same_name}
-use Rattle.walks.specs.declared.named.Named.{Named}
+use Rattle.graph_words.specs.declared.named.Named.{Named}
 use Rattle.live_graph.specs.Ends.{has_end, IsEndIn}
 use Rattle.live_graph.specs.Around.{once, is_at, total}
 use Rattle.live_graph.specs.Uses.{use_weight, AreUses, HasVertexNames, is_vertex_named, is_named_vertex}
-use Rattle.walks.specs.Named.{AreLeastTwo, IsVertexNamed}
+use Rattle.graph_words.specs.Named.{AreLeastTwo, IsVertexNamed}
 use Rattle.live_graph.proofs.Numbers.{is_at-number, within_edges}
 use Rattle.live_graph.proofs.Totals.{total-at}
 use Rattle.live_graph.proofs.Children.{is_at-same}
 use Rattle.live_graph.proofs.Counts.{all_at}
 use Rattle.live_graph.proofs.Ends.{held_end, and_left, and_right}
-use Rattle.walks.proofs.Truths.{test_from_present}
+use Rattle.graph_words.proofs.Truths.{test_from_present}
 use Rattle.live_graph.proofs.Names.{state_there, number_of_present, any_held, any_found, same_name, one_name}
 use Rattle.live_graph.proofs.LeastTwo.{least_two_iff}
 

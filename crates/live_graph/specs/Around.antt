@@ -6,9 +6,9 @@ use Rattle.grove_edits.specs.declared.vertex.Vertex.{Vertex}
 use Rattle.grove_edits.specs.declared.edge.Edge.{Edge}
 use Rattle.grove_edits.specs.Vertex.{is_same_vertex}
 use Rattle.grove_edits.specs.Edge.{edge_cmp}
-use Rattle.walks.specs.Live.{holds_edge}
+use Rattle.graph_words.specs.Live.{holds_edge}
 use Rattle.edge_numbers.specs.Numbered.{Numbered, edges_of, states_of, edge_at, KeepsNumbers}
-use Rattle.walks.specs.States.{Entries, state_in, with_state, is_live}
+use Rattle.graph_words.specs.States.{Entries, state_in, with_state, is_live}
 use Rattle.edge_lists.specs.Lists.{Listed, numbers_at, places_at, edges_at, AreEdgeNumbers}
 use Rattle.edge_lists.specs.Order.{IsInOrder, position_first}
 

@@ -6,7 +6,7 @@ use Rattle.grove_edits.specs.Graph.{is_same_edge}
 use Rattle.edge_numbers.specs.Numbered.{Numbered, edge_at, state_at, IsEdgeNumber}
 use Rattle.edge_lists.specs.Lists.{holds_number}
 use Rattle.numbers_by_name.specs.ByName.{Lists, numbers_of, is_same_name}
-use Rattle.walks.specs.States.{is_present}
+use Rattle.graph_words.specs.States.{is_present}
 
 -- the number is that of an edge with the name that is not Absent
 abbrev pub is_named : Numbered → Name → ℕ → Bool

@@ -5,7 +5,7 @@ use Rattle.edge_lattice.specs.declared.state.State.TheVariants.{Absent}
 use Rattle.grove_edits.specs.declared.vertex.Vertex.{Vertex}
 use Rattle.grove_edits.specs.declared.edge.Edge.{Edge}
 use Rattle.grove_edits.specs.Vertex.{is_same_vertex}
-use Rattle.walks.specs.States.{Entries, state_in, is_present}
+use Rattle.graph_words.specs.States.{Entries, state_in, is_present}
 
 -- the vertex is an end of the edge, which is not Absent
 abbrev pub has_end : Vertex → Edge × State → Bool

@@ -1,6 +1,6 @@
 -- Inner model, which no public contract cites: what a live graph keeps beside its entries.
 use Rattle.std.specs.Prelude.{◌≡◌, ℕ, List, length}
-use Rattle.walks.specs.Live.{targets_of}
+use Rattle.graph_words.specs.Live.{targets_of}
 use Rattle.edge_numbers.specs.Numbered.{Numbered}
 use Rattle.edge_lists.specs.Lists.{Listed}
 use Rattle.numbers_by_name.specs.ByName.{Lists}

@@ -2,7 +2,7 @@
 use Rattle.std.specs.Prelude.{◌≡◌, ℕ, ◌<◌, length, slice_index_or}
 use Rattle.grove_edits.specs.declared.edge.Edge.{Edge}
 use Rattle.edge_numbers.specs.Numbered.{edges_of, no_edge}
-use Rattle.walks.specs.States.{Entries}
+use Rattle.graph_words.specs.States.{Entries}
 
 -- the entry with the index n is that of the edge
 abbrev pub IsNumberOf : Entries → Edge → ℕ → Type 0

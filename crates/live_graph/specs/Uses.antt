@@ -9,7 +9,7 @@ use Rattle.grove_edits.specs.Vertex.{is_same_vertex}
 use Rattle.edge_numbers.specs.Numbered.{Numbered, edges_of, vertex_at, HasEndsIn}
 use Rattle.edge_lists.specs.Lists.{holds_number}
 use Rattle.numbers_by_name.specs.ByName.{Lists, numbers_of, is_same_name}
-use Rattle.walks.specs.States.{is_present}
+use Rattle.graph_words.specs.States.{is_present}
 use Rattle.live_graph.specs.Around.{once, is_at, total}
 
 -- how many ends of an edge are at a number, where the edge is not Absent

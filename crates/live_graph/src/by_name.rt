@@ -3,12 +3,11 @@ ghost use Rattle.edge_numbers.specs.Numbered.{edge_at, vertex_at, IsEdgeNumber, 
 ghost use Rattle.std.specs.List.{list_any};
 ghost use Rattle.grove_edits.specs.declared.edge.Edge.{Edge};
 ghost use Rattle.grove_edits.specs.Vertex.{is_same_vertex};
-ghost use Rattle.walks.specs.Live.{IsInEdgeOrder, holds_edge};
+ghost use Rattle.graph_words.specs.Live.{IsInEdgeOrder, holds_edge};
 ghost use Rattle.edge_lists.specs.Lists.{holds_number};
 ghost use Rattle.numbers_by_name.specs.ByName.{numbers_of, is_same_name};
 ghost use Rattle.live_graph.specs.ByName.{is_named, is_named_edge, KeepsNames};
 
-use crate::no_memory::NoMemory;
 use crate::whole::is_present;
 use edge_numbers::EdgeNumbers;
 use grove_edits::{Edge, Vertex};
@@ -16,6 +15,7 @@ use grove_names::Name;
 use numbers_by_name::NumbersByName;
 use std::alloc::Global;
 use std::cmp::Ordering;
+use text_parts::NoMemory;
 
 /// Puts a number under a name.
 pub(crate) fn add_number(

@@ -2,7 +2,7 @@ ghost use Rattle.std.specs.Prelude.{◌≡◌, length};
 ghost use Rattle.std.specs.List.{list_any};
 ghost use Rattle.live_graph.specs.ByName.{is_named, HasEdgeNames};
 ghost use Rattle.live_graph.specs.Greatest.{IsNameOfEnd};
-ghost use Rattle.walks.specs.Names.{IsGreatest, IsNameOfEdge};
+ghost use Rattle.graph_words.specs.Names.{IsGreatest, IsNameOfEdge};
 ghost use Rattle.live_graph.specs.Uses.{is_vertex_named, AreUses, HasVertexNames};
 
 use crate::by_name::is_named;

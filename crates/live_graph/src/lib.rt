@@ -8,7 +8,6 @@ mod greatest;
 mod live_graph;
 mod live_lists;
 mod neighbours;
-mod no_memory;
 mod parent_count;
 mod places;
 mod uses;
@@ -16,6 +15,6 @@ mod vertices;
 mod whole;
 
 pub use edges::Edges;
+pub use graph_words::{Change, Named};
 pub use live_graph::LiveGraph;
-pub use no_memory::NoMemory;
-pub use walks::{Change, Named};
+pub use text_parts::NoMemory;

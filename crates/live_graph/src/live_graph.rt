@@ -4,13 +4,13 @@ ghost use Rattle.grove_edits.specs.declared.edge.Edge.{Edge};
 ghost use Rattle.grove_edits.specs.declared.edit.Edit.{Edit};
 ghost use Rattle.grove_edits.specs.Edit.{edit_edge, edit_kind};
 ghost use Rattle.grove_edits.specs.Graph.{Ascends, IsSame, IsCanonical, graph, graph_join, state_of};
-ghost use Rattle.walks.specs.Live.{IsInEdgeOrder, children_of, parents_of};
-ghost use Rattle.walks.specs.Whole.{AreLive, AreVertices};
-ghost use Rattle.walks.specs.States.{state_in, with_state, HasRoom, KeepsRoom, well_formed};
-ghost use Rattle.walks.specs.Change.{IsChange};
-ghost use Rattle.walks.specs.Names.{IsGreatest, IsNameOf};
+ghost use Rattle.graph_words.specs.Live.{IsInEdgeOrder, children_of, parents_of};
+ghost use Rattle.graph_words.specs.Whole.{AreLive, AreVertices};
+ghost use Rattle.graph_words.specs.States.{state_in, with_state, HasRoom, KeepsRoom, well_formed};
+ghost use Rattle.graph_words.specs.Change.{IsChange};
+ghost use Rattle.graph_words.specs.Names.{IsGreatest, IsNameOf};
 ghost use Rattle.live_graph.specs.Live.{live};
-ghost use Rattle.walks.specs.Named.{AreNamed, AreLeastTwo, IsVertexNamed};
+ghost use Rattle.graph_words.specs.Named.{AreNamed, AreLeastTwo, IsVertexNamed};
 ghost use Rattle.live_graph.specs.NumberOf.{IsNumberOf, KeepsNumbersOf};
 
 use crate::by_name::{find, name_next_edge, sort_edges, with_name};
@@ -18,7 +18,6 @@ use crate::edges::Edges;
 use crate::greatest::{greatest_of_edges, greatest_of_vertices};
 use crate::live_lists::enter;
 use crate::neighbours::{children_at, parents_at};
-use crate::no_memory::NoMemory;
 use crate::parent_count::set_counted_state;
 use crate::uses::recount_ends;
 use crate::vertices::least_named;
@@ -26,6 +25,7 @@ use crate::whole::{are_edits, edits_of, ends_of, sort_vertices};
 use edge_lattice::{State, join, leq};
 use edge_lists::{ByEdge, ByPosition, EdgeLists};
 use edge_numbers::EdgeNumbers;
+use graph_words::{Change, Few, Named, ParentOf, Steps, asked_by};
 use grove_edits::{Edge, Edit, EditKind, EditList, Vertex};
 use grove_names::Name;
 use grove_sorts::Position;
@@ -34,7 +34,7 @@ use seeded_hash::HashSeed;
 use std::alloc::Global;
 use std::marker::Model;
 use std::sync::ledger::Ledger;
-use walks::{Change, Few, Named, ParentOf, Steps, asked_by};
+use text_parts::NoMemory;
 
 /// A live graph: the state of each edge, with the live edges around each vertex. Contracts see its entries, of which those with the state
 /// Absent are room.
@@ -54,7 +54,7 @@ pub struct LiveGraph {
 }
 
 impl Model for LiveGraph {
-    ghost use Rattle.walks.specs.States.{Entries};
+    ghost use Rattle.graph_words.specs.States.{Entries};
     ghost use Rattle.live_graph.specs.Kept.{IsKept};
 
     ghost Value = { Entries };

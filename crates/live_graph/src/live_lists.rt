@@ -2,12 +2,11 @@ ghost use Rattle.std.specs.Prelude.{◌≡◌, ◌<◌, ◌^◌, length, true, f
 ghost use Rattle.edge_lattice.specs.declared.state.State.{State};
 ghost use Rattle.grove_edits.specs.declared.edge.Edge.{Edge};
 ghost use Rattle.edge_numbers.specs.Numbered.{Numbered, state_at, with_entry, edge_at, IsEdgeNumber};
-ghost use Rattle.walks.specs.States.{state_in, with_state, KeepsRoom, is_live};
+ghost use Rattle.graph_words.specs.States.{state_in, with_state, KeepsRoom, is_live};
 ghost use Rattle.live_graph.specs.NumberOf.{IsNumberOf, KeepsNumbersOf};
 ghost use Rattle.live_graph.specs.Around.{IsListed, IsStateSet};
 ghost use Rattle.live_graph.specs.Uses.{AreUses, HasVertexNames};
 
-use crate::no_memory::NoMemory;
 use crate::places::make_places;
 use crate::uses::name_vertices;
 use edge_lattice::State;
@@ -15,6 +14,7 @@ use edge_lists::{ByEdge, ByPosition, EdgeLists};
 use edge_numbers::EdgeNumbers;
 use grove_edits::Edge;
 use numbers_by_name::NumbersByName;
+use text_parts::NoMemory;
 
 // Lists keep the numbers of edges in 32 bits.
 fn want_number(edges: &EdgeNumbers) -> Result<(), NoMemory>

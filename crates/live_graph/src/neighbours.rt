@@ -1,6 +1,6 @@
 ghost use Rattle.std.specs.Prelude.{◌≡◌, map};
 ghost use Rattle.grove_edits.specs.Edge.{edge_cmp};
-ghost use Rattle.walks.specs.Live.{children_of, parents_of};
+ghost use Rattle.graph_words.specs.Live.{children_of, parents_of};
 ghost use Rattle.edge_numbers.specs.Numbered.{edge_at};
 ghost use Rattle.edge_lists.specs.Lists.{AreEdgeNumbers};
 ghost use Rattle.edge_lists.specs.Order.{position_first};

@@ -2,9 +2,9 @@ ghost use Rattle.std.specs.Prelude.{◌≡◌, ◌+◌, ◌<◌, ◌≤◌, ◌^
 ghost use Rattle.grove_edits.specs.declared.edge.Edge.{Edge};
 ghost use Rattle.grove_edits.specs.Edge.{edge_cmp};
 ghost use Rattle.grove_edits.specs.Vertex.{stands_in};
-ghost use Rattle.walks.specs.Live.{targets_of};
+ghost use Rattle.graph_words.specs.Live.{targets_of};
 ghost use Rattle.edge_numbers.specs.Numbered.{edge_at, vertex_at, IsEdgeNumber, IsVertexNumber};
-ghost use Rattle.walks.specs.States.{state_in, with_state, KeepsRoom};
+ghost use Rattle.graph_words.specs.States.{state_in, with_state, KeepsRoom};
 ghost use Rattle.live_graph.specs.Live.{live};
 ghost use Rattle.live_graph.specs.Around.{once, AreAround, IsListed, IsStateSet, target_of};
 ghost use Rattle.live_graph.specs.Kept.{IsParentCount};

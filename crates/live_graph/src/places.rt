@@ -3,10 +3,10 @@ ghost use Rattle.edge_numbers.specs.Numbered.{BeginsWith, HasEndsIn, IsNumberOfV
 ghost use Rattle.edge_lists.specs.Lists.{listed_at, places_at, HasVertex};
 ghost use Rattle.live_graph.specs.Around.{IsListed, HasPlace, KeepsLists, source_of, target_of};
 
-use crate::no_memory::NoMemory;
 use edge_lists::{ByEdge, ByPosition, EdgeLists, ListOrder};
 use edge_numbers::EdgeNumbers;
 use grove_edits::Edge;
+use text_parts::NoMemory;
 
 // Lists for vertices up to one. A vertex may have a number long before an edge wants a list of it.
 fn add_lists<O: ListOrder>(lists: &mut EdgeLists<O>, vertex: usize) -> Result<(), NoMemory>

@@ -4,12 +4,12 @@ ghost use Rattle.live_graph.specs.Around.{once, IsStateSet};
 ghost use Rattle.live_graph.specs.Uses.{AreUses, HasVertexNames};
 
 use crate::by_name::add_number;
-use crate::no_memory::NoMemory;
 use crate::parent_count::recount;
 use crate::whole::is_present;
 use edge_lattice::State;
 use edge_numbers::EdgeNumbers;
 use numbers_by_name::NumbersByName;
+use text_parts::NoMemory;
 
 // Puts the number of the first vertex whose uses are not counted yet under its name, and counts them.
 fn name_vertex(

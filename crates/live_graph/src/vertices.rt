@@ -3,16 +3,16 @@ ghost use Rattle.std.specs.List.{list_any};
 ghost use Rattle.grove_edits.specs.declared.vertex.Vertex.{Vertex};
 ghost use Rattle.grove_edits.specs.Vertex.{is_same_vertex, root};
 ghost use Rattle.numbers_by_name.specs.ByName.{is_same_name};
-ghost use Rattle.walks.specs.declared.named.Named.TheVariants.{One, More};
+ghost use Rattle.graph_words.specs.declared.named.Named.TheVariants.{One, More};
 ghost use Rattle.live_graph.specs.Uses.{is_vertex_named, is_named_vertex};
-ghost use Rattle.walks.specs.Named.{AreLeastTwo};
+ghost use Rattle.graph_words.specs.Named.{AreLeastTwo};
 
 use crate::by_name::is_same_name;
 use edge_numbers::EdgeNumbers;
+use graph_words::Named;
 use grove_edits::{Vertex, compare_vertices};
 use grove_names::Name;
 use std::cmp::Ordering;
-use walks::Named;
 
 fn both(a: Vertex, b: Vertex) -> Named
     ensures { (has : Vertex → Bool) → AreLeastTwo (λ v. has v ≡ true) (One a) → AreLeastTwo (λ v. (has v || is_same_vertex b v) ≡ true) result }

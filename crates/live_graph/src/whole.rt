@@ -3,19 +3,19 @@ ghost use Rattle.std.specs.List.{list_any};
 ghost use Rattle.grove_edits.specs.declared.vertex.Vertex.{Vertex};
 ghost use Rattle.grove_edits.specs.Graph.{IsSame, graph, graph_join};
 ghost use Rattle.grove_edits.specs.Vertex.{is_same_vertex, stands_in, root};
-ghost use Rattle.walks.specs.Whole.{IsInVertexOrder};
+ghost use Rattle.graph_words.specs.Whole.{IsInVertexOrder};
 ghost use Rattle.edge_numbers.specs.Numbered.{edge_at, IsEdgeNumber};
-ghost use Rattle.walks.specs.States.{state_in, IsEditOf, is_present, well_formed};
+ghost use Rattle.graph_words.specs.States.{state_in, IsEditOf, is_present, well_formed};
 ghost use Rattle.live_graph.specs.ByName.{HasEdgeNames};
 ghost use Rattle.live_graph.specs.Ends.{has_end};
 ghost use Rattle.live_graph.specs.Listed.{told_at};
 
-use crate::no_memory::NoMemory;
 use edge_lattice::State;
 use edge_numbers::EdgeNumbers;
 use grove_edits::{Edge, Edit, EditKind, EditList, Vertex};
 use numbers_by_name::NumbersByName;
 use std::alloc::Global;
+use text_parts::NoMemory;
 
 pub(crate) fn is_present(state: State) -> bool
     ensures { result ≡ is_present state }

@@ -14,14 +14,14 @@ use Rattle.grove_edits.specs.Graph.{Graph, graph, graph_join, IsSame}
 use Rattle.grove_edits.specs.Vertex.{is_same_vertex, stands_in}
 use Rattle.grove_edits.proofs.Vertices.{same_vertex_itself, same_vertex_exact}
 use Rattle.edge_lattice.specs.declared.state.State.TheVariants.{Absent, Live}
-use Rattle.walks.specs.declared.class.Class.TheVariants.{Inner}
-use Rattle.walks.specs.declared.few.Few.{Few}
-use Rattle.walks.specs.declared.few.Few.TheVariants.{Zero, One, More}
-use Rattle.walks.specs.Few.{first_two, few_len}
-use Rattle.walks.specs.Live.{holds_edge, parents_of, children_of}
-use Rattle.walks.specs.Walk.{only_source, above, walk}
-use Rattle.walks.specs.Class.{class_by, class, is_cycle_root}
-use Rattle.walks.specs.Whole.{AreLive, IsVertexOf}
+use Rattle.graph_words.specs.declared.class.Class.TheVariants.{Inner}
+use Rattle.graph_words.specs.declared.few.Few.{Few}
+use Rattle.graph_words.specs.declared.few.Few.TheVariants.{Zero, One, More}
+use Rattle.graph_words.specs.Few.{first_two, few_len}
+use Rattle.graph_words.specs.Live.{holds_edge, parents_of, children_of}
+use Rattle.graph_words.specs.Walk.{only_source, above, walk}
+use Rattle.graph_words.specs.Class.{class_by, class, is_cycle_root}
+use Rattle.graph_words.specs.Whole.{AreLive, IsVertexOf}
 use Rattle.grove_terms.specs.Forest.{edges_from, edges_under}
 use Rattle.grove_terms.proofs.InLive.{IsFromPlace, children_lead}
 use Rattle.type_core.specs.Typ.{Typ}

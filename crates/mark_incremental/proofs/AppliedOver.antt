@@ -7,8 +7,8 @@ use Rattle.grove_edits.specs.declared.vertex.Vertex.{Vertex}
 use Rattle.grove_edits.specs.declared.edit.Edit.{Edit}
 use Rattle.grove_edits.specs.Edit.{edit_edge, edit_kind}
 use Rattle.grove_edits.specs.Graph.{Graph, graph, graph_join, IsSame, state_of}
-use Rattle.walks.specs.Change.{IsChange}
-use Rattle.walks.specs.States.{Entries, state_in}
+use Rattle.graph_words.specs.Change.{IsChange}
+use Rattle.graph_words.specs.States.{Entries, state_in}
 use Rattle.edge_index.specs.Lists.{Indexed}
 use Rattle.child_index.specs.declared.origin.Origin.{Origin}
 use Rattle.child_index.specs.Origin.{room_at_origin}

@@ -8,9 +8,9 @@ use Rattle.grove_edits.specs.declared.vertex.Vertex.{Vertex}
 use Rattle.grove_edits.specs.declared.edge.Edge.{Edge}
 use Rattle.grove_edits.specs.Edge.{IsWellFormed}
 use Rattle.grove_edits.specs.Graph.{is_same_edge}
-use Rattle.walks.specs.declared.class.Class.TheVariants.{Inner}
-use Rattle.walks.specs.Class.{class}
-use Rattle.walks.specs.Live.{holds_edge}
+use Rattle.graph_words.specs.declared.class.Class.TheVariants.{Inner}
+use Rattle.graph_words.specs.Class.{class}
+use Rattle.graph_words.specs.Live.{holds_edge}
 use Rattle.type_core.specs.Typ.{Typ}
 use Rattle.type_core.specs.TypeTable.{KeepsTypes}
 use Rattle.ctx_table.specs.Context.{Context}

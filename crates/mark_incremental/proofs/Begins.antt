@@ -7,7 +7,7 @@ use Rattle.grove_sorts.specs.declared.sort.Sort.{Sort}
 use Rattle.grove_sorts.specs.declared.sort.Sort.TheVariants.{Top}
 use Rattle.grove_sorts.specs.Ctor.{positions, sort_of_ctor}
 use Rattle.grove_edits.specs.declared.edge.Edge.{Edge}
-use Rattle.walks.specs.Live.{children_of}
+use Rattle.graph_words.specs.Live.{children_of}
 use Rattle.type_core.specs.Typ.{Typ}
 use Rattle.type_core.specs.TypeTable.{KeepsTypes}
 use Rattle.ctx_table.specs.declared.ctx_id.CtxId.{CtxId}

@@ -10,13 +10,13 @@ use Rattle.grove_edits.specs.Vertex.{is_same_vertex}
 use Rattle.grove_edits.specs.Graph.{is_same_edge}
 use Rattle.grove_edits.proofs.Vertices.{same_vertex_exact, same_vertex_itself}
 use Rattle.grove_edits.proofs.Orders.{one_edge}
-use Rattle.walks.specs.declared.class.Class.TheVariants.{Multi, Cycle, Inner}
-use Rattle.walks.specs.Live.{holds_edge, parents_of}
-use Rattle.walks.specs.Walk.{only_source, above, above_last, walk}
-use Rattle.walks.specs.Class.{class, class_by, is_same_class, is_cycle_root, is_vertex_of, is_least}
-use Rattle.walks.proofs.Up.{up, next_above, up-shift, walk_len}
-use Rattle.walks.specs.Cycle.{is_on_cycle, leads_to}
-use Rattle.walks.proofs.Cycles.{Reaches, reaches_from_leads, back_from_cycle, leads_back, returns, never_none, root_further, class_is_cycle}
+use Rattle.graph_words.specs.declared.class.Class.TheVariants.{Multi, Cycle, Inner}
+use Rattle.graph_words.specs.Live.{holds_edge, parents_of}
+use Rattle.graph_words.specs.Walk.{only_source, above, above_last, walk}
+use Rattle.graph_words.specs.Class.{class, class_by, is_same_class, is_cycle_root, is_vertex_of, is_least}
+use Rattle.graph_words.proofs.Up.{up, next_above, up-shift, walk_len}
+use Rattle.graph_words.specs.Cycle.{is_on_cycle, leads_to}
+use Rattle.graph_words.proofs.Cycles.{Reaches, reaches_from_leads, back_from_cycle, leads_back, returns, never_none, root_further, class_is_cycle}
 use Rattle.kept_records.specs.Change.{HasOneMore, Changes, same, comes, goes, StandsIn, IsConcerned, is_target, is_root}
 use Rattle.kept_records.proofs.Edits.{above_stays}
 use Rattle.kept_records.proofs.Staying.{above_unless_multi}

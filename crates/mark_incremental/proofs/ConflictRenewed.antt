@@ -18,11 +18,11 @@ use Rattle.grove_edits.specs.Graph.{graph, is_same_edge}
 use Rattle.grove_edits.specs.Vertex.{is_same_vertex, stands_in}
 use Rattle.grove_edits.proofs.Orders.{same_edge_laws}
 use Rattle.grove_edits.proofs.Vertices.{same_vertex_itself, same_vertex_exact}
-use Rattle.walks.specs.declared.class.Class.TheVariants.{Inner}
-use Rattle.walks.specs.Class.{class}
-use Rattle.walks.specs.Live.{holds_edge, children_of}
-use Rattle.walks.specs.Whole.{AreLive}
-use Rattle.walks.proofs.Chains.{IsChain, chain_is_one}
+use Rattle.graph_words.specs.declared.class.Class.TheVariants.{Inner}
+use Rattle.graph_words.specs.Class.{class}
+use Rattle.graph_words.specs.Live.{holds_edge, children_of}
+use Rattle.graph_words.specs.Whole.{AreLive}
+use Rattle.graph_words.proofs.Chains.{IsChain, chain_is_one}
 use Rattle.grove_terms.specs.Forest.{edges_under, StandsUnder}
 use Rattle.grove_terms.proofs.WellSorted.{live_well_formed}
 use Rattle.type_core.specs.Typ.{Typ}

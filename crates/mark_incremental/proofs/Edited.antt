@@ -10,14 +10,14 @@ use Rattle.grove_edits.specs.Edge.{IsWellFormed}
 use Rattle.grove_edits.specs.Edit.{edit_edge}
 use Rattle.grove_edits.specs.Vertex.{is_same_vertex, stands_in}
 use Rattle.grove_edits.specs.Graph.{Graph, graph, graph_join, IsSame}
-use Rattle.walks.specs.declared.class.Class.TheVariants.{Inner}
-use Rattle.walks.specs.Class.{class, is_cycle_root}
-use Rattle.walks.specs.Walk.{walk}
-use Rattle.walks.specs.Whole.{AreLive}
+use Rattle.graph_words.specs.declared.class.Class.TheVariants.{Inner}
+use Rattle.graph_words.specs.Class.{class, is_cycle_root}
+use Rattle.graph_words.specs.Walk.{walk}
+use Rattle.graph_words.specs.Whole.{AreLive}
 use Rattle.grove_terms.proofs.OneGrove.{one_live}
 use Rattle.grove_terms.proofs.WellSorted.{live_well_formed}
 use Rattle.type_core.specs.Typ.{Typ}
-use Rattle.walks.specs.States.{Entries, state_in}
+use Rattle.graph_words.specs.States.{Entries, state_in}
 use Rattle.edge_index.specs.Lists.{Indexed, live}
 use Rattle.child_index.specs.declared.origin.Origin.{Origin}
 use Rattle.parent_index.specs.declared.target.Target.{Target}

@@ -6,9 +6,9 @@ use Rattle.grove_edits.specs.declared.vertex.Vertex.{Vertex}
 use Rattle.grove_edits.specs.Vertex.{is_same_vertex, root}
 use Rattle.grove_edits.specs.Graph.{Graph}
 use Rattle.grove_edits.proofs.Vertices.{same_vertex_exact, same_vertex_itself}
-use Rattle.walks.specs.declared.class.Class.TheVariants.{NoParent, Inner}
-use Rattle.walks.specs.Class.{class}
-use Rattle.walks.specs.Whole.{IsVertexOf}
+use Rattle.graph_words.specs.declared.class.Class.TheVariants.{NoParent, Inner}
+use Rattle.graph_words.specs.Class.{class}
+use Rattle.graph_words.specs.Whole.{IsVertexOf}
 use Rattle.grove_terms.specs.Forest.{none}
 use Rattle.type_core.specs.Typ.{Typ}
 use Rattle.ctx_table.specs.declared.ctx_id.CtxId.{CtxId}

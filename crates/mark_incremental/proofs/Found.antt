@@ -5,12 +5,12 @@ use Rattle.grove_sorts.specs.declared.sort.Sort.TheVariants.{Top, Exp, Pat, Typ 
 use Rattle.grove_sorts.specs.contracts.sort.SortPartialEq.TheImpl as sort_eq
 use Rattle.grove_edits.specs.declared.vertex.Vertex.{Vertex}
 use Rattle.grove_edits.specs.declared.edge.Edge.{Edge}
-use Rattle.walks.specs.declared.class.Class.{Class}
-use Rattle.walks.specs.declared.class.Class.TheVariants.{NoParent, Multi, Cycle, Inner}
-use Rattle.walks.specs.declared.few.Few.TheVariants.{Zero, One, More}
-use Rattle.walks.specs.Few.{first_two}
-use Rattle.walks.specs.Live.{parents_of}
-use Rattle.walks.specs.Class.{class_by, class, is_same_class, is_cycle_root}
+use Rattle.graph_words.specs.declared.class.Class.{Class}
+use Rattle.graph_words.specs.declared.class.Class.TheVariants.{NoParent, Multi, Cycle, Inner}
+use Rattle.graph_words.specs.declared.few.Few.TheVariants.{Zero, One, More}
+use Rattle.graph_words.specs.Few.{first_two}
+use Rattle.graph_words.specs.Live.{parents_of}
+use Rattle.graph_words.specs.Class.{class_by, class, is_same_class, is_cycle_root}
 use Rattle.type_core.specs.Typ.{Typ}
 use Rattle.type_core.specs.TypeTable as type_table
 use Rattle.ctx_table.specs.Context.{Context}

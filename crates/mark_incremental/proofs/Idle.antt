@@ -5,9 +5,9 @@ use Rattle.grove_edits.specs.declared.vertex.Vertex.{Vertex}
 use Rattle.grove_edits.specs.declared.edit.Edit.{Edit}
 use Rattle.grove_edits.specs.Edit.{edit_edge, edit_kind}
 use Rattle.grove_edits.specs.Graph.{Graph, graph, graph_join, IsSame, state_of}
-use Rattle.walks.specs.declared.change.Change.TheVariants.{Same}
-use Rattle.walks.specs.Change.{IsChange}
-use Rattle.walks.specs.States.{Entries, state_in}
+use Rattle.graph_words.specs.declared.change.Change.TheVariants.{Same}
+use Rattle.graph_words.specs.Change.{IsChange}
+use Rattle.graph_words.specs.States.{Entries, state_in}
 use Rattle.judging.proofs.Kept.{types-itself, contexts-itself}
 use Rattle.mark_store.specs.declared.record.Record.{Record}
 use Rattle.mark_incremental.specs.declared.applying.Applied.{Applied}

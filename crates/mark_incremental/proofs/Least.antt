@@ -8,7 +8,7 @@ use Rattle.grove_edits.proofs.Orders.{vertex_cmp_total}
 use Rattle.grove_edits.proofs.Vertices.{same_vertex_itself, same_vertex_exact, vertex_cmp_itself}
 use Rattle.mark_incremental.specs.Rooting.{IsLeastOf}
 use Rattle.mark_incremental.proofs.Lists.{stands_push}
-use Rattle.walks.proofs.Around.{gt_false_from, le_through}
+use Rattle.graph_words.proofs.Around.{gt_false_from, le_through}
 
 or_cases : (a b : Bool) → (a || b) ≡ true → (a ≡ true) ⊎ (b ≡ true)
 or_cases true b h = inl refl

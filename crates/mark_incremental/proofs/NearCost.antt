@@ -8,7 +8,7 @@ use Rattle.grove_edits.specs.declared.edge.Edge.{Edge}
 use Rattle.grove_edits.specs.declared.edit.Edit.{Edit}
 use Rattle.grove_edits.specs.Edit.{edit_edge}
 use Rattle.grove_edits.specs.Graph.{graph}
-use Rattle.walks.specs.Whole.{AreLive}
+use Rattle.graph_words.specs.Whole.{AreLive}
 use Rattle.grove_terms.specs.declared.node.Node.{Node}
 use Rattle.grove_terms.specs.Grove.{AreTreesOf}
 use Rattle.type_core.specs.Typ.{Typ}

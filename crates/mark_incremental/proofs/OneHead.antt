@@ -5,13 +5,13 @@ use Rattle.std.specs.List.{AllByRecursion}
 use Rattle.grove_edits.specs.declared.vertex.Vertex.{Vertex}
 use Rattle.grove_edits.specs.declared.edge.Edge.{Edge}
 use Rattle.grove_edits.specs.Edge.{IsWellFormed}
-use Rattle.walks.specs.declared.class.Class.{Class}
-use Rattle.walks.specs.declared.class.Class.TheVariants.{NoParent, Multi, Cycle, Inner}
-use Rattle.walks.specs.Live.{parents_of}
-use Rattle.walks.specs.Walk.{above}
-use Rattle.walks.specs.Class.{class, is_same_class, is_cycle_root}
-use Rattle.walks.proofs.Up.{up, next_above, up-shift}
-use Rattle.walks.proofs.Cycles.{Reaches, class_is_cycle}
+use Rattle.graph_words.specs.declared.class.Class.{Class}
+use Rattle.graph_words.specs.declared.class.Class.TheVariants.{NoParent, Multi, Cycle, Inner}
+use Rattle.graph_words.specs.Live.{parents_of}
+use Rattle.graph_words.specs.Walk.{above}
+use Rattle.graph_words.specs.Class.{class, is_same_class, is_cycle_root}
+use Rattle.graph_words.proofs.Up.{up, next_above, up-shift}
+use Rattle.graph_words.proofs.Cycles.{Reaches, class_is_cycle}
 use Rattle.grove_terms.specs.Forest.{Forest}
 use Rattle.mark_step.specs.Expression.{Demanded}
 use Rattle.kept_records.specs.Kept.{Stands}

@@ -11,8 +11,8 @@ use Rattle.grove_sorts.proofs.Rows.{row_short}
 use Rattle.grove_edits.specs.declared.vertex.Vertex.{Vertex}
 use Rattle.grove_edits.specs.declared.edge.Edge.{Edge}
 use Rattle.grove_edits.specs.Edge.{IsWellFormed}
-use Rattle.walks.specs.declared.class.Class.TheVariants.{Inner}
-use Rattle.walks.specs.Class.{class}
+use Rattle.graph_words.specs.declared.class.Class.TheVariants.{Inner}
+use Rattle.graph_words.specs.Class.{class}
 use Rattle.grove_terms.specs.Forest.{Forest, none, multi_ref, cycle_ref, tree, edges_from, StandsUnder}
 use Rattle.grove_terms.proofs.Forests.{forest_of, root_stands}
 use Rattle.type_core.specs.Typ.{Typ}

@@ -12,13 +12,13 @@ use Rattle.grove_edits.specs.Edit.{edit_edge, edit_kind}
 use Rattle.grove_edits.specs.Graph.{Graph, graph, graph_join, is_same_edge, IsSame, state_of}
 use Rattle.grove_edits.proofs.Orders.{one_edge}
 use Rattle.grove_terms.proofs.InLive.{same_edge_itself}
-use Rattle.walks.specs.Live.{holds_edge}
-use Rattle.walks.specs.Whole.{AreLive}
-use Rattle.walks.specs.declared.change.Change.TheVariants.{Same, Raised}
-use Rattle.walks.specs.Change.{IsChange}
-use Rattle.walks.specs.States.{with_state}
-use Rattle.walks.specs.Ordered.{with_edge, without_edge}
-use Rattle.walks.proofs.Ordered.{holds-with_edge, holds-filter, in_order-with_edge, in_order-filter}
+use Rattle.graph_words.specs.Live.{holds_edge}
+use Rattle.graph_words.specs.Whole.{AreLive}
+use Rattle.graph_words.specs.declared.change.Change.TheVariants.{Same, Raised}
+use Rattle.graph_words.specs.Change.{IsChange}
+use Rattle.graph_words.specs.States.{with_state}
+use Rattle.graph_words.specs.Ordered.{with_edge, without_edge}
+use Rattle.graph_words.proofs.Ordered.{holds-with_edge, holds-filter, in_order-with_edge, in_order-filter}
 use Rattle.mark_incremental.specs.Raising.{followed, unfollowed}
 use Rattle.grove_sorts.proofs.Truths.{false_from}
 

@@ -6,7 +6,7 @@ use Rattle.grove_edits.specs.declared.vertex.Vertex.{Vertex}
 use Rattle.grove_edits.specs.declared.edit.Edit.{Edit}
 use Rattle.grove_edits.specs.Edit.{edit_edge, edit_kind}
 use Rattle.grove_edits.specs.Graph.{IsSame}
-use Rattle.walks.specs.States.{state_in, KeepsRoom}
+use Rattle.graph_words.specs.States.{state_in, KeepsRoom}
 use Rattle.type_core.specs.Typ.{Typ}
 use Rattle.ctx_table.specs.Context.{Context}
 use Rattle.type_core.specs.TypeTable.{KeepsTypes}

@@ -1,7 +1,7 @@
 -- The records that walks down make, put in place of the kept ones, are those of the new graph.
 use Rattle.std.proofs.Common.{◌≡◌, Bool, true, false, cond, not, List, [], ◌∷◌, refl, sym, ap, subst, ◌∙◌}
 use Rattle.std.specs.Prelude.{◌||◌, ◌&&◌, filter}
-use Rattle.walks.specs.Class.{is_same_class, class}
+use Rattle.graph_words.specs.Class.{is_same_class, class}
 use Rattle.grove_edits.specs.declared.vertex.Vertex.{Vertex}
 use Rattle.grove_edits.specs.declared.edge.Edge.{Edge}
 use Rattle.grove_edits.specs.declared.edit.Edit.{Edit}
@@ -9,8 +9,8 @@ use Rattle.grove_edits.specs.Edit.{edit_edge}
 use Rattle.grove_edits.specs.Vertex.{is_same_vertex, stands_in}
 use Rattle.grove_edits.specs.Graph.{graph}
 use Rattle.grove_edits.proofs.Vertices.{same_vertex_exact}
-use Rattle.walks.specs.declared.class.Class.TheVariants.{Inner}
-use Rattle.walks.specs.Whole.{AreLive, IsVertexOf}
+use Rattle.graph_words.specs.declared.class.Class.TheVariants.{Inner}
+use Rattle.graph_words.specs.Whole.{AreLive, IsVertexOf}
 use Rattle.grove_terms.proofs.WellSorted.{live_well_formed}
 use Rattle.kept_records.specs.Kept.{Kept, Records, AreKept, Stands}
 use Rattle.grove_terms.specs.Forest.{Forest}
@@ -22,7 +22,7 @@ use Rattle.kept_records.proofs.Children.{IsTreeOf, children_are_of}
 use Rattle.kept_records.proofs.Standing.{stands_under}
 use Rattle.kept_records.proofs.Scratch.{target_vertex}
 use Rattle.kept_records.proofs.Edited.{left_keeps, edit_keeps}
-use Rattle.walks.proofs.Chains.{not_inner_from_test}
+use Rattle.graph_words.proofs.Chains.{not_inner_from_test}
 use Rattle.mark_incremental.specs.Walking.{LeavesRight}
 use Rattle.grove_sorts.proofs.Truths.{not_true}
 

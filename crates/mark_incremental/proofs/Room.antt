@@ -8,7 +8,7 @@ use Rattle.grove_edits.specs.declared.vertex.Vertex.{Vertex}
 use Rattle.grove_edits.specs.declared.edge.Edge.{Edge}
 use Rattle.grove_edits.specs.Vertex.{is_same_vertex}
 use Rattle.grove_edits.proofs.Vertices.{same_vertex_itself}
-use Rattle.walks.specs.Live.{children_of, parents_of, is_from}
+use Rattle.graph_words.specs.Live.{children_of, parents_of, is_from}
 use Rattle.edge_index.specs.Lists.{Indexed}
 use Rattle.child_index.specs.declared.origin.Origin.{Origin}
 use Rattle.child_index.specs.Origin.{room_at_origin}

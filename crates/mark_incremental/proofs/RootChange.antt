@@ -7,10 +7,10 @@ use Rattle.grove_edits.specs.Edit.{edit_edge}
 use Rattle.grove_edits.specs.Vertex.{is_same_vertex}
 use Rattle.grove_edits.specs.Graph.{graph}
 use Rattle.grove_edits.proofs.Vertices.{same_vertex_exact, same_vertex_itself}
-use Rattle.walks.specs.Class.{is_cycle_root}
-use Rattle.walks.specs.Whole.{AreLive}
-use Rattle.walks.specs.Cycle.{is_on_cycle, leads_to}
-use Rattle.walks.proofs.Cycles.{one_root, reaches_from_leads}
+use Rattle.graph_words.specs.Class.{is_cycle_root}
+use Rattle.graph_words.specs.Whole.{AreLive}
+use Rattle.graph_words.specs.Cycle.{is_on_cycle, leads_to}
+use Rattle.graph_words.proofs.Cycles.{one_root, reaches_from_leads}
 use Rattle.kept_records.proofs.Edited.{root_ends, root_begins, root_ended, root_begun}
 use Rattle.grove_sorts.proofs.Truths.{not_both}
 

@@ -8,14 +8,14 @@ use Rattle.grove_edits.specs.Edit.{edit_edge}
 use Rattle.grove_edits.specs.Vertex.{is_same_vertex, stands_in, vertex_cmp}
 use Rattle.grove_edits.specs.Graph.{graph}
 use Rattle.grove_edits.proofs.Vertices.{same_vertex_itself, same_vertex_exact}
-use Rattle.walks.specs.Live.{parents_of}
-use Rattle.walks.specs.Walk.{above, walk}
-use Rattle.walks.specs.Class.{is_cycle_root}
-use Rattle.walks.specs.Whole.{AreLive}
-use Rattle.walks.proofs.Up.{next_above, walk_len}
-use Rattle.walks.proofs.Tops.{HasTop, has_top}
-use Rattle.walks.specs.Cycle.{is_on_cycle, leads_to}
-use Rattle.walks.proofs.Cycles.{Reaches, ComesBack, up_through, leads_from_reaches, reaches_from_leads, leads_to_itself, back_from_cycle, leads_back, returns, never_none, back_from_return, root_from_least}
+use Rattle.graph_words.specs.Live.{parents_of}
+use Rattle.graph_words.specs.Walk.{above, walk}
+use Rattle.graph_words.specs.Class.{is_cycle_root}
+use Rattle.graph_words.specs.Whole.{AreLive}
+use Rattle.graph_words.proofs.Up.{next_above, walk_len}
+use Rattle.graph_words.proofs.Tops.{HasTop, has_top}
+use Rattle.graph_words.specs.Cycle.{is_on_cycle, leads_to}
+use Rattle.graph_words.proofs.Cycles.{Reaches, ComesBack, up_through, leads_from_reaches, reaches_from_leads, leads_to_itself, back_from_cycle, leads_back, returns, never_none, back_from_return, root_from_least}
 use Rattle.kept_records.specs.Change.{CyclesStay}
 use Rattle.kept_records.proofs.Edited.{roots_stay, never_on_both}
 use Rattle.kept_records.proofs.Decided.{list_or, edge_or, AreSameOrNot}

@@ -5,8 +5,8 @@ use Rattle.grove_edits.specs.declared.edge.Edge.{Edge}
 use Rattle.grove_edits.specs.declared.edit.Edit.{Edit}
 use Rattle.grove_edits.specs.Edit.{edit_edge}
 use Rattle.grove_edits.specs.Graph.{Graph, graph, graph_join, IsSame}
-use Rattle.walks.specs.Walk.{walk}
-use Rattle.walks.specs.Whole.{AreLive}
+use Rattle.graph_words.specs.Walk.{walk}
+use Rattle.graph_words.specs.Whole.{AreLive}
 use Rattle.grove_terms.proofs.OneGrove.{one_live}
 use Rattle.kept_records.specs.Change.{CyclesStay, AreNear, near_size, trees_in}
 use Rattle.kept_records.specs.Size.{IsSize, IsSizeBy, of_trees, of_near}

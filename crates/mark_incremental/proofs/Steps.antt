@@ -18,9 +18,9 @@ use Rattle.grove_edits.specs.Graph.{is_same_edge}
 use Rattle.grove_edits.specs.Vertex.{is_same_vertex}
 use Rattle.grove_edits.proofs.Vertices.{same_vertex_itself}
 use Rattle.grove_edits.proofs.Orders.{one_edge}
-use Rattle.walks.specs.declared.class.Class.TheVariants.{Inner}
-use Rattle.walks.specs.Class.{class}
-use Rattle.walks.specs.Live.{children_of, holds_edge}
+use Rattle.graph_words.specs.declared.class.Class.TheVariants.{Inner}
+use Rattle.graph_words.specs.Class.{class}
+use Rattle.graph_words.specs.Live.{children_of, holds_edge}
 use Rattle.grove_terms.specs.Forest.{Forest, none, tree, child_edges, edges_from, AreChildren, StandsUnder}
 use Rattle.grove_terms.specs.Nodes.{count_at}
 use Rattle.grove_terms.proofs.InLive.{IsFromPlace, children_lead}

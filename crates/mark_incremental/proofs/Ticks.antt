@@ -8,7 +8,7 @@ use Rattle.grove_sorts.specs.Ctor.{positions}
 use Rattle.grove_sorts.proofs.Rows.{row_short}
 use Rattle.grove_edits.specs.declared.vertex.Vertex.{Vertex}
 use Rattle.grove_edits.specs.declared.edge.Edge.{Edge}
-use Rattle.walks.specs.Live.{children_of}
+use Rattle.graph_words.specs.Live.{children_of}
 use Rattle.grove_terms.specs.Forest.{edges_from, edges_under}
 use Rattle.type_core.specs.Typ.{Typ}
 use Rattle.ctx_table.specs.Context.{Context}

@@ -4,10 +4,10 @@ use Rattle.std.specs.Prelude.{◌||◌}
 use Rattle.grove_edits.specs.declared.vertex.Vertex.{Vertex}
 use Rattle.grove_edits.specs.declared.edge.Edge.{Edge}
 use Rattle.grove_edits.specs.Vertex.{is_same_vertex, stands_in}
-use Rattle.walks.specs.Walk.{above, above_last, GoesOn, IsEnd, IsWalk, walk, walk_on}
-use Rattle.walks.specs.Class.{is_vertex_of}
-use Rattle.walks.proofs.Endings.{walk_is, walk_is_one}
-use Rattle.walks.specs.Cycle.{is_on_cycle}
+use Rattle.graph_words.specs.Walk.{above, above_last, GoesOn, IsEnd, IsWalk, walk, walk_on}
+use Rattle.graph_words.specs.Class.{is_vertex_of}
+use Rattle.graph_words.proofs.Endings.{walk_is, walk_is_one}
+use Rattle.graph_words.specs.Cycle.{is_on_cycle}
 use Rattle.mark_store.specs.Places.{Places}
 use Rattle.mark_incremental.specs.Looking.{holds}
 use Rattle.mark_incremental.specs.Passing.{IsUpTo}

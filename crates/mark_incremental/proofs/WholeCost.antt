@@ -13,13 +13,13 @@ use Rattle.grove_edits.specs.Edit.{edit_edge}
 use Rattle.grove_edits.specs.Vertex.{is_same_vertex, stands_in}
 use Rattle.grove_edits.specs.Graph.{Graph, graph}
 use Rattle.grove_edits.proofs.Vertices.{same_vertex_exact, same_vertex_itself}
-use Rattle.walks.specs.declared.class.Class.TheVariants.{Inner}
-use Rattle.walks.specs.Live.{holds_edge, parents_of}
-use Rattle.walks.specs.Walk.{only_source, above, IsEnd, walk}
-use Rattle.walks.specs.Class.{class}
-use Rattle.walks.specs.Whole.{AreLive, IsVertexOf}
-use Rattle.walks.proofs.Endings.{walk_is_one}
-use Rattle.walks.proofs.Cycles.{leads_from_reaches}
+use Rattle.graph_words.specs.declared.class.Class.TheVariants.{Inner}
+use Rattle.graph_words.specs.Live.{holds_edge, parents_of}
+use Rattle.graph_words.specs.Walk.{only_source, above, IsEnd, walk}
+use Rattle.graph_words.specs.Class.{class}
+use Rattle.graph_words.specs.Whole.{AreLive, IsVertexOf}
+use Rattle.graph_words.proofs.Endings.{walk_is_one}
+use Rattle.graph_words.proofs.Cycles.{leads_from_reaches}
 use Rattle.grove_terms.specs.declared.node.Node.{Node}
 use Rattle.grove_terms.specs.declared.grove.Grove.{Grove}
 use Rattle.grove_terms.specs.Forest.{Forest}

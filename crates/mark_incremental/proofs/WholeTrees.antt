@@ -15,14 +15,14 @@ use Rattle.grove_edits.specs.Vertex.{is_same_vertex, stands_in}
 use Rattle.grove_edits.specs.Graph.{graph, state_of, is_same_edge}
 use Rattle.grove_edits.proofs.Vertices.{same_vertex_exact, same_vertex_itself}
 use Rattle.grove_edits.proofs.Orders.{one_edge}
-use Rattle.walks.specs.declared.class.Class.TheVariants.{Inner}
-use Rattle.walks.specs.Live.{holds_edge}
-use Rattle.walks.specs.Walk.{walk}
-use Rattle.walks.specs.Class.{class, is_cycle_root}
-use Rattle.walks.specs.Whole.{AreLive, IsVertexOf}
-use Rattle.walks.proofs.Chains.{not_inner_from_test}
-use Rattle.walks.specs.Cycle.{is_on_cycle, leads_to}
-use Rattle.walks.proofs.Cycles.{leads_from_reaches, reaches_from_leads, leads_to_itself}
+use Rattle.graph_words.specs.declared.class.Class.TheVariants.{Inner}
+use Rattle.graph_words.specs.Live.{holds_edge}
+use Rattle.graph_words.specs.Walk.{walk}
+use Rattle.graph_words.specs.Class.{class, is_cycle_root}
+use Rattle.graph_words.specs.Whole.{AreLive, IsVertexOf}
+use Rattle.graph_words.proofs.Chains.{not_inner_from_test}
+use Rattle.graph_words.specs.Cycle.{is_on_cycle, leads_to}
+use Rattle.graph_words.proofs.Cycles.{leads_from_reaches, reaches_from_leads, leads_to_itself}
 use Rattle.grove_terms.proofs.WellSorted.{live_well_formed}
 use Rattle.kept_records.specs.Kept.{Records, AreKept, Kept}
 use Rattle.kept_records.specs.Local.{is_inner}

@@ -7,8 +7,8 @@ use Rattle.grove_edits.specs.declared.edit.Edit.{Edit}
 use Rattle.grove_edits.specs.Edit.{edit_edge}
 use Rattle.grove_edits.specs.Vertex.{is_same_vertex}
 use Rattle.grove_edits.specs.Graph.{Graph, graph, IsSame}
-use Rattle.walks.specs.Whole.{AreLive}
-use Rattle.walks.specs.States.{Entries, state_in}
+use Rattle.graph_words.specs.Whole.{AreLive}
+use Rattle.graph_words.specs.States.{Entries, state_in}
 use Rattle.edge_index.specs.Lists.{Indexed}
 use Rattle.grove_sorts.specs.declared.position.Position.{Position}
 use Rattle.child_index.specs.declared.origin.Origin.{Origin}

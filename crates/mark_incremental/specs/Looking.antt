@@ -6,8 +6,8 @@ use Rattle.grove_sorts.specs.declared.ctor.Ctor.{Ctor}
 use Rattle.grove_sorts.specs.Ctor.{sort_of_ctor}
 use Rattle.grove_edits.specs.declared.vertex.Vertex.{Vertex}
 use Rattle.grove_edits.specs.declared.edge.Edge.{Edge}
-use Rattle.walks.specs.declared.class.Class.TheVariants.{Inner}
-use Rattle.walks.specs.Class.{class, is_cycle_root}
+use Rattle.graph_words.specs.declared.class.Class.TheVariants.{Inner}
+use Rattle.graph_words.specs.Class.{class, is_cycle_root}
 use Rattle.type_core.specs.Typ.{Typ, Unknown}
 use Rattle.ctx_table.specs.Context.{Context}
 use Rattle.mark_step.specs.declared.node.Demand.{Demand}

@@ -3,8 +3,8 @@ use Rattle.std.specs.Prelude.{◌≡◌, Bool, List, [], ◌∷◌, ◌++◌}
 use Rattle.grove_edits.specs.declared.vertex.Vertex.{Vertex}
 use Rattle.grove_edits.specs.declared.edge.Edge.{Edge}
 use Rattle.grove_edits.specs.Vertex.{stands_in}
-use Rattle.walks.specs.Walk.{above, GoesOn, IsWalk, walk}
-use Rattle.walks.specs.Cycle.{is_on_cycle}
+use Rattle.graph_words.specs.Walk.{above, GoesOn, IsWalk, walk}
+use Rattle.graph_words.specs.Cycle.{is_on_cycle}
 use Rattle.mark_incremental.specs.declared.passing.Ends.{Ends}
 use Rattle.kept_records.specs.Change.{StandOnce}
 use Rattle.mark_store.specs.Places.{Places}

@@ -12,16 +12,16 @@ use Rattle.grove_edits.specs.declared.edit.EditKind.TheVariants.{Insert, Delete}
 use Rattle.grove_edits.specs.Vertex.{is_same_vertex}
 use Rattle.grove_edits.specs.Edit.{edit_edge, edit_kind}
 use Rattle.grove_edits.specs.Graph.{graph, graph_join, IsSame, state_of}
-use Rattle.walks.specs.Whole.{AreLive}
-use Rattle.walks.specs.declared.change.Change.{Change}
-use Rattle.walks.specs.declared.change.Change.TheVariants.{Same, Raised}
-use Rattle.walks.specs.Change.{IsChange}
-use Rattle.walks.specs.States.{Entries, state_in, HasRoom}
+use Rattle.graph_words.specs.Whole.{AreLive}
+use Rattle.graph_words.specs.declared.change.Change.{Change}
+use Rattle.graph_words.specs.declared.change.Change.TheVariants.{Same, Raised}
+use Rattle.graph_words.specs.Change.{IsChange}
+use Rattle.graph_words.specs.States.{Entries, state_in, HasRoom}
 use Rattle.edge_index.specs.Lists.{Indexed, live}
-use Rattle.walks.specs.Ordered.{with_edge, without_edge}
+use Rattle.graph_words.specs.Ordered.{with_edge, without_edge}
 use Rattle.child_index.specs.declared.origin.Origin.{Origin}
 use Rattle.child_index.specs.Origin.{room_at_origin}
-use Rattle.walks.specs.Live.{is_from}
+use Rattle.graph_words.specs.Live.{is_from}
 use Rattle.parent_index.specs.declared.target.Target.{Target}
 use Rattle.parent_index.specs.Target.{room_at_vertex}
 

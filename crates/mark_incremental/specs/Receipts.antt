@@ -5,7 +5,7 @@ use Rattle.grove_edits.specs.declared.vertex.Vertex.{Vertex}
 use Rattle.grove_edits.specs.declared.edit.Edit.{Edit}
 use Rattle.grove_edits.specs.Edit.{edit_edge, edit_kind}
 use Rattle.grove_edits.specs.Graph.{IsSame}
-use Rattle.walks.specs.States.{Entries, state_in, KeepsRoom}
+use Rattle.graph_words.specs.States.{Entries, state_in, KeepsRoom}
 use Rattle.edge_index.specs.Lists.{Indexed}
 use Rattle.child_index.specs.declared.origin.Origin.{Origin}
 use Rattle.child_index.specs.Origin.{room_at_origin}

@@ -4,7 +4,7 @@ use Rattle.std.specs.Ordering.{is_gt}
 use Rattle.grove_edits.specs.declared.vertex.Vertex.{Vertex}
 use Rattle.grove_edits.specs.declared.edge.Edge.{Edge}
 use Rattle.grove_edits.specs.Vertex.{vertex_cmp, stands_in}
-use Rattle.walks.specs.Class.{is_cycle_root}
+use Rattle.graph_words.specs.Class.{is_cycle_root}
 use Rattle.mark_incremental.specs.declared.passing.Ends.{Ends}
 
 -- the vertex is the least of another one and some further ones

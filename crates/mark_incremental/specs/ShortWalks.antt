@@ -7,15 +7,15 @@ use Rattle.grove_edits.specs.declared.edge.Edge.{Edge}
 use Rattle.grove_edits.specs.declared.edit.Edit.{Edit}
 use Rattle.grove_edits.specs.Edit.{edit_edge}
 use Rattle.grove_edits.specs.Graph.{Graph, graph, IsSame}
-use Rattle.walks.specs.Whole.{AreLive}
+use Rattle.graph_words.specs.Whole.{AreLive}
 use Rattle.grove_edits.specs.Vertex.{stands_in}
-use Rattle.walks.specs.declared.class.Class.TheVariants.{Inner}
-use Rattle.walks.specs.Class.{class}
-use Rattle.walks.specs.Live.{holds_edge, parents_of}
-use Rattle.walks.specs.declared.few.Few.{Few}
-use Rattle.walks.specs.Few.{first_two}
+use Rattle.graph_words.specs.declared.class.Class.TheVariants.{Inner}
+use Rattle.graph_words.specs.Class.{class}
+use Rattle.graph_words.specs.Live.{holds_edge, parents_of}
+use Rattle.graph_words.specs.declared.few.Few.{Few}
+use Rattle.graph_words.specs.Few.{first_two}
 use Rattle.mark_incremental.specs.Looking.{AreRoots}
-use Rattle.walks.specs.Walk.{above, walk}
+use Rattle.graph_words.specs.Walk.{above, walk}
 use Rattle.type_core.specs.Typ.{Typ}
 use Rattle.ctx_table.specs.Context.{Context}
 use Rattle.mark_step.specs.declared.node.Demand.{Demand}

@@ -1,8 +1,8 @@
 ghost use Rattle.std.specs.Prelude.{◌≡◌, ℕ, ◌+◌, ◌*◌, ◌≤◌, IsTrue, List, length};
 ghost use Rattle.grove_edits.specs.declared.vertex.Vertex.{Vertex};
 ghost use Rattle.grove_edits.specs.declared.edge.Edge.{Edge};
-ghost use Rattle.walks.specs.Few.{first_two};
-ghost use Rattle.walks.specs.Live.{parents_of};
+ghost use Rattle.graph_words.specs.Few.{first_two};
+ghost use Rattle.graph_words.specs.Live.{parents_of};
 ghost use Rattle.edge_index.specs.Lists.{live};
 ghost use Rattle.kept_records.specs.Short.{LeadsUp};
 ghost use Rattle.mark_incremental.specs.Looking.{AreRoots};
@@ -10,12 +10,12 @@ ghost use Rattle.mark_incremental.specs.ShortWalks.{IsLeaf, IsNotPassed, IsApart
 
 use crate::walks_up::holds;
 use crate::way::above_inner;
+use graph_words::{Few, Steps};
 use grove_edits::{Edge, Vertex, is_same_vertex};
 use grove_sorts::position_count;
 use mark_store::{MarkStore, VertexMap};
 use parent_index::ParentIndex;
 use std::sync::ledger::Ledger;
-use walks::{Few, Steps};
 
 // Whether a vertex has no children, since it has no positions or is no vertex of the graph.
 fn is_leaf(vertex: &Vertex, records: &MarkStore) -> bool

@@ -9,7 +9,7 @@ ghost use Rattle.grove_edits.specs.Graph.{IsSame, graph, graph_join, state_of};
 ghost use Rattle.edge_index.specs.Lists.{live};
 ghost use Rattle.child_index.specs.Origin.{room_at_origin};
 ghost use Rattle.parent_index.specs.Target.{room_at_vertex};
-ghost use Rattle.walks.specs.States.{state_in, Entries, KeepsRoom};
+ghost use Rattle.graph_words.specs.States.{state_in, Entries, KeepsRoom};
 ghost use Rattle.kept_records.specs.Size.{IsSize};
 ghost use Rattle.mark_incremental.specs.Looking.{holds};
 ghost use Rattle.mark_incremental.specs.Raising.{AreIndexed, HaveRoom, LeavesRoom, MovesRoom, brought_by, taken_by};
@@ -18,7 +18,6 @@ ghost use Rattle.mark_incremental.specs.Applying.{HaveGrown, KeepMarksRoom, put_
 
 use crate::apart::is_apart;
 use crate::marks::Marks;
-use crate::no_memory::NoMemory;
 use crate::passing::walk_from_ends;
 use crate::putting::restore;
 use crate::raising::{put_back, raise};
@@ -26,11 +25,12 @@ use crate::rooting::set_root;
 use child_index::ChildIndex;
 use edge_lattice::{State, leq};
 use graph_store::{Change, GraphStore};
+use graph_words::{ParentOf, Steps};
 use grove_edits::{Edge, Edit, EditKind, Vertex};
 use mark_store::Record;
 use parent_index::ParentIndex;
 use std::sync::ledger::Ledger;
-use walks::{ParentOf, Steps};
+use text_parts::NoMemory;
 
 /// What the renewal of records after an edit replaced.
 #[derive(Drop)]

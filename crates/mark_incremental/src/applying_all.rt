@@ -2,7 +2,7 @@ ghost use Rattle.std.specs.Prelude.{◌+◌, ◌≤◌, ℕ, reverse, OnOk, OnEr
 ghost use Rattle.grove_sorts.specs.declared.position.Position.{Position};
 ghost use Rattle.grove_edits.specs.declared.vertex.Vertex.{Vertex};
 ghost use Rattle.grove_edits.specs.Graph.{IsSame, graph, graph_join};
-ghost use Rattle.walks.specs.States.{state_in, KeepsRoom};
+ghost use Rattle.graph_words.specs.States.{state_in, KeepsRoom};
 ghost use Rattle.child_index.specs.Origin.{room_at_origin};
 ghost use Rattle.parent_index.specs.Target.{room_at_vertex};
 ghost use Rattle.mark_incremental.specs.Raising.{AreIndexed};
@@ -13,13 +13,13 @@ ghost use Rattle.mark_incremental.specs.Receipts.{Held, held, IsAsBefore, HaveLe
 
 use crate::applying::Applied;
 use crate::marks::Marks;
-use crate::no_memory::NoMemory;
 use child_index::ChildIndex;
 use graph_store::GraphStore;
+use graph_words::Steps;
 use grove_edits::Edit;
 use parent_index::ParentIndex;
 use std::sync::ledger::Ledger;
-use walks::Steps;
+use text_parts::NoMemory;
 
 /// An edit that was applied, and what it changed.
 #[derive(Drop)]

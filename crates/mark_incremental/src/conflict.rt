@@ -5,10 +5,10 @@ ghost use Rattle.grove_edits.specs.declared.vertex.Vertex.{Vertex};
 ghost use Rattle.grove_edits.specs.Edge.{IsWellFormed};
 ghost use Rattle.grove_edits.specs.Graph.{graph};
 ghost use Rattle.grove_terms.specs.Forest.{edges_under};
-ghost use Rattle.walks.specs.declared.class.Class.TheVariants.{Inner};
-ghost use Rattle.walks.specs.Class.{class};
-ghost use Rattle.walks.specs.Few.{first_two};
-ghost use Rattle.walks.specs.Live.{holds_edge, parents_of, children_of};
+ghost use Rattle.graph_words.specs.declared.class.Class.TheVariants.{Inner};
+ghost use Rattle.graph_words.specs.Class.{class};
+ghost use Rattle.graph_words.specs.Few.{first_two};
+ghost use Rattle.graph_words.specs.Live.{holds_edge, parents_of, children_of};
 ghost use Rattle.edge_index.specs.Lists.{live};
 ghost use Rattle.type_core.specs.TypeTable.{KeepsTypes};
 ghost use Rattle.ctx_table.specs.CtxTable.{KeepsContexts};
@@ -30,11 +30,11 @@ use crate::applying::OldRecords;
 use crate::frame::{Frame, accept};
 use crate::looking::Walk;
 use crate::marks::Marks;
-use crate::no_memory::NoMemory;
 use crate::short::{came_or_source, kept_demand};
 use crate::way::judged_with;
 use child_index::ChildIndex;
 use ctx_table::CtxTable;
+use graph_words::{Few, Steps};
 use grove_edits::{Edge, Vertex, is_same_vertex};
 use grove_sorts::place_at;
 use mark_step::Demand;
@@ -42,8 +42,8 @@ use mark_store::{MarkStore, Record, VertexMap};
 use parent_index::ParentIndex;
 use std::alloc::Global;
 use std::sync::ledger::Ledger;
+use text_parts::NoMemory;
 use type_core::TypeTable;
-use walks::{Few, Steps};
 
 // Whether there is no parent edge from elsewhere than the position of an edge.
 fn is_from_position(few: &Few, edge: &Edge) -> bool

@@ -13,16 +13,16 @@ ghost use Rattle.mark_incremental.specs.Walking.{IsFrameOf, IsAccepted, IsBegun}
 ghost use Rattle.mark_incremental.specs.Ticks.{begun_cost, places_cost, after_next, IsMoved};
 
 use crate::looking::Walk;
-use crate::no_memory::NoMemory;
 use ctx_table::CtxTable;
+use graph_words::Steps;
 use grove_edits::{Edge, Vertex};
 use grove_sorts::place_at;
 use judging::{Given, OpenVertex, demand_at, fill, fresh, nothing};
 use mark_step::{Demand, Mode};
 use std::alloc::Global;
 use std::sync::ledger::Ledger;
+use text_parts::NoMemory;
 use type_core::TypeTable;
-use walks::Steps;
 
 /// A vertex of which some positions are judged, at the position that comes next.
 #[derive(Clone, Copy, Debug)]

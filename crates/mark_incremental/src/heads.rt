@@ -1,7 +1,7 @@
 ghost use Rattle.std.specs.Prelude.{◌≡◌, ◌+◌, ◌*◌, ◌≤◌, length, not, filter, IfOk};
 ghost use Rattle.std.specs.List.{AllByRecursion};
-ghost use Rattle.walks.specs.declared.class.Class.TheVariants.{Inner};
-ghost use Rattle.walks.specs.Class.{class};
+ghost use Rattle.graph_words.specs.declared.class.Class.TheVariants.{Inner};
+ghost use Rattle.graph_words.specs.Class.{class};
 ghost use Rattle.edge_index.specs.Lists.{live};
 ghost use Rattle.type_core.specs.TypeTable.{KeepsTypes};
 ghost use Rattle.ctx_table.specs.CtxTable.{KeepsContexts};
@@ -12,15 +12,15 @@ ghost use Rattle.mark_incremental.specs.Walking.{AreMadeOf, HasMadeTrees};
 ghost use Rattle.mark_incremental.specs.Ticks.{weight_of, AreTreesPaidFor};
 
 use crate::looking::{Walk, is_inner};
-use crate::no_memory::NoMemory;
 use ctx_table::CtxTable;
+use graph_words::Steps;
 use grove_edits::Vertex;
 use mark_store::{Record, VertexMap};
 use parent_index::ParentIndex;
 use std::alloc::Global;
 use std::sync::ledger::Ledger;
+use text_parts::NoMemory;
 use type_core::TypeTable;
-use walks::Steps;
 
 /// Those of some vertices that head trees. It ticks at most three times for each.
 pub(crate) fn heads_among<L: Ledger>(

@@ -10,7 +10,6 @@ mod given;
 mod heads;
 mod looking;
 mod marks;
-mod no_memory;
 mod passing;
 mod putting;
 mod raising;
@@ -24,4 +23,4 @@ mod way;
 
 pub use applying::{Applied, OldRecords, is_raised};
 pub use marks::Marks;
-pub use no_memory::NoMemory;
+pub use text_parts::NoMemory;

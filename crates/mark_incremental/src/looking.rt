@@ -2,8 +2,8 @@ ghost use Rattle.std.specs.Prelude.{◌≡◌, ◌+◌, ◌≤◌, ◌↔◌, Is
 ghost use Rattle.std.specs.List.{AllByRecursion};
 ghost use Rattle.std.proofs.Props.{props};
 ghost use Rattle.grove_edits.specs.Edge.{IsWellFormed};
-ghost use Rattle.walks.specs.declared.class.Class.TheVariants.{Inner};
-ghost use Rattle.walks.specs.Class.{class};
+ghost use Rattle.graph_words.specs.declared.class.Class.TheVariants.{Inner};
+ghost use Rattle.graph_words.specs.Class.{class};
 ghost use Rattle.edge_index.specs.Lists.{live};
 ghost use Rattle.mark_step.specs.Node.{IsDemandOf};
 ghost use Rattle.judging.specs.Frames.{IsGivenOf};
@@ -15,6 +15,7 @@ use crate::given::given_by;
 use crate::walks_up::holds;
 use child_index::ChildIndex;
 use ctx_table::CtxTable;
+use graph_words::{Few, ParentOf, Steps};
 use grove_edits::{Edge, Vertex};
 use grove_sorts::{Sort, sort_of};
 use judging::{Given, nothing};
@@ -23,7 +24,6 @@ use mark_store::{MarkStore, Record, VertexMap};
 use parent_index::ParentIndex;
 use std::sync::ledger::Ledger;
 use type_core::TypeTable;
-use walks::{Few, ParentOf, Steps};
 
 /// What a walk down reads: the graph, the roots of its cycles, the records that were kept, and the vertices that are judged again
 /// whatever is demanded of them.

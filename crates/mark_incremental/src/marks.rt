@@ -2,7 +2,6 @@ ghost use Rattle.std.specs.Prelude.{◌≡◌, IfOk};
 ghost use Rattle.edge_lattice.specs.declared.state.State.TheVariants.{Absent};
 ghost use Rattle.mark_incremental.specs.Standing.{StandFor, kept_in};
 
-use crate::no_memory::NoMemory;
 use ctx_table::CtxTable;
 use grove_edits::Vertex;
 use mark_step::Mark;
@@ -10,6 +9,7 @@ use mark_store::{MarkStore, Record, VertexMap};
 use seeded_hash::HashSeed;
 use std::alloc::Global;
 use std::marker::Model;
+use text_parts::NoMemory;
 use type_core::TypeTable;
 
 /// The marks of the vertices of a graph, kept from edit to edit. Contracts see the tables, the records and the roots of cycles.

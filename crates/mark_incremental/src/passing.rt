@@ -1,18 +1,18 @@
 ghost use Rattle.std.specs.Prelude.{◌≡◌, ◌+◌, ◌*◌, ◌≤◌, ◌||◌, length, IfOk, OnOk};
 ghost use Rattle.grove_edits.specs.declared.vertex.Vertex.{Vertex};
 ghost use Rattle.grove_edits.specs.Vertex.{is_same_vertex, stands_in};
-ghost use Rattle.walks.specs.Walk.{walk};
+ghost use Rattle.graph_words.specs.Walk.{walk};
 ghost use Rattle.mark_incremental.specs.Looking.{holds};
 ghost use Rattle.mark_incremental.specs.Passing.{AreWalks, HoldsThese};
 
-use crate::no_memory::NoMemory;
 use crate::walks_up::{WalkUp, enter, holds, walk_up};
+use graph_words::{ParentOf, Steps};
 use grove_edits::{Edge, Vertex};
 use mark_store::VertexMap;
 use seeded_hash::HashSeed;
 use std::alloc::Global;
 use std::sync::ledger::Ledger;
-use walks::{ParentOf, Steps};
+use text_parts::NoMemory;
 
 /// The walks up from both ends of an edge.
 #[derive(Drop)]

@@ -6,10 +6,10 @@ ghost use Rattle.mark_store.specs.Places.{value_at, HasRoom, KeepsRoom};
 ghost use Rattle.mark_incremental.specs.Standing.{put_in};
 ghost use Rattle.mark_incremental.specs.Applying.{put_back_in};
 
-use crate::no_memory::NoMemory;
 use grove_edits::Vertex;
 use mark_store::{MarkStore, Record};
 use std::alloc::Global;
+use text_parts::NoMemory;
 
 /// The records that the vertices of some new ones have, if they have one.
 pub(crate) fn old_records(

@@ -3,10 +3,10 @@ ghost use Rattle.edge_lattice.specs.declared.state.State.TheVariants.{Absent, Li
 ghost use Rattle.grove_edits.specs.declared.edit.EditKind.TheVariants.{Insert, Delete};
 ghost use Rattle.grove_edits.specs.Edit.{edit_edge, edit_kind};
 ghost use Rattle.grove_edits.specs.Graph.{IsSame};
-ghost use Rattle.walks.specs.Live.{holds_edge};
-ghost use Rattle.walks.specs.States.{Entries, state_in, KeepsRoom};
+ghost use Rattle.graph_words.specs.Live.{holds_edge};
+ghost use Rattle.graph_words.specs.States.{Entries, state_in, KeepsRoom};
 ghost use Rattle.edge_index.specs.Lists.{live};
-ghost use Rattle.walks.specs.Ordered.{with_edge, without_edge};
+ghost use Rattle.graph_words.specs.Ordered.{with_edge, without_edge};
 ghost use Rattle.child_index.specs.Origin.{room_at_origin};
 ghost use Rattle.parent_index.specs.Target.{room_at_vertex};
 ghost use Rattle.mark_incremental.specs.Raising.{AreIndexed, HaveRoom, CanPutBack, MovesRoom, WasRaised, followed, unfollowed, brought, brought_by, taken, taken_by};

@@ -2,8 +2,8 @@ ghost use Rattle.std.specs.Prelude.{◌≡◌, ℕ, ◌+◌, ◌*◌, ◌≤◌,
 ghost use Rattle.grove_sorts.specs.Ctor.{positions};
 ghost use Rattle.grove_edits.specs.declared.vertex.Vertex.{Vertex};
 ghost use Rattle.grove_edits.specs.declared.edge.Edge.{Edge};
-ghost use Rattle.walks.specs.declared.class.Class.TheVariants.{Inner};
-ghost use Rattle.walks.specs.Class.{class};
+ghost use Rattle.graph_words.specs.declared.class.Class.TheVariants.{Inner};
+ghost use Rattle.graph_words.specs.Class.{class};
 ghost use Rattle.edge_index.specs.Lists.{live};
 ghost use Rattle.type_core.specs.TypeTable.{KeepsTypes};
 ghost use Rattle.ctx_table.specs.Context.{Context};
@@ -20,9 +20,9 @@ ghost use Rattle.mark_incremental.specs.Ticks.{weight_of, AreCounted, AreMoved, 
 
 use crate::frame::{Frame, accept};
 use crate::looking::Walk;
-use crate::no_memory::NoMemory;
 use crate::settling::settle;
 use ctx_table::CtxTable;
+use graph_words::Steps;
 use grove_edits::{Edge, Vertex};
 use grove_sorts::position_count;
 use judging::{Given, demand_next};
@@ -30,8 +30,8 @@ use mark_step::Demand;
 use mark_store::Record;
 use std::alloc::Global;
 use std::sync::ledger::Ledger;
+use text_parts::NoMemory;
 use type_core::TypeTable;
-use walks::Steps;
 
 // Gives something to the innermost vertex, if there is one: its first child that is left has given it.
 fn hand_on<'t>(

@@ -7,11 +7,11 @@ ghost use Rattle.grove_edits.specs.Edge.{IsWellFormed};
 ghost use Rattle.grove_edits.specs.Edit.{edit_edge};
 ghost use Rattle.grove_edits.specs.Graph.{graph};
 ghost use Rattle.grove_edits.specs.Vertex.{is_same_vertex};
-ghost use Rattle.walks.specs.Walk.{walk};
-ghost use Rattle.walks.specs.Class.{is_cycle_root};
-ghost use Rattle.walks.specs.Whole.{AreLive};
+ghost use Rattle.graph_words.specs.Walk.{walk};
+ghost use Rattle.graph_words.specs.Class.{is_cycle_root};
+ghost use Rattle.graph_words.specs.Whole.{AreLive};
 ghost use Rattle.edge_index.specs.Lists.{live};
-ghost use Rattle.walks.specs.States.{state_in};
+ghost use Rattle.graph_words.specs.States.{state_in};
 ghost use Rattle.type_core.specs.TypeTable.{KeepsTypes};
 ghost use Rattle.ctx_table.specs.CtxTable.{KeepsContexts};
 ghost use Rattle.kept_records.specs.Kept.{AreKept};
@@ -32,19 +32,19 @@ use crate::applying::OldRecords;
 use crate::heads::heads_among;
 use crate::looking::Walk;
 use crate::marks::Marks;
-use crate::no_memory::NoMemory;
 use crate::passing::{Ends, passed_by, passed_with, walk_from_ends};
 use crate::putting::{make_room, old_records, put};
 use crate::rooting::{changed_root, set_root};
 use crate::walks_up::WalkUp;
 use child_index::ChildIndex;
 use graph_store::GraphStore;
+use graph_words::Steps;
 use grove_edits::{Edge, Vertex};
 use kept_records::whole_trees_renew_the_records;
 use mark_store::{Record, VertexMap};
 use parent_index::ParentIndex;
 use std::sync::ledger::Ledger;
-use walks::Steps;
+use text_parts::NoMemory;
 
 impl Marks {
     // The records that walks down make of the trees of some vertices: of all that stands in them, or where vertices of a set stand. It

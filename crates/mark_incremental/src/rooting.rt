@@ -7,9 +7,9 @@ ghost use Rattle.mark_incremental.specs.Looking.{holds};
 ghost use Rattle.mark_incremental.specs.Rooting.{IsLeastOf, IsChangedRoot};
 
 use crate::passing::Ends;
+use graph_words::lesser;
 use grove_edits::Vertex;
 use mark_store::VertexMap;
-use walks::lesser;
 
 // The least of a vertex and some others.
 fn least_of(first: &Vertex, others: &[Vertex]) -> Vertex

@@ -10,13 +10,13 @@ ghost use Rattle.judging.specs.Frames.{given_at, opened_at, IsOpenOf, IsGivenOf}
 ghost use Rattle.mark_incremental.specs.Walking.{IsSettled};
 
 use crate::frame::Frame;
-use crate::no_memory::NoMemory;
 use ctx_table::{CtxId, CtxTable};
 use grove_edits::Vertex;
 use grove_sorts::{Ctor, Sort, sort_of};
 use judging::{Given, close};
 use mark_store::Record;
 use std::alloc::Global;
+use text_parts::NoMemory;
 use type_core::TypeTable;
 
 // The context that is kept of a vertex: that in which an expression is judged, and else the empty one.

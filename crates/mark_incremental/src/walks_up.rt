@@ -1,17 +1,17 @@
 ghost use Rattle.std.specs.Prelude.{◌≡◌, ◌+◌, ◌*◌, ◌≤◌, ◌||◌, ◌++◌, ◌∷◌, [], length, Some, None, IfOk, OnOk};
 ghost use Rattle.grove_edits.specs.declared.vertex.Vertex.{Vertex};
 ghost use Rattle.grove_edits.specs.Vertex.{is_same_vertex};
-ghost use Rattle.walks.specs.Walk.{walk};
-ghost use Rattle.walks.specs.Cycle.{is_on_cycle};
+ghost use Rattle.graph_words.specs.Walk.{walk};
+ghost use Rattle.graph_words.specs.Cycle.{is_on_cycle};
 ghost use Rattle.mark_incremental.specs.Looking.{holds};
 
-use crate::no_memory::NoMemory;
+use graph_words::{ParentOf, Steps, vertex_above};
 use grove_edits::{Vertex, is_same_vertex};
 use mark_store::VertexMap;
 use seeded_hash::HashSeed;
 use std::alloc::Global;
 use std::sync::ledger::Ledger;
-use walks::{ParentOf, Steps, vertex_above};
+use text_parts::NoMemory;
 
 /// The vertices on the walk up from a vertex.
 #[derive(Drop)]

@@ -6,15 +6,15 @@ ghost use Rattle.kept_records.specs.Short.{LeadsUp};
 ghost use Rattle.mark_incremental.specs.Looking.{holds, AreRoots};
 ghost use Rattle.mark_incremental.specs.ShortWalks.{IsAboveInner};
 
-use crate::no_memory::NoMemory;
 use crate::walks_up::{enter, holds};
+use graph_words::{Few, ParentOf, Steps};
 use grove_edits::Vertex;
 use mark_store::VertexMap;
 use parent_index::ParentIndex;
 use seeded_hash::HashSeed;
 use std::alloc::Global;
 use std::sync::ledger::Ledger;
-use walks::{Few, ParentOf, Steps};
+use text_parts::NoMemory;
 
 /// The way up from a vertex in its tree.
 #[derive(Drop)]

@@ -3,11 +3,10 @@
 #![tactic(auto)]
 
 mod marking_trees;
-mod no_memory;
 mod open_frames;
 mod taking;
 
 pub use marking::{MarkedNode, MarkedTree};
 pub use marking_trees::mark_tree;
-pub use no_memory::NoMemory;
 pub use open_frames::OpenFrames;
+pub use text_parts::NoMemory;

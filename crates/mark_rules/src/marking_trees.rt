@@ -6,13 +6,13 @@ ghost use Rattle.marking.specs.Reading.{meant_nodes};
 ghost use Rattle.marking.specs.Numbers.{AreMarkedNodesOf};
 ghost use Rattle.grove_terms.specs.Sorted.{IsSortedTree};
 
-use crate::no_memory::NoMemory;
 use crate::open_frames::OpenFrames;
 use crate::taking::{Walk, take};
 use ctx_table::CtxTable;
 use grove_terms::Tree;
 use marking::MarkedTree;
 use std::alloc::Global;
+use text_parts::NoMemory;
 use type_core::TypeTable;
 
 /// The nodes of a well-sorted tree with what marking adds to them. The numbers of both tables keep their meaning, also where memory

@@ -18,7 +18,6 @@ ghost use Rattle.judging.specs.Machine.{opened, taken, step};
 ghost use Rattle.judging.specs.Frames.{given_at, frames_at, filled_with, IsGivenOf};
 ghost use Rattle.mark_rules.specs.Walking.{state_at, given_on, added_by, IsWalkOf};
 
-use crate::no_memory::NoMemory;
 use ctx_table::CtxTable;
 use edit_table::LentCtor;
 use grove_sorts::{Ctor, Sort, position_count};
@@ -29,6 +28,7 @@ use judging::{
 use mark_step::{Demand, Mark, Mode};
 use marking::Added;
 use std::alloc::Global;
+use text_parts::NoMemory;
 use type_core::TypeTable;
 
 /// A tree of which some nodes are marked.

@@ -1,4 +1,5 @@
 -- Expressions as the rules of marking see them, and what the rules say of them.
+-- The promise of the commands rests on these definitions.
 use Rattle.std.specs.Prelude.{Bool, true, false, Option}
 use Rattle.grove_sorts.specs.declared.ctor.Ctor.{Ctor}
 use Rattle.grove_sorts.specs.declared.ident.Ident.{Ident}

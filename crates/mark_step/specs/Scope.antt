@@ -1,4 +1,5 @@
 -- Scopes: identifiers with their types, innermost first.
+-- The promise of the commands rests on these definitions.
 use Rattle.std.specs.Prelude.{List, [], ◌∷◌, map, All, Option, None, Some, if◌then◌else◌}
 use Rattle.grove_sorts.specs.declared.ident.Ident.{Ident}
 use Rattle.type_core.specs.Typ.{Typ}

@@ -1,5 +1,6 @@
 -- The rules of marking as functions: what is demanded of the next child of an expression, and which type and mark the expression gets
 -- once its children have types.
+-- The promise of the commands rests on these definitions.
 use Rattle.std.specs.Prelude.{ℕ, Bool, true, false, List, [], ◌∷◌, Option, None, Some, unwrap_or, if◌then◌else◌}
 use Rattle.std.specs.Option.{option_map}
 use Rattle.std.specs.List.{slice_index_or}

@@ -10,11 +10,11 @@ ghost use Rattle.mark_step.specs.Scope.{bind, scope_at};
 ghost use Rattle.mark_step.specs.Step.{demand, parts_or_unknown, wanted_next, wanted_of_body, wanted_in_application, wanted_in_conditional, wanted_in_pair, wanted_of_rest, wanted_on_left, wanted_on_right, scope_next, scope_in_let, scope_in_case};
 ghost use Rattle.mark_step.specs.Node.{wanted_at, bound_at, IsScopeOf, expression_at, demanded_at, IsModeOf, AreNumbers, IsNodeOf, IsDemandOf, sort_at_index, AreDoneBefore, types_before};
 
-use crate::no_memory::NoMemory;
 use crate::node::{Demand, Mode, NodeView};
 use ctx_table::{CtxId, CtxTable};
 use grove_sorts::{Ctor, Ident};
 use std::alloc::Global;
+use text_parts::NoMemory;
 use type_core::{TypeId, TypeTable};
 
 /// How the child at a position is judged, once all expressions at earlier positions have types. The numbers of both tables keep their

@@ -5,7 +5,6 @@
 
 mod children;
 mod laws;
-mod no_memory;
 mod node;
 mod settling;
 
@@ -14,6 +13,6 @@ pub use laws::{
     children_are_done_in_table_order, each_expression_follows_one_row, each_node_follows_its_row,
     look_ups_are_innermost, no_expression_has_two_marks, numbers_keep_their_meaning,
 };
-pub use no_memory::NoMemory;
 pub use node::{Binder, Demand, Mark, Mode, NodeView, Settled};
 pub use settling::{settle, settle_literal};
+pub use text_parts::NoMemory;

@@ -11,11 +11,11 @@ ghost use Rattle.mark_step.specs.Expression.{Bound};
 ghost use Rattle.mark_step.specs.Step.{settled, analysed, synthesised, or_mark, function_mark, unless_matched, case_result, mark_against};
 ghost use Rattle.mark_step.specs.Node.{wanted_at, bound_at, expression_at, marked_at, IsModeOf, IsScopeOf, IsNodeOf, AreDone, types_done};
 
-use crate::no_memory::NoMemory;
 use crate::node::{Mark, Mode, NodeView, Settled};
 use ctx_table::{CtxId, CtxTable};
 use grove_sorts::{Ctor, Ident};
 use std::alloc::Global;
+use text_parts::NoMemory;
 use type_core::{TypeId, TypeTable};
 
 /// The type and the mark of a node whose children that are expressions all have types. The numbers of the table of types keep their

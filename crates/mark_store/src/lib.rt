@@ -4,11 +4,10 @@
 #![tactic(auto)]
 
 mod mark_store;
-mod no_memory;
 mod record;
 mod vertex_map;
 
 pub use mark_store::MarkStore;
-pub use no_memory::NoMemory;
 pub use record::Record;
+pub use text_parts::NoMemory;
 pub use vertex_map::VertexMap;

@@ -4,13 +4,13 @@ ghost use Rattle.grove_edits.specs.declared.vertex.Vertex.{Vertex};
 ghost use Rattle.grove_edits.specs.Vertex.{is_same_vertex};
 ghost use Rattle.mark_store.specs.Places.{place_at, value_at, HasRoom, KeepsRoom};
 
-use crate::no_memory::NoMemory;
 use crate::record::Record;
 use crate::vertex_map::VertexMap;
 use grove_edits::Vertex;
 use seeded_hash::HashSeed;
 use std::alloc::Global;
 use std::marker::Model;
+use text_parts::NoMemory;
 
 /// The records of vertices.
 #[derive(Drop)]

@@ -5,12 +5,12 @@ ghost use Rattle.grove_edits.specs.declared.vertex.Vertex.{Vertex};
 ghost use Rattle.grove_edits.specs.Vertex.{is_same_vertex};
 ghost use Rattle.mark_store.specs.Places.{place_at, value_at, HasRoom, KeepsRoom};
 
-use crate::no_memory::NoMemory;
 use grove_edits::Vertex;
 use indexmap::IndexMap;
 use seeded_hash::HashSeed;
 use std::alloc::Global;
 use std::marker::Model;
+use text_parts::NoMemory;
 
 /// A map by vertex in which a value is put without memory wherever the vertex has room.
 #[derive(Drop)]

@@ -1,5 +1,5 @@
 ghost use Rattle.std.specs.Prelude.{◌≡◌, ◌<◌, IfOk};
-ghost use Rattle.walks.specs.States.{state_in};
+ghost use Rattle.graph_words.specs.States.{state_in};
 ghost use Rattle.mark_incremental.specs.Raising.{AreIndexed};
 ghost use Rattle.mark_incremental.specs.Standing.{StandFor};
 ghost use Rattle.mark_incremental.specs.Applying.{CanTakeBack};
@@ -7,6 +7,7 @@ ghost use Rattle.mark_incremental.specs.Applying.{CanTakeBack};
 use child_index::ChildIndex;
 use edit_text::read_line;
 use graph_store::GraphStore;
+use graph_words::Steps;
 use grove_edits::Edit;
 use grove_sorts::Version;
 use mark_incremental::*;
@@ -17,7 +18,6 @@ use std::marker::Brand;
 use std::sync::ledger::{Blank, Ledger};
 use std::test::Fail;
 use type_core::{TypeId, TypeTable};
-use walks::Steps;
 
 // A graph with its indexes and its marks. What has one drops it by a call, so that the parts are let go in one place.
 #[derive(Drop)]

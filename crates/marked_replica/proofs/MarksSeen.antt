@@ -2,8 +2,8 @@
 use Rattle.std.proofs.Common.{◌≡◌, List, [], sym, ap, subst}
 use Rattle.grove_edits.specs.declared.edge.Edge.{Edge}
 use Rattle.grove_edits.specs.Graph.{graph}
-use Rattle.walks.specs.Whole.{AreLive}
-use Rattle.walks.specs.States.{Entries, state_in}
+use Rattle.graph_words.specs.Whole.{AreLive}
+use Rattle.graph_words.specs.States.{Entries, state_in}
 use Rattle.edge_index.specs.Lists.{live}
 use Rattle.mark_incremental.specs.Standing.{KeptMarks, StandFor}
 use Rattle.marked_replica.specs.declared.indexed_graph.IndexedGraph.{IndexedGraph}

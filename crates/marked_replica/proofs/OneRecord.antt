@@ -4,7 +4,7 @@ use Rattle.grove_edits.specs.declared.vertex.Vertex.{Vertex}
 use Rattle.grove_edits.specs.declared.edge.Edge.{Edge}
 use Rattle.grove_edits.specs.declared.edit.Edit.{Edit}
 use Rattle.grove_edits.specs.Graph.{Graph, graph, IsSame, HasSameEdits}
-use Rattle.walks.specs.Whole.{AreLive}
+use Rattle.graph_words.specs.Whole.{AreLive}
 use Rattle.grove_terms.proofs.OneGrove.{one_live}
 use Rattle.kept_records.specs.Kept.{AreKept}
 use Rattle.kept_records.proofs.Edited.{one_record}

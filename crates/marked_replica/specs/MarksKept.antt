@@ -1,7 +1,7 @@
 -- How a replica with marks is kept.
 use Rattle.std.specs.Prelude.{List}
 use Rattle.grove_edits.specs.declared.edge.Edge.{Edge}
-use Rattle.walks.specs.States.{state_in}
+use Rattle.graph_words.specs.States.{state_in}
 use Rattle.mark_incremental.specs.Raising.{AreIndexed}
 use Rattle.mark_incremental.specs.Standing.{KeptMarks, StandFor}
 use Rattle.marked_replica.specs.declared.indexed_graph.IndexedGraph.{IndexedGraph}

@@ -4,7 +4,7 @@ ghost use Rattle.grove_edits.specs.declared.edge.Edge.{Edge};
 ghost use Rattle.grove_edits.specs.declared.edit.Edit.{Edit};
 ghost use Rattle.grove_edits.specs.Edit.{edit_edge};
 ghost use Rattle.grove_edits.specs.Graph.{graph, graph_join, HasSameEdits};
-ghost use Rattle.walks.specs.Whole.{AreLive};
+ghost use Rattle.graph_words.specs.Whole.{AreLive};
 ghost use Rattle.kept_records.specs.Kept.{AreKept};
 ghost use Rattle.kept_records.specs.Size.{IsSize};
 ghost use Rattle.mark_incremental.specs.Standing.{KeptMarks, StandFor, records_in};

@@ -6,8 +6,7 @@ mod indexed_graph;
 mod laws;
 mod machine;
 mod marked;
-mod no_memory;
 
 pub use laws::{an_edit_costs_by_its_size, what_is_kept_follows_from_the_edits};
 pub use marked::MarkedReplica;
-pub use no_memory::NoMemory;
+pub use text_parts::NoMemory;

@@ -1,10 +1,10 @@
 use crate::marked::MarkedReplica;
+use graph_words::Steps;
 use grove_edits::{Actor, Answer, Command, EditList};
 use replica_core::due;
 use shared_replica::Machine;
 use std::alloc::Global;
 use std::sync::ledger::Ledger;
-use walks::Steps;
 
 impl Machine for MarkedReplica {
     type Command = Command;

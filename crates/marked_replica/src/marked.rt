@@ -2,7 +2,7 @@ ghost use Rattle.std.specs.Prelude.{◌≡◌, ◌+◌, ◌<◌, ◌≤◌, ℕ,
 ghost use Rattle.grove_edits.specs.declared.act_fault.ActFault.{ActFault};
 ghost use Rattle.grove_edits.specs.declared.answer.Answer.{Answer};
 ghost use Rattle.grove_edits.specs.Graph.{graph, IsCanonical};
-ghost use Rattle.walks.specs.States.{state_in};
+ghost use Rattle.graph_words.specs.States.{state_in};
 ghost use Rattle.edge_index.specs.Lists.{live};
 ghost use Rattle.user_actions.specs.Plan.{IsPlan};
 ghost use Rattle.grove_answers.specs.Texts.{IsPrintText, IsCanonicalText};
@@ -14,8 +14,8 @@ ghost use Rattle.replica_core.specs.Step.{plan_of};
 ghost use Rattle.marked_replica.specs.MarkingCost.{edit_marking_cost, edits_marking_cost};
 
 use crate::indexed_graph::IndexedGraph;
-use crate::no_memory::NoMemory;
 use ctx_table::CtxTable;
+use graph_words::Steps;
 use grove_answers::append_canonical_text;
 use grove_edits::{Action, Answer, Edit, EditList, Vertex};
 use mark_incremental::Marks;
@@ -26,8 +26,8 @@ use std::alloc::Global;
 use std::marker::Model;
 use std::sync::ledger::Ledger;
 use store_actions::{OpeningSet, View};
+use text_parts::NoMemory;
 use type_core::TypeTable;
-use walks::Steps;
 
 /// A live replica with the marks of its graph, kept from edit to edit, for an editor that shows them as it goes. Contracts see it as the
 /// content of its replica. The marks follow from that: after each call, also one that found no memory, they stand for its graph, and

@@ -6,7 +6,6 @@ mod added;
 mod laws;
 mod marked_node;
 mod marked_tree;
-mod no_memory;
 
 pub use added::Added;
 pub use laws::{
@@ -15,4 +14,4 @@ pub use laws::{
 };
 pub use marked_node::MarkedNode;
 pub use marked_tree::MarkedTree;
-pub use no_memory::NoMemory;
+pub use text_parts::NoMemory;

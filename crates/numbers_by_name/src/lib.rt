@@ -4,11 +4,10 @@
 
 mod guesses;
 mod lists;
-mod no_memory;
 mod numbers_by_name;
 mod on_page;
 mod page;
 mod pages;
 
-pub use no_memory::NoMemory;
 pub use numbers_by_name::NumbersByName;
+pub use text_parts::NoMemory;

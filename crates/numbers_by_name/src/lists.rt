@@ -1,11 +1,11 @@
 ghost use Rattle.std.specs.Prelude.{◌≡◌, ◌++◌, ◌∷◌, [], OnOk, OnErr};
 ghost use Rattle.numbers_by_name.specs.Pages.{at_name, items_of, IsPut};
 
-use crate::no_memory::NoMemory;
 use grove_names::Name;
 use smallvec::SmallVec;
 use std::alloc::Global;
 use std::collections::BTreeMap;
+use text_parts::NoMemory;
 
 /// The numbers of the names that have several.
 pub(crate) type Lists = BTreeMap<Name, SmallVec<u32, 4>>;

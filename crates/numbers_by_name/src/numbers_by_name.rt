@@ -3,11 +3,11 @@ ghost use Rattle.std.specs.Option.{option_map};
 ghost use Rattle.grove_names.specs.declared.name.Name.{Name};
 ghost use Rattle.numbers_by_name.specs.ByName.{all_numbers, numbers_of, name_by, with_number, IsLastBefore, HasNoneBefore};
 
-use crate::no_memory::NoMemory;
 use crate::pages::Pages;
 use grove_names::Name;
 use std::alloc::Global;
 use std::marker::Model;
+use text_parts::NoMemory;
 
 /// Numbers, each under a name. The greatest name comes first, and the numbers of a name stand in the order in which they were added.
 #[derive(Drop)]

@@ -4,10 +4,10 @@ ghost use Rattle.numbers_by_name.specs.ByName.{all_numbers};
 ghost use Rattle.numbers_by_name.specs.Pages.{page_of, place_of, page_numbers, entry_at, entry_numbers, items_of, at_name, names_on};
 
 use crate::lists::Lists;
-use crate::no_memory::NoMemory;
 use crate::page::{Entry, PAGE_SIZE, Page};
 use grove_names::Name;
 use std::slice;
+use text_parts::NoMemory;
 
 /// The page on which a name stands.
 pub(crate) fn page_of(name: Name) -> Name

@@ -5,13 +5,13 @@ ghost use Rattle.numbers_by_name.specs.Pages.{page_of, at_name, numbers_in, list
 
 use crate::guesses::Guesses;
 use crate::lists::{Lists, add_to_list, put_two};
-use crate::no_memory::NoMemory;
 use crate::on_page::{append_page, index_of, numbers_on, page_of, place_of, places_used};
 use crate::page::{Entry, PAGE_SIZE, Page};
 use grove_names::Name;
 use std::alloc::Global;
 use std::collections::BTreeMap;
 use std::ops::Bound;
+use text_parts::NoMemory;
 
 // By which part of its length the list of pages grows.
 const GROWTH: usize = 8;

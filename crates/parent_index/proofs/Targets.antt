@@ -8,7 +8,7 @@ use Rattle.std.proofs.lemmas.List.Sums.{length-filter}
 use Rattle.grove_edits.specs.declared.vertex.Vertex.{Vertex}
 use Rattle.grove_edits.specs.declared.edge.Edge.{Edge}
 use Rattle.grove_edits.proofs.Orders.{cmp_is_vertex_cmp}
-use Rattle.walks.specs.Live.{parents_of, targets_of}
+use Rattle.graph_words.specs.Live.{parents_of, targets_of}
 use Rattle.grove_edits.specs.Vertex.{is_same_vertex, stands_in}
 use Rattle.edge_index.specs.Lists.{Indexed, room_at, with_key, stands_among, keys_of_edges}
 use Rattle.parent_index.specs.declared.target.Target.{Target}

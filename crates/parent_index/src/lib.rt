@@ -2,10 +2,9 @@
 //! all edges that it holds, in edge order. What walks up a graph stands on it.
 #![tactic(auto)]
 
-mod no_memory;
 mod parent_index;
 mod target;
 
-pub use no_memory::NoMemory;
 pub use parent_index::ParentIndex;
 pub use target::Target;
+pub use text_parts::NoMemory;

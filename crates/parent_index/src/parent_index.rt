@@ -1,20 +1,20 @@
 ghost use Rattle.std.specs.Prelude.{◌≡◌, ◌+◌, ◌<◌, ◌≤◌, [], true, false, if◌then◌else◌, count_by, length, OnOk};
 ghost use Rattle.grove_edits.specs.declared.vertex.Vertex.{Vertex};
-ghost use Rattle.walks.specs.Live.{IsInEdgeOrder, parents_of, holds_edge};
+ghost use Rattle.graph_words.specs.Live.{IsInEdgeOrder, parents_of, holds_edge};
 ghost use Rattle.grove_edits.specs.Vertex.{is_same_vertex};
-ghost use Rattle.walks.specs.Ordered.{with_edge, without_edge};
+ghost use Rattle.graph_words.specs.Ordered.{with_edge, without_edge};
 ghost use Rattle.edge_index.specs.Lists.{live};
 ghost use Rattle.parent_index.specs.Target.{room_at_vertex};
 
-use crate::no_memory::NoMemory;
 use crate::target::Target;
 use edge_index::EdgeIndex;
+use graph_words::{Few, ParentOf, Steps};
 use grove_edits::{Edge, Vertex};
 use seeded_hash::HashSeed;
 use std::alloc::Global;
 use std::marker::Model;
 use std::sync::ledger::Ledger;
-use walks::{Few, ParentOf, Steps};
+use text_parts::NoMemory;
 
 /// Live edges by their target.
 #[derive(Drop)]

@@ -4,11 +4,11 @@ ghost use Rattle.ctx_table.specs.CtxTable.{KeepsContexts};
 ghost use Rattle.grove_terms.specs.Sorted.{IsSortedTree};
 ghost use Rattle.plain_typing.specs.Typed.{IsTypedTree};
 
-use crate::no_memory::NoMemory;
 use crate::walking::{Walk, take};
 use ctx_table::CtxTable;
 use grove_terms::Tree;
 use std::alloc::Global;
+use text_parts::NoMemory;
 use type_core::TypeTable;
 
 /// Whether a well-sorted tree is typed. The numbers of both tables keep their meaning, also where memory runs out.

@@ -3,9 +3,8 @@
 
 mod checking;
 mod laws;
-mod no_memory;
 mod walking;
 
 pub use checking::is_typed;
 pub use laws::{a_type_is_the_one_of_the_marking, typed_trees_have_no_marks};
-pub use no_memory::NoMemory;
+pub use text_parts::NoMemory;

@@ -13,7 +13,6 @@ ghost use Rattle.judging.specs.Machine.{State, deliver, opened, taken, step};
 ghost use Rattle.judging.specs.Frames.{given_at, opened_at, left_of, frame_at, frames_at, frames_in, IsGivenOf, IsOpenOf, IsFrameOf, AreFramesOf};
 ghost use Rattle.plain_typing.specs.Walking.{IsUnmarkedAt, AreUnsettled, IsNoted, StandsFor};
 
-use crate::no_memory::NoMemory;
 use ctx_table::CtxTable;
 use edit_table::LentCtor;
 use grove_sorts::{Ctor, position_count};
@@ -21,6 +20,7 @@ use grove_terms::{LentNode, LentWhat};
 use judging::{Frame, Given, OpenVertex, close, close_literal, demand_next, fill, fresh, nothing};
 use mark_step::{Demand, Mode};
 use std::alloc::Global;
+use text_parts::NoMemory;
 use type_core::TypeTable;
 
 /// A tree of which some nodes are judged: what is open, innermost last, and whether a vertex that is closed has a mark.

@@ -10,8 +10,8 @@ use Rattle.grove_edits.specs.Edit.{edit_edge}
 use Rattle.grove_edits.specs.Graph.{graph, graph_join, IsSame, Ascends, IsCanonical}
 use Rattle.grove_edits.proofs.Graphs.{unnamed}
 use Rattle.grove_edits.proofs.Unique.{canonical_once}
-use Rattle.walks.specs.Live.{IsInEdgeOrder, holds_edge}
-use Rattle.walks.specs.States.{Entries, state_in, well_formed}
+use Rattle.graph_words.specs.Live.{IsInEdgeOrder, holds_edge}
+use Rattle.graph_words.specs.States.{Entries, state_in, well_formed}
 use Rattle.live_graph.specs.NumberOf.{KeepsNumbersOf}
 use Rattle.user_actions.specs.Flags.{opening_edges, present_flags}
 use Rattle.user_actions.proofs.FlaggedEdges.{opening_stays, no_fewer, length-present_flags, opening_present}

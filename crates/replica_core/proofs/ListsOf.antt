@@ -21,14 +21,14 @@ use Rattle.grove_edits.specs.Edit.{edit_edge, edit_kind}
 use Rattle.grove_edits.specs.Graph.{graph, state_of, is_same_edge, Ascends}
 use Rattle.grove_edits.proofs.Orders.{one_edge}
 use Rattle.grove_edits.proofs.Unique.{absent_before}
-use Rattle.walks.specs.Live.{holds_edge}
-use Rattle.walks.specs.Whole.{AreLive, AreVertices}
+use Rattle.graph_words.specs.Live.{holds_edge}
+use Rattle.graph_words.specs.Whole.{AreLive, AreVertices}
 use Rattle.grove_terms.proofs.InOrder.{put, put_by}
 use Rattle.grove_terms.proofs.OneGrove.{ends_of, vertices_from}
 use Rattle.user_actions.specs.Lists.{AreListsOf, ArePresent}
-use Rattle.walks.specs.States.{is_live}
+use Rattle.graph_words.specs.States.{is_live}
 use Rattle.user_actions.proofs.Openings.{edges_in_order, canonical_present}
-use Rattle.walks.proofs.Truths.{live_from_test}
+use Rattle.graph_words.proofs.Truths.{live_from_test}
 use Rattle.replica_core.specs.Lists.{is_insert, is_insertion, vertices_of, lists_of}
 use Rattle.replica_core.proofs.WithEdits.{canonical_itself}
 

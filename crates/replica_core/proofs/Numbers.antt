@@ -7,7 +7,7 @@ use Rattle.grove_edits.specs.declared.edit.Edit.{Edit}
 use Rattle.grove_edits.specs.Edit.{edit_edge}
 use Rattle.grove_edits.specs.Graph.{Graph, graph, graph_join, IsSame}
 use Rattle.grove_edits.proofs.Graphs.{graph-append}
-use Rattle.walks.specs.States.{Entries}
+use Rattle.graph_words.specs.States.{Entries}
 use Rattle.live_graph.specs.NumberOf.{IsNumberOf, KeepsNumbersOf}
 use Rattle.replica_core.specs.declared.taking.News.{News}
 use Rattle.replica_core.specs.Taking.{AreNumbered, edits_of}

@@ -5,9 +5,9 @@ use Rattle.grove_edits.specs.declared.edit.Edit.{Edit}
 use Rattle.grove_edits.specs.declared.action.Action.{Action}
 use Rattle.grove_edits.specs.declared.answer.Answer.{Answer}
 use Rattle.grove_edits.specs.Graph.{Graph, graph}
-use Rattle.walks.specs.Live.{holds_edge}
-use Rattle.walks.specs.Whole.{AreLive}
-use Rattle.walks.specs.States.{Entries, state_in}
+use Rattle.graph_words.specs.Live.{holds_edge}
+use Rattle.graph_words.specs.Whole.{AreLive}
+use Rattle.graph_words.specs.States.{Entries, state_in}
 use Rattle.user_actions.specs.Good.{AreWellFormed, AreOpening}
 use Rattle.user_actions.specs.Plan.{IsPlan}
 use Rattle.user_actions.proofs.OnePlan.{plan_along}

@@ -15,8 +15,8 @@ use Rattle.grove_edits.specs.Graph.{Graph, graph, state_of, is_same_edge, IsSame
 use Rattle.grove_edits.proofs.Graphs.{asked}
 use Rattle.grove_edits.proofs.Orders.{one_edge}
 use Rattle.grove_edits.proofs.Unique.{canonical_once}
-use Rattle.walks.specs.Live.{holds_edge}
-use Rattle.walks.specs.States.{Entries, state_in}
+use Rattle.graph_words.specs.Live.{holds_edge}
+use Rattle.graph_words.specs.States.{Entries, state_in}
 use Rattle.user_actions.proofs.SomeLists.{entries_have}
 use Rattle.user_actions.proofs.SomePlan.{edits_well_formed, edits_in_range}
 use Rattle.replica_core.specs.Plain.{edit_of}

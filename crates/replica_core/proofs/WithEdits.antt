@@ -17,9 +17,9 @@ use Rattle.grove_edits.specs.Edit.{edit_edge, edit_kind}
 use Rattle.grove_edits.specs.Graph.{Graph, graph, graph_join, state_of, is_same_edge, Ascends, IsCanonical}
 use Rattle.grove_edits.proofs.Graphs.{asked}
 use Rattle.grove_edits.proofs.Orders.{edge_cmp_exact}
-use Rattle.walks.specs.Live.{IsInEdgeOrder}
-use Rattle.walks.specs.Ordered.{put_before, with_edge}
-use Rattle.walks.proofs.Ordered.{in_order-with_edge}
+use Rattle.graph_words.specs.Live.{IsInEdgeOrder}
+use Rattle.graph_words.specs.Ordered.{put_before, with_edge}
+use Rattle.graph_words.proofs.Ordered.{in_order-with_edge}
 use Rattle.user_actions.proofs.Openings.{edges_in_order}
 use Rattle.replica_core.specs.Canonical.{unless_deletion, greater, with_edit, with_edits}
 

@@ -2,8 +2,8 @@
 use Rattle.std.specs.Prelude.{◌≤◌, Bool, List, length}
 use Rattle.grove_edits.specs.declared.edge.Edge.{Edge}
 use Rattle.grove_edits.specs.Graph.{graph, IsSame}
-use Rattle.walks.specs.Live.{IsInEdgeOrder}
-use Rattle.walks.specs.States.{Entries, state_in}
+use Rattle.graph_words.specs.Live.{IsInEdgeOrder}
+use Rattle.graph_words.specs.States.{Entries, state_in}
 use Rattle.user_actions.specs.Flags.{opening_edges}
 use Rattle.user_actions.specs.Good.{AreOpening}
 use Rattle.replica_core.specs.Content.{Content}

@@ -2,7 +2,7 @@
 use Rattle.std.specs.Prelude.{◌≡◌, List}
 use Rattle.grove_edits.specs.declared.edge.Edge.{Edge}
 use Rattle.grove_edits.specs.Graph.{Graph, graph, IsSame}
-use Rattle.walks.specs.Whole.{AreLive}
+use Rattle.graph_words.specs.Whole.{AreLive}
 use Rattle.replica_core.specs.Content.{Content, IsContent}
 
 -- the states are those of a content's graph, whose live edges the lists have, and the opening edges are its own

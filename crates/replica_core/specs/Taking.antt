@@ -3,7 +3,7 @@ use Rattle.std.specs.Prelude.{List, map}
 use Rattle.std.specs.List.{AllByRecursion}
 use Rattle.grove_edits.specs.declared.edit.Edit.{Edit}
 use Rattle.grove_edits.specs.Edit.{edit_edge}
-use Rattle.walks.specs.States.{Entries}
+use Rattle.graph_words.specs.States.{Entries}
 use Rattle.live_graph.specs.NumberOf.{IsNumberOf}
 use Rattle.replica_core.specs.declared.taking.News.{News}
 

@@ -5,7 +5,6 @@
 
 mod laws;
 mod machine;
-mod no_memory;
 mod planning;
 mod replica;
 mod taking;
@@ -15,7 +14,7 @@ pub use laws::{
     a_journal_takes_its_edits, an_authors_step_is_the_plan, edits_that_are_taken_are_joined,
     replicas_converge, what_holds_of_a_replica_stays,
 };
-pub use no_memory::NoMemory;
 pub use planning::{due, planned};
 pub use replica::Replica;
+pub use text_parts::NoMemory;
 pub use texts::append_print_text;

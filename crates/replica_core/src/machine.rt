@@ -1,10 +1,11 @@
 use crate::planning::due;
 use crate::replica::Replica;
+use graph_words::Steps;
 use grove_edits::{Actor, Answer, Command, EditList};
 use shared_replica::Machine;
 use std::alloc::Global;
 use std::sync::ledger::Ledger;
-use walks::Steps;
+use text_parts::NoMemory;
 
 impl Machine for Replica {
     type Command = Command;
@@ -30,7 +31,7 @@ impl Machine for Replica {
         actor: Actor,
         command: &Command,
         steps: &mut Steps<L>,
-    ) -> Result<(EditList, Answer), shared_replica::NoMemory> {
+    ) -> Result<(EditList, Answer), NoMemory> {
         let (edits, answer) = due(alloc, &self.view(), actor, command)?;
         self.apply_all(alloc, &edits, steps)?;
         Ok((edits, answer))

@@ -6,9 +6,9 @@ ghost use Rattle.replica_core.specs.Plain.{as_edits};
 ghost use Rattle.replica_core.specs.Shown.{Shows};
 ghost use Rattle.replica_core.specs.Step.{plan_of, plan_by, effect, reply};
 
-use crate::no_memory::NoMemory;
 use grove_edits::{Action, Actor, Answer, Command, EditList};
 use std::alloc::Global;
+use text_parts::NoMemory;
 use user_actions::{Plan, PlanFault, PlanView, plan};
 
 /// The edits of an author's action and what is answered, before any of them is taken. An action that is refused has no edits.

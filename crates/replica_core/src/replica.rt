@@ -1,7 +1,7 @@
 ghost use Rattle.std.specs.Prelude.{◌≡◌, ◌+◌, ◌<◌, ◌≤◌, ℕ, [], ◌∷◌, ◌++◌, List, IsTrue, IfOk, OnOk, OnErr};
 ghost use Rattle.grove_edits.specs.declared.act_fault.ActFault.{ActFault};
 ghost use Rattle.grove_edits.specs.Graph.{graph, Ascends, IsCanonical};
-ghost use Rattle.walks.specs.States.{state_in};
+ghost use Rattle.graph_words.specs.States.{state_in};
 ghost use Rattle.live_graph.specs.Live.{live};
 ghost use Rattle.user_actions.specs.Flags.{opening_edges};
 ghost use Rattle.user_actions.specs.Plan.{IsPlan};
@@ -12,10 +12,10 @@ ghost use Rattle.replica_core.specs.Shown.{Shows};
 ghost use Rattle.replica_core.specs.Step.{plan_of};
 ghost use Rattle.replica_core.specs.Cost.{edit_cost, edits_cost};
 
-use crate::no_memory::NoMemory;
 use crate::planning::planned;
 use crate::taking::take;
 use crate::texts::append_print_text;
+use graph_words::Steps;
 use grove_answers::append_canonical_text;
 use grove_edits::{Action, Answer, Edit, EditList};
 use live_graph::LiveGraph;
@@ -23,8 +23,8 @@ use seeded_hash::HashSeed;
 use std::alloc::Global;
 use std::marker::Model;
 use std::sync::ledger::Ledger;
+use text_parts::NoMemory;
 use user_actions::{LiveView, OpeningFlags};
-use walks::Steps;
 
 /// A live replica. Contracts see it as its `Content`: the canonical list of its graph, and the edges that the block opened with.
 /// How much room it has is not seen.

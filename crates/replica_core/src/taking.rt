@@ -1,15 +1,15 @@
 ghost use Rattle.std.specs.Prelude.{◌≡◌, OnOk, OnErr, IfOk};
 ghost use Rattle.grove_edits.specs.Graph.{graph, graph_join, IsSame};
-ghost use Rattle.walks.specs.States.{state_in};
+ghost use Rattle.graph_words.specs.States.{state_in};
 ghost use Rattle.live_graph.specs.NumberOf.{KeepsNumbersOf};
 ghost use Rattle.replica_core.specs.Taking.{AreNumbered, edits_of};
 
-use crate::no_memory::NoMemory;
 use edge_lattice::leq;
+use graph_words::asked_by;
 use grove_edits::Edit;
 use live_graph::LiveGraph;
 use std::alloc::Global;
-use walks::asked_by;
+use text_parts::NoMemory;
 
 /// An edit that asks more of its edge than the graph has, with the number of the edge.
 #[derive(Clone, Copy)]

@@ -2,12 +2,12 @@ ghost use Rattle.std.specs.Prelude.{◌≡◌, ◌++◌, ℕ, List, IfOk, OnOk, 
 ghost use Rattle.grove_edits.specs.Graph.{graph, Ascends};
 ghost use Rattle.grove_answers.specs.Texts.{IsPrintText};
 
-use crate::no_memory::NoMemory;
 use edit_table::EditTable;
 use grove_answers::print_text;
 use grove_edits::EditList;
 use seeded_hash::HashSeed;
 use std::alloc::Global;
+use text_parts::NoMemory;
 
 /// Appends the print text of the graph of a canonical list.
 pub fn append_print_text(

@@ -1,6 +1,7 @@
 ghost use Rattle.std.specs.Prelude.{◌≡◌, ◌<◌};
 
 use edit_text::read_line;
+use graph_words::Steps;
 use grove_edits::{Action, Actor, Answer, Bytes, Command, EditList, Place};
 use grove_names::Name;
 use grove_sorts::{Ctor, Position, Version};
@@ -11,7 +12,6 @@ use std::alloc::Global;
 use std::marker::Brand;
 use std::sync::ledger::{Blank, Ledger};
 use std::test::Fail;
-use walks::Steps;
 
 const SUM: [&str; 3] = [
     "+1.2 0.0 root main 1.1 plus",

@@ -1,6 +1,7 @@
 ghost use Rattle.std.specs.Prelude.{◌≡◌, ◌<◌};
 
 use edit_text::{read_line, write_edits};
+use graph_words::Steps;
 use grove_edits::{Action, Actor, Answer, Bytes, Command, EditList};
 use grove_names::Name;
 use grove_sorts::Version;
@@ -10,7 +11,6 @@ use std::alloc::Global;
 use std::marker::Brand;
 use std::sync::ledger::{Blank, Ledger};
 use std::test::Fail;
-use walks::Steps;
 
 // Takes the edits of lines.
 fn take<L: Ledger>(

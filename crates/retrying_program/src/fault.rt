@@ -71,12 +71,6 @@ impl<T: Drop> From<AllocFailed<T>> for Fault {
     }
 }
 
-impl From<grove_printer::NoMemory> for Fault {
-    fn from(_error: grove_printer::NoMemory) -> Fault {
-        Fault::NoMemory
-    }
-}
-
 impl From<marked_replica::NoMemory> for Fault {
     fn from(_error: marked_replica::NoMemory) -> Fault {
         Fault::NoMemory

@@ -3,12 +3,12 @@ ghost use Rattle.replica_core.specs.Content.{no_edits, with_taken};
 
 use crate::fault::Fault;
 use crate::state::{state_text, vertices_of};
+use graph_words::Steps;
 use grove_edits::{Edit, Vertex};
 use marked_replica::MarkedReplica;
 use std::alloc::Global;
 use std::marker::Brand;
 use std::sync::ledger::{Blank, Ledger};
-use walks::Steps;
 
 /// The text of a replica's state once it has taken these edits.
 pub(crate) fn state_after(alloc: Global, edits: &[Edit]) -> Result<Vec<u8>, Fault> {

@@ -7,7 +7,6 @@ ghost use Rattle.session_run.specs.Run.{CanRun};
 ghost use Rattle.session_answers.specs.Running.{sources_of, HaveRun};
 
 use crate::boards::{boards_of, close_all, cuts_on, seats_of};
-use crate::no_memory::NoMemory;
 use grove_edits::EditList;
 use grove_io::Gate;
 use replica_core::Replica;
@@ -17,6 +16,7 @@ use shared_replica::Journal;
 use std::alloc::Global;
 use std::sync::Wait;
 use std::thread::Threads;
+use text_parts::NoMemory;
 
 /// Runs a block on replicas that have opened it with these lists. Their boards last as long as the block.
 pub(crate) fn run_on_boards<R: Threads + Wait + Sync, G: Gate>(

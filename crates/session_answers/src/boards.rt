@@ -7,7 +7,6 @@ ghost use Rattle.author_desk.specs.Cuts.{opening_edits, seat_of};
 ghost use Rattle.grove_edits.specs.Graph.{state_of};
 ghost use Rattle.session_answers.specs.Boards.{states_of as are_states_of, parts_at as all_parts_at, IsBoardFor, AreBoards, board_of as board_under, IsWholeSeat};
 
-use crate::no_memory::NoMemory;
 use author_desk::Cuts;
 use edge_board::{Board, BoardSeat};
 use edge_lattice::State;
@@ -15,6 +14,7 @@ use grove_edits::{Edit, EditKind, EditList};
 use session_run::authors_at_work;
 use session_script::{AuthorList, Line};
 use std::alloc::Global;
+use text_parts::NoMemory;
 
 /// The boards of replicas that open with these lists, each with its first seat.
 pub(crate) fn boards_of(

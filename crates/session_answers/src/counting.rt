@@ -2,9 +2,9 @@
 ghost use Rattle.std.specs.Prelude.{◌≡◌, ◌+◌, ◌^◌, ◌<◌, length, IfOk, IsTrue};
 ghost use Rattle.std.specs.List.{AllByRecursion};
 
-use crate::no_memory::NoMemory;
 use session_script::{AuthorList, Declared, Line};
 use std::alloc::Global;
+use text_parts::NoMemory;
 
 /// The number of each declared author's first line.
 pub(crate) fn first_numbers(alloc: Global, authors: &AuthorList) -> Result<Vec<u64>, NoMemory>

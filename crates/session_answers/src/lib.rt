@@ -6,7 +6,6 @@ mod block;
 mod boards;
 mod counting;
 mod laws;
-mod no_memory;
 mod ran;
 mod replicas;
 mod running;
@@ -14,6 +13,6 @@ mod showing;
 mod summarizing;
 
 pub use laws::{one_summary_of_each_size, without_meetings_there_is_one_course};
-pub use no_memory::NoMemory;
 pub use ran::{Ran, run_session};
 pub use summarizing::summarize_session;
+pub use text_parts::NoMemory;

@@ -4,7 +4,6 @@ ghost use Rattle.session_report.specs.Legal.{AreLegal};
 ghost use Rattle.session_report.specs.Report.{IsReport};
 ghost use Rattle.session_answers.specs.Running.{IsBehind};
 
-use crate::no_memory::NoMemory;
 use crate::running::Running;
 use grove_io::Gate;
 use replica_core::Replica;
@@ -14,6 +13,7 @@ use session_script::Session;
 use std::alloc::Global;
 use std::sync::Wait;
 use std::thread::Threads;
+use text_parts::NoMemory;
 
 /// What a session that was run leaves: its report or its summary, and the journals of its blocks.
 #[derive(Drop)]

@@ -6,7 +6,7 @@ ghost use Rattle.replica_core.specs.Content.{no_edits, with_taken, with_block};
 ghost use Rattle.session_answers.specs.BlockJournals.{block_journals};
 ghost use Rattle.session_answers.specs.Running.{sources_of};
 
-use crate::no_memory::NoMemory;
+use graph_words::Steps;
 use grove_edits::{Edit, EditList};
 use replica_core::Replica;
 use seeded_hash::HashSeed;
@@ -15,7 +15,7 @@ use shared_replica::Journal;
 use std::alloc::Global;
 use std::marker::Brand;
 use std::sync::ledger::{Blank, Ledger};
-use walks::Steps;
+use text_parts::NoMemory;
 
 /// So many replicas that have taken nothing, which hash under a seed.
 pub(crate) fn empty_replicas(

@@ -6,7 +6,6 @@ ghost use Rattle.session_answers.specs.Running.{IsBehind, HasLoaded, HasRunBlock
 
 use crate::block::run_on_boards;
 use crate::counting::{can_number, count_lines, first_numbers};
-use crate::no_memory::NoMemory;
 use crate::replicas::{append_journals, apply, empty_replicas, open_block_on_each};
 use crate::showing::append_sections;
 use grove_edits::Edit;
@@ -18,6 +17,7 @@ use session_script::{Block, Item, Line, Session};
 use std::alloc::Global;
 use std::sync::Wait;
 use std::thread::Threads;
+use text_parts::NoMemory;
 
 /// A session some of whose items are over: what its replicas have taken, and what the items left.
 #[derive(Drop)]

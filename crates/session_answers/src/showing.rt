@@ -3,11 +3,11 @@ ghost use Rattle.std.specs.List.{zip};
 ghost use Rattle.session_report.specs.Report.{IsSection};
 ghost use Rattle.session_answers.specs.Running.{AreShown};
 
-use crate::no_memory::NoMemory;
 use grove_sorts::Ident;
 use replica_core::Replica;
 use session_report::append_replica_heading;
 use std::alloc::Global;
+use text_parts::NoMemory;
 
 /// Appends the sections of replicas with these names.
 pub(crate) fn append_sections(

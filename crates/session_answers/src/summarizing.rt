@@ -7,7 +7,6 @@ ghost use Rattle.session_report.specs.Legal.{AreLegal};
 ghost use Rattle.session_report.specs.Summary.{IsSummary, is_load, live_count, deleted_count};
 ghost use Rattle.session_answers.specs.Summarizing.{SummarizesReplicas, PrintAlike};
 
-use crate::no_memory::NoMemory;
 use crate::ran::{Ran, run_items};
 use crate::running::Running;
 use edit_table::EditTable;
@@ -21,6 +20,7 @@ use session_script::{Item, Session};
 use std::alloc::Global;
 use std::sync::Wait;
 use std::thread::Threads;
+use text_parts::NoMemory;
 
 /// Runs a session as `run_session` does, and writes its summary in place of its report.
 pub fn summarize_session<R: Threads + Wait + Sync, G: Gate>(

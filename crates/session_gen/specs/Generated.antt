@@ -1,4 +1,5 @@
 -- The generated session of each size, as its text.
+-- The promise of the commands rests on these definitions.
 use Rattle.std.specs.Prelude.{◌≡◌, ℕ, zero, suc, ◌+◌, ◌*◌, ◌/◌, ◌%◌, ◌^◌, List, [], ◌∷◌, ◌++◌, slice_index_or, codes, decimal}
 use Rattle.std.specs.List.{flat_map}
 use Rattle.edit_text.specs.Line.{spaced}

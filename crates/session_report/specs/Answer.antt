@@ -1,4 +1,5 @@
 -- What is written of the entries of a journal.
+-- The promise of the commands rests on these definitions.
 use Rattle.std.specs.Prelude.{ℕ, List, [], ◌∷◌, ◌++◌, codes, decimal}
 use Rattle.grove_names.specs.Name.{name_text}
 use Rattle.grove_sorts.specs.Ctor.{ctor_text}

@@ -1,4 +1,5 @@
 -- Which journals of a block at a replica are legal.
+-- The promise of the commands rests on these definitions.
 use Rattle.std.specs.Prelude.{◌≡◌, ℕ, List, [], ◌∷◌, ◌++◌, length, filter}
 use Rattle.std.specs.List.{flat_map}
 use Rattle.grove_edits.specs.declared.edge.Edge.{Edge}

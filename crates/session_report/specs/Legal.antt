@@ -1,4 +1,5 @@
 -- Which journals are legal for a session.
+-- The promise of the commands rests on these definitions.
 use Rattle.std.specs.Prelude.{◌≡◌, ℕ, ◌+◌, ◌<◌, List, [], ◌∷◌, ◌++◌, length, map, sum_by, slice_get, Some}
 use Rattle.std.specs.List.{count_by}
 use Rattle.grove_sorts.specs.declared.ident.Ident.{Ident}

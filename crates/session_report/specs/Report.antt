@@ -1,4 +1,5 @@
 -- The report of a session and its journals. It is written alike in both versions, and has no line that tells the version.
+-- The promise of the commands rests on these definitions.
 use Rattle.std.specs.Prelude.{◌≡◌, ℕ, ◌+◌, List, [], ◌∷◌, ◌++◌, length, codes, decimal}
 use Rattle.std.specs.List.{flat_map, zip}
 use Rattle.grove_sorts.specs.declared.ident.Ident.{Ident}

@@ -1,4 +1,5 @@
 -- The edits that replicas have taken at a point of a session.
+-- The promise of the commands rests on these definitions.
 use Rattle.std.specs.Prelude.{ℕ, ◌+◌, ◌&&◌, ◌==◌, if◌then◌else◌, List, [], ◌∷◌, ◌++◌}
 use Rattle.grove_edits.specs.declared.edit.Edit.{Edit}
 use Rattle.grove_edits.specs.declared.answer.Answer.{Answer}

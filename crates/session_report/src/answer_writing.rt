@@ -7,11 +7,10 @@ ghost use Rattle.grove_sorts.specs.Sort.{sort_text};
 ghost use Rattle.edit_text.specs.Line.{spaced, Extends};
 ghost use Rattle.session_report.specs.Answer.{answer_parts, fault_parts};
 
-use crate::no_memory::NoMemory;
 use grove_edits::{ActFault, Answer, Place, Vertex};
 use grove_names::{Name, write_name};
 use grove_sorts::{Ctor, Sort, write_ctor, write_position, write_sort};
-use text_parts::write_number;
+use text_parts::{NoMemory, write_number};
 
 pub(crate) fn append_answer(answer: &Answer, out: &mut Vec<u8>) -> Result<(), NoMemory>
     ensures appended { OnOk result (out.new.items ≡ out.old.items ++ spaced (answer_parts answer.now)) }

@@ -1,10 +1,10 @@
 ghost use Rattle.std.specs.Prelude.{◌≡◌, ◌≤◌, [], ◌∷◌, ◌++◌, length, slice_get, MatchOption, Some, OnOk, OnErr};
 
 use crate::block_journal::BlockJournal;
-use crate::no_memory::NoMemory;
 use shared_replica::Machine;
 use std::alloc::Global;
 use std::marker::Model;
+use text_parts::NoMemory;
 
 /// Journals in order.
 #[derive(Drop)]

@@ -7,7 +7,6 @@ mod block_journal;
 mod entry_writing;
 mod journal_list;
 mod laws;
-mod no_memory;
 mod report_writing;
 mod summary;
 mod summary_writing;
@@ -19,7 +18,7 @@ pub use laws::{
     a_journal_follows_from_its_calls, cuts_do_not_matter, one_report, one_summary,
     same_edits_same_section,
 };
-pub use no_memory::NoMemory;
 pub use report_writing::{append_block, append_replica_heading, append_show_heading};
 pub use summary::Summary;
 pub use summary_writing::summary_text;
+pub use text_parts::NoMemory;

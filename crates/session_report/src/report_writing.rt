@@ -6,10 +6,10 @@ ghost use Rattle.session_report.specs.Report.{block_heading, show_heading, repli
 
 use crate::answer_writing::append_with_number;
 use crate::entry_writing::append_entry;
-use crate::no_memory::NoMemory;
 use grove_edits::{Answer, Command, EditList};
 use grove_sorts::{Ident, write_ident};
 use shared_replica::{Journal, Machine};
+use text_parts::NoMemory;
 
 /// Appends what is written of a block: its number, counted from 1, and the journals of the replicas with these names.
 pub fn append_block<M: Machine<Command = Command, Effect = EditList, Reply = Answer>>(

@@ -1,11 +1,11 @@
 ghost use Rattle.std.specs.Prelude.{◌≡◌, ◌++◌, IfOk, OnOk};
 ghost use Rattle.session_report.specs.Summary.{summary_text, edit_lines, count_lines, equal_line};
 
-use crate::no_memory::NoMemory;
 use crate::report_writing::append_number_line;
 use crate::summary::Summary;
 use grove_answers::Counts;
 use std::alloc::Global;
+use text_parts::NoMemory;
 
 /// The text of a summary: a line for each number, and one that tells whether all replicas print alike.
 pub fn summary_text(alloc: Global, summary: &Summary) -> Result<Vec<u8>, NoMemory>

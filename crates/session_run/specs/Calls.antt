@@ -1,4 +1,5 @@
 -- What a block asks of one replica: the commands of its authors and those of the `send` lines to it, each actor's in order.
+-- The promise of the commands rests on these definitions.
 use Rattle.std.specs.Prelude.{◌≡◌, ℕ, ◌+◌, ◌==◌, if◌then◌else◌, List, [], ◌∷◌, map, slice_get, Some}
 use Rattle.std.specs.List.{AllByRecursion, Contains}
 use Rattle.grove_edits.specs.declared.edit.Edit.{Edit}

@@ -5,10 +5,10 @@ ghost use Rattle.session_script.specs.Session.{AllDiffer, author_numbers};
 ghost use Rattle.session_run.specs.Calls.{sends_of};
 ghost use Rattle.session_run.specs.Workers.{told, with_action, authors_told, first_calls_told, AreLinesOf};
 
-use crate::no_memory::NoMemory;
 use grove_edits::Action;
 use session_script::{AuthorList, Declared, Line, SendLine};
 use std::alloc::Global;
+use text_parts::NoMemory;
 
 /// What a declared author does in a block, in order.
 #[derive(Debug, Drop)]

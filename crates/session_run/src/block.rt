@@ -14,7 +14,6 @@ ghost use Rattle.session_run.specs.Run.{IsPlaced, CanRun, HasRun};
 
 use crate::author_lines::{AuthorLines, lines_by_author, sends_in};
 use crate::listing::{append_authors, append_sends};
-use crate::no_memory::NoMemory;
 use crate::together::run_together;
 use author_desk::Cuts;
 use grove_edits::{Answer, Command, EditList};
@@ -26,6 +25,7 @@ use std::marker::PhantomData;
 use std::mem;
 use std::sync::Wait;
 use std::thread::{Threads, join};
+use text_parts::NoMemory;
 
 // What a block asks, of all replicas.
 #[derive(Clone, Copy)]

@@ -6,12 +6,12 @@ ghost use Rattle.session_run.specs.Workers.{AreForAuthors, AddsAuthor, AreForSen
 ghost use Rattle.session_run.specs.Run.{CanSend};
 
 use crate::author_lines::AuthorLines;
-use crate::no_memory::NoMemory;
 use crate::worker::Worker;
 use grove_edits::EditList;
 use replica_exchange::packets;
 use session_script::SendLine;
 use std::alloc::Global;
+use text_parts::NoMemory;
 
 /// Appends a worker for each of the replica's authors who has actions.
 pub fn append_authors<'a>(

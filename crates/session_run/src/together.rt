@@ -6,7 +6,6 @@ ghost use Rattle.shared_replica.specs.Solos.{Replays};
 ghost use Rattle.session_run.specs.Workers.{actor_of, calls_of, seats_of, slots_of, CanWork, HandsTo};
 ghost use Rattle.session_run.specs.Passes.{HasWorked, HaveWorked, StandsIn, IsJournalOf};
 
-use crate::no_memory::NoMemory;
 use crate::worker::{Worker, all_calls};
 use crate::working::run_worker;
 use author_desk::Cuts;
@@ -17,6 +16,7 @@ use std::alloc::Global;
 use std::mem;
 use std::sync::Wait;
 use std::thread::{Threads, join};
+use text_parts::NoMemory;
 
 /// Lets the workers call a machine at once, and gives it back with its journal. The authors among them raise what they cut by parts of
 /// the seat of the cuts, which comes back whole.

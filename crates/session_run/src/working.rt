@@ -11,7 +11,6 @@ ghost use Rattle.author_desk.specs.Cuts.{CanRaise};
 ghost use Rattle.session_run.specs.Workers.{actor_of, calls_of, CanWork};
 ghost use Rattle.session_run.specs.Passes.{commands_in, Makes, HasWorked};
 
-use crate::no_memory::NoMemory;
 use crate::worker::Worker;
 use author_desk::{Cuts, run_lines};
 use grove_edits::{Bytes, Command, EditList};
@@ -20,6 +19,7 @@ use replica_exchange::{PieceList, TakeFault, Taker};
 use shared_replica::{Machine, Pass, Shared};
 use std::alloc::Global;
 use std::sync::Wait;
+use text_parts::NoMemory;
 
 /// Lets a worker make its calls. It ends where memory runs out.
 pub fn run_worker<R: Wait, M: Machine<Command = Command>, G: Gate>(

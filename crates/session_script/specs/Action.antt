@@ -1,4 +1,5 @@
 -- The lines of authors.
+-- The promise of the commands rests on these definitions.
 use Rattle.std.specs.Prelude.{ℕ, ◌<◌, ◌≤◌, ◌^◌, List, [], ◌∷◌, ◌++◌, codes, decimal}
 use Rattle.grove_names.specs.Name.{name_text, InRange as NameInRange}
 use Rattle.grove_sorts.specs.Ctor.{ctor_text, InRange as CtorInRange}

@@ -1,4 +1,5 @@
 -- The one text of a session, and what holds of a session.
+-- The promise of the commands rests on these definitions.
 use Rattle.std.specs.Prelude.{◌≡◌, ℕ, ◌*◌, ◌<◌, ◌≤◌, Bool, true, false, List, [], ◌∷◌, ◌++◌, length, map, sum_by, slice_get, codes, decimal}
 use Rattle.std.specs.List.{flat_map, count_by, AllByRecursion, Contains}
 use Rattle.std.specs.Option.{option_map_or}

@@ -1,4 +1,5 @@
 -- What a line of a session says by itself, in a version of the text: each statement has one line.
+-- The promise of the commands rests on these definitions.
 use Rattle.std.specs.Prelude.{◌≡◌, ◌≢◌, ℕ, ◌<◌, ◌^◌, Bool, if◌then◌else◌, List, [], ◌∷◌, ◌++◌, Some, codes, decimal}
 use Rattle.grove_sorts.specs.declared.ident.Ident.{Ident}
 use Rattle.grove_sorts.specs.Ident.{ident_bytes}

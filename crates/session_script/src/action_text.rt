@@ -10,12 +10,11 @@ ghost use Rattle.grove_edits.specs.declared.action.Action.{Action};
 ghost use Rattle.grove_edits.specs.declared.action.Place.{Place};
 ghost use Rattle.session_script.specs.Action.{action_parts, action_line, ActionInRange, IsActionOf, HasNoCtor};
 
-use crate::no_memory::NoMemory;
 use crate::parts::{after_word, take_name, take_position};
 use grove_edits::{Action, Place};
 use grove_names::{Name, read_name, write_name};
 use grove_sorts::{Ctor, Version, read_ctor, read_position, write_ctor, write_position};
-use text_parts::write_number;
+use text_parts::{NoMemory, write_number};
 
 /// Appends an author's line, without an LF.
 pub fn write_action(author: u32, action: &Action, out: &mut Vec<u8>) -> Result<(), NoMemory>

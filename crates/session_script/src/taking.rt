@@ -8,13 +8,13 @@ use crate::author::Declared;
 use crate::item::{Block, Item};
 use crate::line::{Line, SendLine};
 use crate::line_list::LineList;
-use crate::no_memory::NoMemory;
 use crate::phase::Phase;
 use crate::reading::Reading;
 use crate::statement::{SendText, Statement};
 use grove_sorts::Ident;
 use std::alloc::Global;
 use std::mem;
+use text_parts::NoMemory;
 
 // Takes a statement that has no fault here.
 pub(crate) fn take(reading: &mut Reading, alloc: Global, s: Statement) -> Result<(), NoMemory>

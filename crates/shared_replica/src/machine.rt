@@ -1,10 +1,10 @@
 ghost use Rattle.std.specs.Prelude.{◌≡◌, ℕ, ◌+◌, ◌≤◌, IfOk, OnOk, OnErr};
 
-use crate::no_memory::NoMemory;
+use graph_words::Steps;
 use grove_edits::Actor;
 use std::alloc::Global;
 use std::sync::ledger::Ledger;
-use walks::Steps;
+use text_parts::NoMemory;
 
 /// A machine that takes commands one at a time. What contracts see of it is its model data: a step depends on these alone,
 /// on the actor and on the command.

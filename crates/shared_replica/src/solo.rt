@@ -4,13 +4,13 @@ ghost use Rattle.shared_replica.specs.Solos.{with_step, with_steps, Replays};
 
 use crate::journal::{Entry, Journal};
 use crate::machine::Machine;
-use crate::no_memory::NoMemory;
+use graph_words::Steps;
 use grove_edits::Actor;
 use std::alloc::Global;
 use std::marker::{Brand, Model};
 use std::sync::ledger::{Blank, Ledger};
+use text_parts::NoMemory;
 use turn_lock::NoMemoryWith;
-use walks::Steps;
 
 /// A machine with the journal of its commands. Contracts see it as a `Journaled`.
 #[derive(Drop)]

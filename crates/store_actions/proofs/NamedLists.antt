@@ -14,12 +14,12 @@ use Rattle.grove_edits.specs.declared.edge.Edge.{Edge}
 use Rattle.grove_edits.specs.Edge.{edge_cmp}
 use Rattle.grove_edits.specs.Graph.{is_same_edge}
 use Rattle.grove_edits.proofs.Orders.{edge_cmp_exact, edge_cmp_total, one_edge}
-use Rattle.walks.specs.Live.{IsInEdgeOrder, holds_edge}
+use Rattle.graph_words.specs.Live.{IsInEdgeOrder, holds_edge}
 use Rattle.grove_terms.proofs.InLive.{same_edge_itself}
 use Rattle.graph_store.specs.Least.{IsLeast}
 use Rattle.graph_store.specs.Named.{IsNamed, IsAfter}
-use Rattle.walks.specs.States.{Entries, state_in}
-use Rattle.walks.specs.Named.{AreNamed}
+use Rattle.graph_words.specs.States.{Entries, state_in}
+use Rattle.graph_words.specs.Named.{AreNamed}
 use Rattle.grove_sorts.proofs.Truths.{or_left, or_right}
 
 -- ---- the order of edges

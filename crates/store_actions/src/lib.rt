@@ -2,10 +2,9 @@
 //! keep marks stand on this crate.
 #![tactic(auto)]
 
-mod no_memory;
 mod opening_set;
 mod view;
 
-pub use no_memory::NoMemory;
 pub use opening_set::OpeningSet;
+pub use text_parts::NoMemory;
 pub use view::View;

@@ -1,15 +1,15 @@
 ghost use Rattle.std.specs.Prelude.{◌≡◌, ◌↔◌, [], length, map, IfOk, IsTrue};
 ghost use Rattle.grove_edits.specs.Edit.{edit_edge};
 ghost use Rattle.grove_edits.specs.Graph.{graph, Ascends};
-ghost use Rattle.walks.specs.States.{state_in, well_formed};
-ghost use Rattle.walks.specs.Live.{IsInEdgeOrder, holds_edge};
+ghost use Rattle.graph_words.specs.States.{state_in, well_formed};
+ghost use Rattle.graph_words.specs.Live.{IsInEdgeOrder, holds_edge};
 ghost use Rattle.user_actions.specs.Lists.{ArePresent};
 
-use crate::no_memory::NoMemory;
 use graph_store::GraphStore;
 use grove_edits::{Edge, EditList};
 use std::alloc::Global;
 use std::marker::Model;
+use text_parts::NoMemory;
 
 /// The edges of a graph that were not Absent when the set was made, in edge order.
 #[derive(Debug, Drop)]
@@ -20,7 +20,7 @@ pub struct OpeningSet {
 impl Model for OpeningSet {
     ghost use Rattle.std.specs.Prelude.{List};
     ghost use Rattle.grove_edits.specs.declared.edge.Edge.{Edge};
-    ghost use Rattle.walks.specs.Live.{IsInEdgeOrder};
+    ghost use Rattle.graph_words.specs.Live.{IsInEdgeOrder};
 
     ghost Value = { List Edge };
 

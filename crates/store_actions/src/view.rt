@@ -1,13 +1,14 @@
 ghost use Rattle.std.specs.Prelude.{◌≡◌, ◌<◌, IfOk};
-ghost use Rattle.walks.specs.Live.{children_of};
+ghost use Rattle.graph_words.specs.Live.{children_of};
 ghost use Rattle.edge_index.specs.Lists.{live};
-ghost use Rattle.walks.specs.States.{state_in};
-ghost use Rattle.walks.specs.Named.{AreNamed};
+ghost use Rattle.graph_words.specs.States.{state_in};
+ghost use Rattle.graph_words.specs.Named.{AreNamed};
 
 use crate::opening_set::OpeningSet;
 use child_index::ChildIndex;
 use edge_lattice::State;
 use graph_store::GraphStore;
+use graph_words::{Few, Named, ParentOf, Steps};
 use grove_edits::{Edge, Vertex};
 use grove_names::Name;
 use grove_sorts::Position;
@@ -16,7 +17,6 @@ use std::alloc::Global;
 use std::marker::Brand;
 use std::sync::ledger::{Blank, Ledger};
 use user_actions::{NoMemory, PlanView};
-use walks::{Few, Named, ParentOf, Steps};
 
 /// What a plan reads: a graph, its live edges by their ends, and the edges that were not Absent as the block opened.
 #[derive(Clone, Copy)]
@@ -78,7 +78,7 @@ impl<'a> ParentOf for View<'a> {
 
 impl<'a> PlanView for View<'a> {
     ghost use Rattle.edge_index.specs.Lists.{live as live_edges};
-    ghost use Rattle.walks.specs.States.{state_in};
+    ghost use Rattle.graph_words.specs.States.{state_in};
 
     ghost states = { λ view. state_in view.store.now };
 

@@ -4,6 +4,7 @@ ghost use Rattle.grove_edits.specs.declared.answer.Answer.TheVariants.{Done};
 use author_desk::{Cuts, run_lines};
 use edge_board::Board;
 use edge_lattice::State;
+use graph_words::Steps;
 use grove_edits::{Action, Actor, Answer, Command, Edge, Edit, EditList, Place, Vertex};
 use grove_io::{Gate, OpenGate};
 use grove_names::Name;
@@ -14,7 +15,6 @@ use std::sync::Wait;
 use std::sync::atomic::{AtomicU64, Ordering};
 use std::sync::ledger::Ledger;
 use std::test::Fail;
-use walks::Steps;
 
 /// Counts its steps, and answers `Done`.
 #[derive(Drop)]

@@ -2,6 +2,7 @@ ghost use Rattle.std.specs.Prelude.{◌≡◌, ◌+◌, ◌%◌, ◌^◌, ◌≤
 ghost use Rattle.grove_edits.specs.declared.answer.Answer.TheVariants.{Done};
 ghost use Rattle.live_relay.specs.Seats.{after_send};
 
+use graph_words::Steps;
 use grove_edits::{Actor, Answer, Command, Edge, Edit, EditList, Vertex};
 use grove_names::Name;
 use grove_sorts::{Ctor, Position};
@@ -12,7 +13,6 @@ use std::sync::Wait;
 use std::sync::ledger::Ledger;
 use std::test::Fail;
 use std::thread::{self, Threads, join};
-use walks::Steps;
 
 /// Counts its steps, and tells before each how many there were. It has room for so many, and no memory for more.
 #[derive(Drop)]

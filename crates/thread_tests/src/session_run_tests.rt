@@ -10,6 +10,7 @@ ghost use Rattle.session_script.specs.Session.{IsSession};
 use author_desk::Cuts;
 use edge_board::{Board, BoardSeat};
 use edge_lattice::State;
+use graph_words::Steps;
 use grove_edits::{Action, Actor, Answer, Command, EditList};
 use grove_io::{Gate, OpenGate};
 use session_run::*;
@@ -22,7 +23,6 @@ use std::sync::ledger::Ledger;
 use std::sync::{Mutex, Wait};
 use std::test::Fail;
 use std::thread::Threads;
-use walks::Steps;
 
 /// Counts its steps, and tells before each how many there were.
 #[derive(Drop)]

@@ -2,6 +2,7 @@ ghost use Rattle.std.specs.Prelude.{◌≡◌, ◌≤◌, ◌<◌, ◌+◌, ◌*
 
 use edge_board::{Board, BoardSeat};
 use edge_lattice::State;
+use graph_words::Steps;
 use grove_edits::Actor;
 use shared_replica::{Journal, Machine, NoMemory, NoMemoryWith, Pass, Shared, Solo};
 use std::alloc::Global;
@@ -10,7 +11,6 @@ use std::sync::ledger::Ledger;
 use std::test::Fail;
 use std::thread;
 use std::thread::{Threads, join};
-use walks::Steps;
 
 // A number that the machine below has no memory for.
 const TOO_MUCH: u64 = u64::MAX;

@@ -1,4 +1,5 @@
 -- Types as finite trees: consistency, meet, precision, matched forms and text.
+-- The promise of the commands rests on these definitions.
 use Rattle.std.specs.Prelude.{ℕ, ◌-◌, ◌==◌, Bool, true, false, ◌&&◌, if◌then◌else◌, List, ◌++◌, Option, None, Some, codes}
 use Rattle.type_core.specs.declared.former.Former.{Former}
 use Rattle.type_core.specs.declared.former.Former.TheVariants.{Arrow, Product, Sum}

@@ -5,11 +5,11 @@ ghost use Rattle.type_core.specs.Heads.{IsPairingOf};
 ghost use Rattle.type_core.specs.Pairings.{is_consistent_pairing, VerdictOf, AreTasks};
 
 use crate::heads::{Heads, Pairing};
-use crate::no_memory::NoMemory;
 use crate::relations::Relation;
 use crate::table::TypeTable;
 use crate::type_id::TypeId;
 use std::alloc::Global;
+use text_parts::NoMemory;
 
 // What is known of two types before their parts are asked.
 #[derive(Clone, Copy)]

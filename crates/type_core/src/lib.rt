@@ -9,7 +9,6 @@ mod heads;
 mod landmarks;
 mod laws;
 mod meeting;
-mod no_memory;
 mod node;
 mod relations;
 mod table;
@@ -22,7 +21,7 @@ pub use laws::{
     meet_is_a_semilattice, meet_is_greatest_below_both, meet_is_where_consistent,
     precision_is_an_order,
 };
-pub use no_memory::NoMemory;
 pub use table::TypeTable;
+pub use text_parts::NoMemory;
 pub use type_id::TypeId;
 pub use type_printer::TypePrinter;

@@ -7,11 +7,11 @@ ghost use Rattle.type_core.specs.Pairings.{is_consistent_pairing};
 
 use crate::former::Former;
 use crate::heads::{Heads, Pairing};
-use crate::no_memory::NoMemory;
 use crate::relations::Relation;
 use crate::table::TypeTable;
 use crate::type_id::TypeId;
 use std::alloc::Global;
+use text_parts::NoMemory;
 
 // Two types of one form that wait for the meets of their parts.
 #[derive(Clone, Copy)]

@@ -5,9 +5,9 @@ ghost use Rattle.type_core.specs.Meets.{IsMeetOf};
 ghost use Rattle.type_core.specs.Relations.{IsRelationOf};
 
 use crate::heads::Pairing;
-use crate::no_memory::NoMemory;
 use crate::table::TypeTable;
 use crate::type_id::TypeId;
+use text_parts::NoMemory;
 
 // What was found of two types.
 #[derive(Clone, Copy)]

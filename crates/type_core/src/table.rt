@@ -7,7 +7,6 @@ ghost use Rattle.type_core.specs.Nodes.{type_of_node, node_at, PartsAreBelow, St
 use crate::former::Former;
 use crate::heads::Pairing;
 use crate::landmarks::{Weight, add_weight};
-use crate::no_memory::NoMemory;
 use crate::node::Node;
 use crate::relations::Relation;
 use crate::type_id::TypeId;
@@ -15,6 +14,7 @@ use indexmap::{IndexMap, IndexSet};
 use seeded_hash::HashSeed;
 use std::alloc::Global;
 use std::marker::Model;
+use text_parts::NoMemory;
 
 // The places of the base types in every table.
 const UNKNOWN: u32 = 0;

@@ -6,7 +6,6 @@ ghost use Rattle.type_core.specs.TypeTable.{IsTypeOf, type_at};
 ghost use Rattle.type_core.specs.TypeTexts.{Lengthens};
 
 use crate::former::Former;
-use crate::no_memory::NoMemory;
 use crate::node::Node;
 use crate::table::TypeTable;
 use crate::type_id::TypeId;
@@ -14,7 +13,7 @@ use indexmap::IndexMap;
 use seeded_hash::HashSeed;
 use std::alloc::Global;
 use std::marker::Model;
-use text_parts::write_short;
+use text_parts::{NoMemory, write_short};
 
 // The text of a type with so many levels is kept: such texts are short, and a printed type is made of few of them.
 const KEPT_LEVELS: u8 = 4;

@@ -9,7 +9,7 @@ use Rattle.grove_edits.specs.contracts.vertex.VertexOrd.TheImpl as vertex_impl
 use Rattle.grove_edits.specs.contracts.vertex.VertexPartialEq.TheImpl as vertex_eq
 use Rattle.grove_edits.proofs.Vertices.{same_vertex_laws, order_is_same_vertex, eq_is_same_vertex}
 use Rattle.grove_edits.specs.Vertex.{is_same_vertex, stands_in}
-use Rattle.walks.specs.Met.{met_by}
+use Rattle.graph_words.specs.Met.{met_by}
 
 -- the code's look-up finds the number of a vertex
 pub lookup_is_met_by : (met : List (Vertex × ℕ)) (v : Vertex) → lookup (vertex_eq.eq-value.it v) met ≡ met_by met v

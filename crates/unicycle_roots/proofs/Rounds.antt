@@ -9,14 +9,14 @@ use Rattle.grove_edits.specs.declared.vertex.Vertex.{Vertex}
 use Rattle.grove_edits.specs.declared.edge.Edge.{Edge}
 use Rattle.grove_edits.specs.Vertex.{vertex_cmp, is_same_vertex}
 use Rattle.grove_edits.proofs.Orders.{vertex_cmp_exact}
-use Rattle.walks.specs.Walk.{above, walk}
-use Rattle.walks.specs.Class.{is_cycle_root}
+use Rattle.graph_words.specs.Walk.{above, walk}
+use Rattle.graph_words.specs.Class.{is_cycle_root}
 use Rattle.grove_edits.proofs.Vertices.{vertex_cmp_itself, same_vertex_itself, same_vertex_exact}
-use Rattle.walks.proofs.Up.{up, up-along, up_none_along, walk_len, walk_some, walk_apart, walk_back, walk_least}
-use Rattle.walks.proofs.Returns.{AllGreater, some_same, walk_len_pos, not_itself, up_from, root_from_back}
+use Rattle.graph_words.proofs.Up.{up, up-along, up_none_along, walk_len, walk_some, walk_apart, walk_back, walk_least}
+use Rattle.graph_words.proofs.Returns.{AllGreater, some_same, walk_len_pos, not_itself, up_from, root_from_back}
 use Rattle.unicycle_roots.specs.declared.step_up.StepUp.TheVariants.{ToGreater, Back, ToNoCycle}
 use Rattle.unicycle_roots.specs.StepUp.{found, found_by}
-use Rattle.walks.proofs.Roots.{root_back, root_least}
+use Rattle.graph_words.proofs.Roots.{root_back, root_least}
 use Rattle.grove_sorts.proofs.Truths.{false_from}
 
 -- the tortoise has gone k steps and the hare twice as many, and they have not met

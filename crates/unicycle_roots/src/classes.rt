@@ -1,11 +1,11 @@
 ghost use Rattle.std.specs.Prelude.{◌≡◌, ◌+◌, ◌*◌, ◌≤◌, length};
-ghost use Rattle.walks.specs.Walk.{walk};
-ghost use Rattle.walks.specs.Class.{class};
+ghost use Rattle.graph_words.specs.Walk.{walk};
+ghost use Rattle.graph_words.specs.Class.{class};
 
 use crate::cycle_root::is_cycle_root;
+use graph_words::{Class, Few, ParentOf, Steps};
 use grove_edits::Vertex;
 use std::sync::ledger::Ledger;
-use walks::{Class, Few, ParentOf, Steps};
 
 /// The class of a vertex. It takes no memory, and a few ticks for each vertex on the walk up from it.
 pub fn class_of<P: ParentOf, L: Ledger>(vertex: &Vertex, parents: &P, steps: &mut Steps<L>) -> Class

@@ -1,11 +1,11 @@
 ghost use Rattle.std.specs.Prelude.{◌≡◌, ◌+◌, ◌*◌, ◌≤◌, true, length};
-ghost use Rattle.walks.specs.Walk.{walk};
-ghost use Rattle.walks.specs.Class.{is_cycle_root};
-ghost use Rattle.walks.specs.Cycle.{is_on_cycle, leads_to};
+ghost use Rattle.graph_words.specs.Walk.{walk};
+ghost use Rattle.graph_words.specs.Class.{is_cycle_root};
+ghost use Rattle.graph_words.specs.Cycle.{is_on_cycle, leads_to};
 
+use graph_words::{ParentOf, Steps, lesser, vertex_above};
 use grove_edits::{Vertex, is_same_vertex};
 use std::sync::ledger::Ledger;
-use walks::{ParentOf, Steps, lesser, vertex_above};
 
 /// The root of the cycle on which a vertex stands, by going round once.
 pub(crate) fn root_of_cycle<P: ParentOf, L: Ledger>(

@@ -1,11 +1,11 @@
 ghost use Rattle.std.specs.Prelude.{◌≡◌, ◌+◌, ◌*◌, ◌≤◌, length};
-ghost use Rattle.walks.specs.Walk.{walk};
-ghost use Rattle.walks.specs.Class.{is_cycle_root};
+ghost use Rattle.graph_words.specs.Walk.{walk};
+ghost use Rattle.graph_words.specs.Class.{is_cycle_root};
 
 use crate::step_up::{StepUp, step_up};
+use graph_words::{ParentOf, Steps, vertex_above};
 use grove_edits::{Vertex, is_same_vertex};
 use std::sync::ledger::Ledger;
-use walks::{ParentOf, Steps, vertex_above};
 
 /// Whether the walk up comes back to the vertex, which is the least on it. The hare goes two steps while the tortoise goes one,
 /// so they meet where the walk enters a cycle that the vertex is not on.

@@ -7,11 +7,10 @@ mod classes;
 mod cycle;
 mod cycle_root;
 mod met;
-mod no_memory;
 mod roots;
 mod step_up;
 
 pub use classes::class_of;
-pub use no_memory::NoMemory;
+pub use graph_words::Class;
 pub use roots::cycle_roots;
-pub use walks::Class;
+pub use text_parts::NoMemory;

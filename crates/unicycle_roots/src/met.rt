@@ -1,14 +1,14 @@
 ghost use Rattle.std.specs.Prelude.{◌≡◌, ◌+◌, ◌*◌, ◌≤◌, None, Some, if◌then◌else◌, IsSome, IfOk, OnOk, OnErr};
 ghost use Rattle.grove_edits.specs.declared.vertex.Vertex.{Vertex};
 ghost use Rattle.grove_edits.specs.Vertex.{is_same_vertex};
-ghost use Rattle.walks.specs.Met.{met_by, unmet, round_len, KeepsMet, AreNumbered, HasEnded};
+ghost use Rattle.graph_words.specs.Met.{met_by, unmet, round_len, KeepsMet, AreNumbered, HasEnded};
 
-use crate::no_memory::NoMemory;
+use graph_words::{ParentOf, Steps, vertex_above};
 use grove_edits::Vertex;
 use indexmap::IndexMap;
 use seeded_hash::HashSeed;
 use std::sync::ledger::Ledger;
-use walks::{ParentOf, Steps, vertex_above};
+use text_parts::NoMemory;
 
 /// The number of the walk that met a vertex first.
 fn met_by(met: &IndexMap<Vertex, usize, HashSeed>, vertex: &Vertex) -> Option<usize>

@@ -1,18 +1,18 @@
 ghost use Rattle.std.specs.Prelude.{◌≡◌, ◌+◌, ◌*◌, ◌≤◌, ◌||◌, true, filter, length, IfOk, OnOk};
 ghost use Rattle.grove_edits.specs.declared.vertex.Vertex.{Vertex};
 ghost use Rattle.grove_edits.specs.Vertex.{is_same_vertex, stands_in};
-ghost use Rattle.walks.specs.Class.{is_cycle_root, of_class};
+ghost use Rattle.graph_words.specs.Class.{is_cycle_root, of_class};
 
 use crate::cycle::root_of_cycle;
 use crate::met::walk_up;
-use crate::no_memory::NoMemory;
+use graph_words::{Class, ParentOf, Steps};
 use grove_edits::Vertex;
 use indexmap::IndexMap;
 use seeded_hash::HashSeed;
 use std::alloc::Global;
 use std::collections::BTreeSet;
 use std::sync::ledger::Ledger;
-use walks::{Class, ParentOf, Steps};
+use text_parts::NoMemory;
 
 /// Whether a vertex stands in a set.
 fn holds(roots: &BTreeSet<Vertex>, vertex: &Vertex) -> bool

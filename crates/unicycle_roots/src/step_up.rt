@@ -1,12 +1,12 @@
 ghost use Rattle.std.specs.Prelude.{◌≡◌, ◌+◌, ◌<◌, ◌≤◌, None, Some, OnSome, if◌then◌else◌};
 ghost use Rattle.grove_edits.specs.declared.vertex.Vertex.{Vertex};
-ghost use Rattle.walks.specs.Walk.{above};
+ghost use Rattle.graph_words.specs.Walk.{above};
 ghost use Rattle.unicycle_roots.specs.StepUp.{found};
 
+use graph_words::{ParentOf, Steps, vertex_above};
 use grove_edits::{Vertex, compare_vertices};
 use std::cmp::Ordering;
 use std::sync::ledger::Ledger;
-use walks::{ParentOf, Steps, vertex_above};
 
 /// What the next step of a walk finds.
 #[derive(Clone, Copy, Debug)]

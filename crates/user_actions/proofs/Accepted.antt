@@ -9,9 +9,9 @@ use Rattle.grove_sorts.specs.Ctor.{sort_of_ctor, first_position}
 use Rattle.grove_edits.specs.declared.vertex.Vertex.{Vertex}
 use Rattle.grove_edits.specs.declared.edge.Edge.{Edge}
 use Rattle.grove_edits.specs.declared.edit.Edit.{Edit}
-use Rattle.walks.specs.Live.{parents_of}
+use Rattle.graph_words.specs.Live.{parents_of}
 use Rattle.grove_edits.specs.Vertex.{stands_in}
-use Rattle.walks.specs.Walk.{walk}
+use Rattle.graph_words.specs.Walk.{walk}
 use Rattle.grove_edits.specs.declared.action.Place.{Place}
 use Rattle.grove_edits.specs.declared.action.Action.{Action}
 use Rattle.grove_edits.specs.declared.action.Action.TheVariants.{Construct, Wrap, Become, Delete, Relocate, Restore}

@@ -28,9 +28,9 @@ use Rattle.grove_edits.proofs.Vertices.{same_vertex_exact, same_vertex_itself}
 use Rattle.grove_edits.specs.declared.action.Place.{Place}
 use Rattle.grove_edits.specs.declared.action.Action.TheVariants.{Wrap, Become}
 use Rattle.grove_edits.specs.declared.answer.Answer.TheVariants.{Made}
-use Rattle.walks.specs.Live.{IsInEdgeOrder, holds_edge, children_of}
-use Rattle.walks.specs.Whole.{AreLive, IsVertexOf}
-use Rattle.walks.proofs.Ordered.{holds-filter}
+use Rattle.graph_words.specs.Live.{IsInEdgeOrder, holds_edge, children_of}
+use Rattle.graph_words.specs.Whole.{AreLive, IsVertexOf}
+use Rattle.graph_words.proofs.Ordered.{holds-filter}
 use Rattle.grove_terms.proofs.OneGrove.{one_live}
 use Rattle.user_actions.specs.Lists.{GraphLists, AreListsOf}
 use Rattle.user_actions.specs.Names.{new_name, greatest_counter}

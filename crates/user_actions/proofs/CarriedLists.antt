@@ -12,7 +12,7 @@ use Rattle.grove_edits.specs.declared.vertex.Vertex.{Vertex}
 use Rattle.grove_edits.specs.declared.edge.Edge.{Edge}
 use Rattle.grove_edits.specs.Edge.{is_sort}
 use Rattle.grove_edits.specs.Graph.{is_same_edge}
-use Rattle.walks.specs.Live.{children_of}
+use Rattle.graph_words.specs.Live.{children_of}
 use Rattle.user_actions.specs.Carried.{has_same_sort, carried_from}
 
 module _ (ctor : Ctor) (w : Vertex) (e : Edge) (live : List Edge) where

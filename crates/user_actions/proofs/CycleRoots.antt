@@ -6,16 +6,16 @@ use Rattle.grove_edits.specs.declared.vertex.Vertex.{Vertex}
 use Rattle.grove_edits.specs.declared.edge.Edge.{Edge}
 use Rattle.grove_edits.specs.declared.edit.Edit.{Edit}
 use Rattle.grove_edits.specs.Graph.{Graph}
-use Rattle.walks.specs.Live.{holds_edge, parents_of}
+use Rattle.graph_words.specs.Live.{holds_edge, parents_of}
 use Rattle.grove_edits.specs.Vertex.{is_same_vertex, stands_in}
-use Rattle.walks.specs.Walk.{only_source, walk}
-use Rattle.walks.specs.Class.{is_cycle_root, class, is_same_class}
-use Rattle.walks.specs.declared.class.Class.{Class}
-use Rattle.walks.specs.declared.class.Class.TheVariants.{NoParent, Multi, Cycle, Inner}
-use Rattle.walks.specs.Whole.{AreLive}
+use Rattle.graph_words.specs.Walk.{only_source, walk}
+use Rattle.graph_words.specs.Class.{is_cycle_root, class, is_same_class}
+use Rattle.graph_words.specs.declared.class.Class.{Class}
+use Rattle.graph_words.specs.declared.class.Class.TheVariants.{NoParent, Multi, Cycle, Inner}
+use Rattle.graph_words.specs.Whole.{AreLive}
 use Rattle.grove_edits.proofs.Vertices.{same_vertex_itself}
-use Rattle.walks.proofs.Ordered.{holds-filter, in_order-filter, same_lists}
-use Rattle.walks.proofs.Cycles.{class_is_cycle}
+use Rattle.graph_words.proofs.Ordered.{holds-filter, in_order-filter, same_lists}
+use Rattle.graph_words.proofs.Cycles.{class_is_cycle}
 use Rattle.grove_terms.proofs.OneGrove.{one_live}
 use Rattle.grove_edits.specs.declared.action.Action.{Action}
 use Rattle.grove_edits.specs.declared.action.Action.TheVariants.{Relocate, Restore}

@@ -12,8 +12,8 @@ use Rattle.grove_edits.specs.declared.edge.Edge.{Edge}
 use Rattle.grove_edits.specs.Edge.{IsWellFormed}
 use Rattle.grove_edits.specs.Vertex.{is_vertex}
 use Rattle.grove_edits.specs.Graph.{Graph}
-use Rattle.walks.specs.Live.{children_of, holds_edge}
-use Rattle.walks.specs.Whole.{AreLive}
+use Rattle.graph_words.specs.Live.{children_of, holds_edge}
+use Rattle.graph_words.specs.Whole.{AreLive}
 use Rattle.grove_edits.specs.declared.action.Place.{Place}
 use Rattle.grove_edits.specs.declared.action.Action.{Action}
 use Rattle.grove_edits.specs.declared.action.Action.TheVariants.{Wrap}

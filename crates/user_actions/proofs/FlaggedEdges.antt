@@ -8,18 +8,18 @@ use Rattle.grove_sorts.proofs.Truths.{both_true, or_left, or_right, false_from, 
 use Rattle.grove_edits.specs.declared.edge.Edge.{Edge}
 use Rattle.grove_edits.specs.Graph.{is_same_edge}
 use Rattle.grove_edits.proofs.Orders.{one_edge}
-use Rattle.walks.specs.Live.{IsInEdgeOrder, holds_edge}
-use Rattle.walks.specs.Ordered.{with_edge}
-use Rattle.walks.proofs.Ordered.{holds-with_edge, in_order-with_edge}
+use Rattle.graph_words.specs.Live.{IsInEdgeOrder, holds_edge}
+use Rattle.graph_words.specs.Ordered.{with_edge}
+use Rattle.graph_words.proofs.Ordered.{holds-with_edge, in_order-with_edge}
 use Rattle.edge_numbers.specs.Numbered.{edges_of, no_edge}
-use Rattle.walks.specs.States.{Entries, state_in, is_present}
+use Rattle.graph_words.specs.States.{Entries, state_in, is_present}
 use Rattle.live_graph.specs.NumberOf.{IsNumberOf, KeepsNumbersOf}
 use Rattle.grove_terms.proofs.InLive.{same_edge_itself}
 use Rattle.user_actions.specs.Flags.{flagged, opening_edges, present_flags}
 use Rattle.user_actions.specs.Good.{AreOpening}
 use Rattle.user_actions.specs.Lists.{ArePresent}
 use Rattle.user_actions.proofs.SomeLists.{entries_have}
-use Rattle.walks.proofs.Truths.{present_from_test, test_from_present}
+use Rattle.graph_words.proofs.Truths.{present_from_test, test_from_present}
 
 pub in_order-flagged : (es : List Edge) (flags : List Bool) → IsInEdgeOrder (flagged es flags)
 in_order-flagged [] flags = tt

@@ -16,7 +16,7 @@ use Rattle.grove_edits.specs.declared.edge.EdgeFault.TheVariants.{BadVertex, NoP
 use Rattle.grove_edits.specs.Vertex.{is_vertex, is_root, VertexInRange}
 use Rattle.grove_edits.specs.Edge.{is_sort, has_good_vertices, has_position, has_sort, IsWellFormed, EdgeInRange}
 use Rattle.grove_edits.specs.Graph.{Graph}
-use Rattle.walks.specs.Whole.{IsVertexOf}
+use Rattle.graph_words.specs.Whole.{IsVertexOf}
 use Rattle.grove_edits.proofs.WellFormed.{one_sort}
 use Rattle.user_actions.specs.Good.{AreWellFormed, AreInRange}
 use Rattle.grove_sorts.proofs.Truths.{both_true, and_true}

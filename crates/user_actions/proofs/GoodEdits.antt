@@ -16,11 +16,11 @@ use Rattle.grove_edits.specs.declared.edit.Edit.{Edit}
 use Rattle.grove_edits.specs.Vertex.{is_vertex, literal, VertexInRange, is_same_vertex, stands_in}
 use Rattle.grove_edits.specs.Edge.{IsWellFormed, EdgeInRange}
 use Rattle.grove_edits.specs.Graph.{Graph}
-use Rattle.walks.specs.Live.{holds_edge}
+use Rattle.graph_words.specs.Live.{holds_edge}
 use Rattle.grove_sorts.specs.Position.{is_same_position}
 use Rattle.grove_edits.proofs.Vertices.{same_vertex_exact}
 use Rattle.grove_edits.proofs.WellFormed.{edit_made, edge_made}
-use Rattle.walks.proofs.Ordered.{holds-filter}
+use Rattle.graph_words.proofs.Ordered.{holds-filter}
 use Rattle.grove_edits.specs.declared.action.Place.{Place}
 use Rattle.grove_edits.specs.declared.action.Action.{Action}
 use Rattle.grove_edits.specs.declared.action.Action.TheVariants.{Construct, Wrap, Become, Delete, Cut, Relocate, Restore}

@@ -12,7 +12,7 @@ use Rattle.grove_edits.specs.declared.edit.EditKind.{EditKind}
 use Rattle.grove_edits.specs.declared.edit.EditKind.TheVariants.{Insert}
 use Rattle.grove_edits.specs.Edit.{edit_edge, edit_kind}
 use Rattle.grove_edits.specs.Graph.{Graph}
-use Rattle.walks.specs.Names.{IsNameOf}
+use Rattle.graph_words.specs.Names.{IsNameOf}
 use Rattle.grove_edits.specs.declared.action.Place.{Place}
 use Rattle.grove_edits.specs.declared.action.Action.{Action}
 use Rattle.grove_edits.specs.declared.action.Action.TheVariants.{Construct, Wrap, Become, Delete, Cut, Relocate, Restore}

@@ -14,12 +14,12 @@ use Rattle.grove_sorts.specs.declared.ctor.Ctor.{Ctor}
 use Rattle.grove_sorts.specs.Ctor.{sort_at, sort_of_ctor, positions}
 use Rattle.grove_edits.specs.Edge.{IsWellFormed}
 use Rattle.grove_edits.specs.Graph.{Graph}
-use Rattle.walks.specs.Live.{IsInEdgeOrder, holds_edge, children_of}
+use Rattle.graph_words.specs.Live.{IsInEdgeOrder, holds_edge, children_of}
 use Rattle.grove_edits.specs.Vertex.{is_same_vertex}
 use Rattle.grove_sorts.specs.Position.{is_same_position}
 use Rattle.grove_edits.proofs.Vertices.{same_vertex_exact}
-use Rattle.walks.specs.Whole.{AreLive}
-use Rattle.walks.proofs.Ordered.{holds-filter, in_order-filter, same_lists}
+use Rattle.graph_words.specs.Whole.{AreLive}
+use Rattle.graph_words.proofs.Ordered.{holds-filter, in_order-filter, same_lists}
 use Rattle.grove_edits.specs.declared.act_fault.ActFault.{ActFault}
 use Rattle.user_actions.specs.Faults.{first_some}
 use Rattle.user_actions.specs.Checks.{other_sort, else_edges}
@@ -27,9 +27,9 @@ use Rattle.user_actions.specs.Carried.{carried}
 use Rattle.user_actions.specs.Good.{AreWellFormed, AreOpening}
 use Rattle.user_actions.specs.Lists.{GraphLists, AreListsOf}
 use Rattle.user_actions.specs.Names.{is_same_name, edges_named}
-use Rattle.walks.specs.Named.{AreNamed}
-use Rattle.walks.specs.States.{is_live}
-use Rattle.walks.proofs.Truths.{live_from_test}
+use Rattle.graph_words.specs.Named.{AreNamed}
+use Rattle.graph_words.specs.States.{is_live}
+use Rattle.graph_words.proofs.Truths.{live_from_test}
 use Rattle.user_actions.specs.NamedEdges.{is_live_in}
 use Rattle.user_actions.proofs.GoodEdges.{parts_of, sort_from_test}
 use Rattle.user_actions.proofs.OnePlace.{entry_found, carried_is}

@@ -13,9 +13,9 @@ use Rattle.grove_edits.specs.declared.action.Action.TheVariants.{Construct, Wrap
 use Rattle.grove_edits.specs.declared.answer.Answer.{Answer}
 use Rattle.grove_edits.specs.declared.answer.Answer.TheVariants.{Made, Moved}
 use Rattle.grove_terms.proofs.OneGrove.{one_live}
-use Rattle.walks.specs.Live.{children_of, holds_edge}
-use Rattle.walks.specs.Whole.{AreLive, IsVertexOf}
-use Rattle.walks.proofs.Ordered.{holds-filter}
+use Rattle.graph_words.specs.Live.{children_of, holds_edge}
+use Rattle.graph_words.specs.Whole.{AreLive, IsVertexOf}
+use Rattle.graph_words.proofs.Ordered.{holds-filter}
 use Rattle.user_actions.specs.Lists.{GraphLists}
 use Rattle.user_actions.specs.Names.{is_same_name, new_name, greatest_counter}
 use Rattle.user_actions.specs.PlainEdits.{new_vertex}

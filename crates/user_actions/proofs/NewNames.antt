@@ -8,10 +8,10 @@ use Rattle.grove_edits.specs.declared.vertex.Vertex.{Vertex}
 use Rattle.grove_edits.specs.declared.edge.Edge.{Edge}
 use Rattle.grove_edits.specs.Graph.{Graph, is_same_edge}
 use Rattle.grove_edits.proofs.Orders.{one_edge}
-use Rattle.walks.specs.Live.{holds_edge}
+use Rattle.graph_words.specs.Live.{holds_edge}
 use Rattle.grove_edits.specs.Vertex.{is_same_vertex, stands_in}
 use Rattle.grove_edits.proofs.Vertices.{same_vertex_exact}
-use Rattle.walks.specs.Names.{IsNameOf}
+use Rattle.graph_words.specs.Names.{IsNameOf}
 use Rattle.user_actions.specs.Lists.{GraphLists, AreListsOf}
 use Rattle.user_actions.specs.Names.{counter_by, greatest_in, names_of, greatest_counter, new_name}
 

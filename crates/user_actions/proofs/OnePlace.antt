@@ -16,11 +16,11 @@ use Rattle.grove_edits.specs.declared.edge.Edge.{Edge}
 use Rattle.grove_edits.specs.declared.edit.EditKind.TheVariants.{Insert, Delete}
 use Rattle.grove_edits.specs.Edge.{is_sort}
 use Rattle.grove_edits.specs.Graph.{Graph, is_same_edge}
-use Rattle.walks.specs.Live.{holds_edge, children_of}
+use Rattle.graph_words.specs.Live.{holds_edge, children_of}
 use Rattle.grove_edits.specs.Vertex.{is_same_vertex, stands_in}
 use Rattle.grove_sorts.specs.Position.{is_same_position}
 use Rattle.grove_edits.proofs.Vertices.{same_vertex_exact, same_vertex_itself}
-use Rattle.walks.proofs.Ordered.{holds-filter}
+use Rattle.graph_words.proofs.Ordered.{holds-filter}
 use Rattle.grove_edits.specs.declared.action.Place.{Place}
 use Rattle.user_actions.specs.Lists.{GraphLists, AreListsOf}
 use Rattle.user_actions.specs.Names.{is_same_name, new_name, edges_named, greatest_counter}

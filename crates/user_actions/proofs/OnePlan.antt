@@ -6,9 +6,9 @@ use Rattle.grove_edits.specs.declared.vertex.Vertex.{Vertex}
 use Rattle.grove_edits.specs.declared.edit.Edit.{Edit}
 use Rattle.grove_edits.specs.Graph.{Graph, IsSame}
 use Rattle.grove_edits.proofs.Unique.{edit_from_fields}
-use Rattle.walks.specs.Live.{IsInEdgeOrder, holds_edge}
-use Rattle.walks.specs.Whole.{IsVertexOf}
-use Rattle.walks.proofs.Ordered.{same_lists}
+use Rattle.graph_words.specs.Live.{IsInEdgeOrder, holds_edge}
+use Rattle.graph_words.specs.Whole.{IsVertexOf}
+use Rattle.graph_words.proofs.Ordered.{same_lists}
 use Rattle.grove_terms.proofs.OneGrove.{one_live, one_vertices}
 use Rattle.grove_edits.specs.declared.action.Action.{Action}
 use Rattle.grove_edits.specs.declared.action.Action.TheVariants.{Construct}

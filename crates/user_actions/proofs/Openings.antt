@@ -20,7 +20,7 @@ use Rattle.grove_edits.specs.Edge.{edge_cmp}
 use Rattle.grove_edits.specs.Edit.{edit_edge, edit_kind}
 use Rattle.grove_edits.specs.Graph.{Graph, graph, state_of, is_same_edge, Ascends, IsCanonical}
 use Rattle.grove_edits.proofs.Orders.{cmp_is_edge_cmp, edge_cmp_exact, edge_cmp_total, one_edge}
-use Rattle.walks.specs.Live.{IsInEdgeOrder, holds_edge}
+use Rattle.graph_words.specs.Live.{IsInEdgeOrder, holds_edge}
 use Rattle.grove_terms.proofs.InLive.{same_edge_itself}
 use Rattle.user_actions.specs.Lists.{ArePresent}
 use Rattle.grove_sorts.proofs.Truths.{or_left, or_right, false_from}

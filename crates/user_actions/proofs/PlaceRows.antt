@@ -5,10 +5,10 @@ use Rattle.std.specs.Prelude.{◌&&◌, nat_lt, Option, None, Some, is_none, opt
 use Rattle.grove_names.specs.declared.name.Name.{Name}
 use Rattle.grove_edits.specs.declared.vertex.Vertex.{Vertex}
 use Rattle.grove_edits.specs.declared.edge.Edge.{Edge}
-use Rattle.walks.specs.Live.{children_of}
-use Rattle.walks.specs.Whole.{AreLive}
+use Rattle.graph_words.specs.Live.{children_of}
+use Rattle.graph_words.specs.Whole.{AreLive}
 use Rattle.grove_edits.specs.Graph.{Graph}
-use Rattle.walks.specs.Names.{IsGreatest, IsNameOf}
+use Rattle.graph_words.specs.Names.{IsGreatest, IsNameOf}
 use Rattle.grove_terms.proofs.OneGrove.{one_live}
 use Rattle.grove_edits.specs.declared.action.Place.{Place}
 use Rattle.grove_edits.specs.declared.action.Action.{Action}

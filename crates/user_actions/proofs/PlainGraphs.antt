@@ -13,12 +13,12 @@ use Rattle.grove_edits.specs.declared.edit.EditKind.TheVariants.{Insert, Delete}
 use Rattle.grove_edits.specs.Edit.{edit_edge, edit_kind}
 use Rattle.grove_edits.specs.Graph.{Graph, graph, state_of, is_same_edge}
 use Rattle.grove_edits.proofs.Orders.{one_edge}
-use Rattle.walks.specs.Live.{IsInEdgeOrder, children_of, holds_edge}
+use Rattle.graph_words.specs.Live.{IsInEdgeOrder, children_of, holds_edge}
 use Rattle.grove_edits.specs.Vertex.{is_same_vertex}
 use Rattle.grove_sorts.specs.Position.{is_same_position}
-use Rattle.walks.specs.Whole.{AreLive}
+use Rattle.graph_words.specs.Whole.{AreLive}
 use Rattle.grove_terms.proofs.InLive.{same_edge_itself}
-use Rattle.walks.proofs.Ordered.{holds-filter, in_order-filter, same_lists}
+use Rattle.graph_words.proofs.Ordered.{holds-filter, in_order-filter, same_lists}
 use Rattle.user_actions.specs.PlainEdits.{PlainEdit, plain}
 use Rattle.grove_sorts.proofs.Truths.{both_true, or_left, and_true, same_tests}
 

@@ -9,8 +9,8 @@ use Rattle.grove_edits.specs.declared.edge.Edge.{Edge}
 use Rattle.grove_edits.specs.declared.edit.Edit.{Edit}
 use Rattle.grove_edits.specs.declared.edit.EditKind.TheVariants.{Insert}
 use Rattle.grove_edits.specs.Graph.{Graph, IsSame}
-use Rattle.walks.specs.Live.{children_of}
-use Rattle.walks.specs.Whole.{AreLive, IsVertexOf}
+use Rattle.graph_words.specs.Live.{children_of}
+use Rattle.graph_words.specs.Whole.{AreLive, IsVertexOf}
 use Rattle.grove_edits.specs.declared.action.Place.{Place}
 use Rattle.grove_edits.specs.declared.action.Action.{Action}
 use Rattle.grove_edits.specs.declared.action.Action.TheVariants.{Construct, Wrap, Become, Delete, Relocate, Restore}

@@ -4,12 +4,12 @@ use Rattle.std.specs.Prelude.{Option, None, Some, ◌-◌, ◌+◌}
 use Rattle.grove_edits.specs.declared.vertex.Vertex.{Vertex}
 use Rattle.grove_edits.specs.declared.edge.Edge.{Edge}
 use Rattle.grove_edits.specs.Vertex.{is_same_vertex, stands_in}
-use Rattle.walks.specs.Walk.{above, walk}
-use Rattle.walks.specs.Class.{is_cycle_root}
+use Rattle.graph_words.specs.Walk.{above, walk}
+use Rattle.graph_words.specs.Class.{is_cycle_root}
 use Rattle.grove_edits.proofs.Vertices.{same_vertex_exact}
-use Rattle.walks.proofs.Up.{up, next_above, walk_len, walk_least}
-use Rattle.walks.proofs.Roots.{root_back, root_least}
-use Rattle.walks.proofs.Cycles.{Reaches, ComesBack, leads_from_reaches, returns, never_none, back_from_return, root_from_least, within_walk, leads_back, up_through}
+use Rattle.graph_words.proofs.Up.{up, next_above, walk_len, walk_least}
+use Rattle.graph_words.proofs.Roots.{root_back, root_least}
+use Rattle.graph_words.proofs.Cycles.{Reaches, ComesBack, leads_from_reaches, returns, never_none, back_from_return, root_from_least, within_walk, leads_back, up_through}
 
 -- after a change, each vertex but t has the vertex above that it had, and only p can be above t
 pub record IsMoved (before after : List Edge) (t p : Vertex) : Type 0 where

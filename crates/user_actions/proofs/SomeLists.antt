@@ -11,14 +11,14 @@ use Rattle.grove_edits.specs.declared.edit.Edit.{Edit}
 use Rattle.grove_edits.specs.Edit.{edit_edge, edit_kind}
 use Rattle.grove_edits.specs.Graph.{Graph, graph, state_of, is_same_edge}
 use Rattle.grove_edits.proofs.Orders.{one_edge}
-use Rattle.walks.specs.Live.{holds_edge}
-use Rattle.walks.specs.States.{is_present, Entries, state_in, is_live}
-use Rattle.walks.specs.Ordered.{with_edges}
-use Rattle.walks.proofs.Ordered.{holds-with_edges, holds-filter, in_order-with_edges, in_order-filter}
+use Rattle.graph_words.specs.Live.{holds_edge}
+use Rattle.graph_words.specs.States.{is_present, Entries, state_in, is_live}
+use Rattle.graph_words.specs.Ordered.{with_edges}
+use Rattle.graph_words.proofs.Ordered.{holds-with_edges, holds-filter, in_order-with_edges, in_order-filter}
 use Rattle.grove_terms.proofs.InLive.{same_edge_itself}
 use Rattle.grove_terms.proofs.OneGrove.{ends_of, vertices_from}
 use Rattle.user_actions.specs.Lists.{GraphLists, AreListsOf}
-use Rattle.walks.proofs.Truths.{live_from_test, present_from_test, test_from_present}
+use Rattle.graph_words.proofs.Truths.{live_from_test, present_from_test, test_from_present}
 
 -- each edge that is not Absent stands in the list
 abbrev pub HasAll : Graph → List Edge → Type 0

@@ -8,12 +8,12 @@ use Rattle.grove_edits.specs.Edge.{edge_fault, IsWellFormed, EdgeInRange}
 use Rattle.grove_edits.specs.Edit.{edit_edge, edit_kind}
 use Rattle.grove_edits.specs.Graph.{Graph, graph, graph_join, state_of, is_same_edge, IsSame}
 use Rattle.grove_edits.proofs.Orders.{one_edge}
-use Rattle.walks.specs.Live.{IsInEdgeOrder}
+use Rattle.graph_words.specs.Live.{IsInEdgeOrder}
 use Rattle.grove_edits.specs.declared.action.Action.{Action}
 use Rattle.grove_edits.specs.declared.act_fault.ActFault.{ActFault}
 use Rattle.grove_edits.specs.declared.answer.Answer.{Answer}
 use Rattle.grove_edits.specs.declared.answer.Answer.TheVariants.{Refused}
-use Rattle.walks.specs.States.{well_formed}
+use Rattle.graph_words.specs.States.{well_formed}
 use Rattle.user_actions.specs.Lists.{GraphLists, AreListsOf, ArePresent}
 use Rattle.user_actions.specs.Faults.{first_fault}
 use Rattle.user_actions.specs.Plan.{IsPlan, IsMade}

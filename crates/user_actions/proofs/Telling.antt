@@ -13,10 +13,10 @@ use Rattle.grove_edits.specs.declared.edge.Edge.{Edge}
 use Rattle.grove_edits.specs.Vertex.{vertex_cmp, is_same_vertex, stands_in}
 use Rattle.grove_edits.specs.Graph.{Graph}
 use Rattle.grove_edits.proofs.Orders.{vertex_cmp_total}
-use Rattle.walks.specs.Live.{holds_edge}
-use Rattle.walks.specs.Whole.{IsInVertexOrder}
+use Rattle.graph_words.specs.Live.{holds_edge}
+use Rattle.graph_words.specs.Whole.{IsInVertexOrder}
 use Rattle.grove_edits.proofs.Vertices.{same_vertex_exact, same_vertex_itself}
-use Rattle.walks.specs.Names.{IsGreatest, IsNameOf, name_by}
+use Rattle.graph_words.specs.Names.{IsGreatest, IsNameOf, name_by}
 use Rattle.grove_edits.specs.declared.act_fault.ActFault.{ActFault}
 use Rattle.grove_edits.specs.declared.act_fault.ActFault.TheVariants.{NoVertex, AmbiguousVertex, NoPosition, WrongSort, Occupied, Empty, CannotWrap, NoEdge, AmbiguousEdge, IntoItself, NotLoose, NamesSpent}
 use Rattle.user_actions.specs.Lists.{GraphLists, AreListsOf}

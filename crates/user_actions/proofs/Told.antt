@@ -5,7 +5,7 @@ use Rattle.grove_edits.specs.declared.edge.Edge.{Edge}
 use Rattle.grove_edits.specs.declared.action.Action.{Action}
 use Rattle.grove_edits.specs.declared.action.Action.TheVariants.{Construct}
 use Rattle.grove_edits.specs.Graph.{Graph}
-use Rattle.walks.specs.Live.{IsInEdgeOrder}
+use Rattle.graph_words.specs.Live.{IsInEdgeOrder}
 use Rattle.user_actions.specs.declared.planned.Plan.{Plan}
 use Rattle.user_actions.specs.declared.planned.PlanFault.{PlanFault}
 use Rattle.user_actions.specs.declared.planned.PlanFault.TheVariants.{Refused, NoMemory}

@@ -4,14 +4,14 @@ use Rattle.std.specs.Prelude.{◌||◌, ◌-◌, leb, Option, None, Some}
 use Rattle.std.proofs.lemmas.Bool.{leb-true, leb-false}
 use Rattle.grove_edits.specs.declared.vertex.Vertex.{Vertex}
 use Rattle.grove_edits.specs.declared.edge.Edge.{Edge}
-use Rattle.walks.specs.Live.{targets_of}
+use Rattle.graph_words.specs.Live.{targets_of}
 use Rattle.grove_edits.specs.Vertex.{is_same_vertex, stands_in}
-use Rattle.walks.specs.Walk.{above, GoesOn, walk}
+use Rattle.graph_words.specs.Walk.{above, GoesOn, walk}
 use Rattle.grove_edits.proofs.Vertices.{same_vertex_exact, same_vertex_itself}
-use Rattle.walks.proofs.Endings.{AllStandIn, AreApart, length-AllStandIn, target_list, target-from_above, walk_is}
-use Rattle.walks.proofs.Up.{up, walk_len, up_none_along}
-use Rattle.walks.specs.Cycle.{leads_to}
-use Rattle.walks.proofs.Cycles.{Reaches, reaches_from_leads, leads_from_reaches, within_walk}
+use Rattle.graph_words.proofs.Endings.{AllStandIn, AreApart, length-AllStandIn, target_list, target-from_above, walk_is}
+use Rattle.graph_words.proofs.Up.{up, walk_len, up_none_along}
+use Rattle.graph_words.specs.Cycle.{leads_to}
+use Rattle.graph_words.proofs.Cycles.{Reaches, reaches_from_leads, leads_from_reaches, within_walk}
 use Rattle.grove_sorts.proofs.Truths.{false_from, or_left, or_right}
 
 or_both : (a b c : Bool) → a ≡ b → (a || c) ≡ (b || c)

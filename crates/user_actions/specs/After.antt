@@ -11,7 +11,7 @@ use Rattle.grove_edits.specs.declared.edit.Edit.{Edit}
 use Rattle.grove_edits.specs.Vertex.{is_same_vertex}
 use Rattle.grove_edits.specs.Edit.{edit_edge}
 use Rattle.grove_edits.specs.Graph.{Graph, graph, graph_join, is_same_edge}
-use Rattle.walks.specs.Live.{children_of, is_from}
+use Rattle.graph_words.specs.Live.{children_of, is_from}
 use Rattle.grove_edits.specs.declared.answer.Answer.{Answer}
 use Rattle.grove_edits.specs.declared.answer.Answer.TheVariants.{Refused}
 use Rattle.user_actions.specs.Carried.{has_same_sort}

@@ -9,7 +9,7 @@ use Rattle.grove_edits.specs.declared.vertex.Vertex.{Vertex}
 use Rattle.grove_edits.specs.declared.edge.Edge.{Edge}
 use Rattle.grove_edits.specs.Edge.{is_sort}
 use Rattle.grove_edits.specs.Vertex.{stands_in}
-use Rattle.walks.specs.Walk.{walk}
+use Rattle.graph_words.specs.Walk.{walk}
 use Rattle.grove_edits.specs.declared.action.Place.{Place}
 use Rattle.grove_edits.specs.declared.act_fault.ActFault.{ActFault}
 use Rattle.grove_edits.specs.declared.act_fault.ActFault.TheVariants.{AmbiguousVertex, WrongSort, NoEdge, AmbiguousEdge, IntoItself}

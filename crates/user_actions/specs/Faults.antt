@@ -1,4 +1,5 @@
 -- When each fault of an action applies, and the first that does.
+-- The promise of the commands rests on these definitions.
 use Rattle.std.specs.Prelude.{ℕ, ◌+◌, ◌&&◌, nat_lt, List, [], ◌∷◌, slice_get, Option, None, Some, is_none, option_map, if◌then◌else◌}
 use Rattle.grove_names.specs.declared.name.Name.{Name}
 use Rattle.grove_edits.specs.declared.vertex.Vertex.{Vertex}

@@ -1,9 +1,9 @@
 -- The edges that a block opened with, told by a flag for each number of an edge.
 use Rattle.std.specs.Prelude.{Bool, List, [], ◌∷◌, map, if◌then◌else◌}
 use Rattle.grove_edits.specs.declared.edge.Edge.{Edge}
-use Rattle.walks.specs.Ordered.{with_edge}
+use Rattle.graph_words.specs.Ordered.{with_edge}
 use Rattle.edge_numbers.specs.Numbered.{edges_of}
-use Rattle.walks.specs.States.{Entries, state_in, is_present}
+use Rattle.graph_words.specs.States.{Entries, state_in, is_present}
 
 -- those of these edges whose flag is true, in edge order; an edge behind the last flag has none
 abbrev pub flagged : List Edge → List Bool → List Edge

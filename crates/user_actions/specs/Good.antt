@@ -5,7 +5,7 @@ use Rattle.grove_edits.specs.declared.edge.Edge.{Edge}
 use Rattle.grove_edits.specs.Vertex.{literal}
 use Rattle.grove_edits.specs.Edge.{IsWellFormed, EdgeInRange}
 use Rattle.grove_edits.specs.Graph.{Graph}
-use Rattle.walks.specs.Live.{holds_edge}
+use Rattle.graph_words.specs.Live.{holds_edge}
 use Rattle.grove_edits.specs.declared.action.Action.{Action}
 use Rattle.grove_edits.specs.declared.action.Action.TheVariants.{Construct, Wrap, Become}
 

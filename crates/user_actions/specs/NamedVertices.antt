@@ -2,10 +2,10 @@
 use Rattle.std.specs.Prelude.{◌≡◌, ◌⊎◌}
 use Rattle.grove_names.specs.declared.name.Name.{Name}
 use Rattle.grove_edits.specs.declared.vertex.Vertex.{Vertex}
-use Rattle.walks.specs.declared.named.Named.TheVariants.{Zero, One, More}
-use Rattle.walks.specs.Named.{AreLeastTwo}
+use Rattle.graph_words.specs.declared.named.Named.TheVariants.{Zero, One, More}
+use Rattle.graph_words.specs.Named.{AreLeastTwo}
 use Rattle.grove_edits.specs.Graph.{Graph}
-use Rattle.walks.specs.Whole.{IsVertexOf}
+use Rattle.graph_words.specs.Whole.{IsVertexOf}
 use Rattle.grove_edits.specs.declared.act_fault.ActFault.{ActFault}
 use Rattle.grove_edits.specs.declared.act_fault.ActFault.TheVariants.{NoVertex, AmbiguousVertex}
 

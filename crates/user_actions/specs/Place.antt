@@ -1,11 +1,12 @@
 -- The place of an action, its vertex, and what stands there.
+-- The promise of the commands rests on these definitions.
 use Rattle.std.specs.Prelude.{List, Option, None, Some, slice_get}
 use Rattle.grove_names.specs.declared.name.Name.{Name}
 use Rattle.grove_sorts.specs.declared.sort.Sort.{Sort}
 use Rattle.grove_sorts.specs.Ctor.{sort_at}
 use Rattle.grove_edits.specs.declared.vertex.Vertex.{Vertex}
 use Rattle.grove_edits.specs.declared.edge.Edge.{Edge}
-use Rattle.walks.specs.Live.{children_of}
+use Rattle.graph_words.specs.Live.{children_of}
 use Rattle.grove_edits.specs.declared.action.Place.{Place}
 use Rattle.user_actions.specs.Lists.{GraphLists}
 use Rattle.user_actions.specs.Names.{vertices_named}

@@ -1,4 +1,5 @@
 -- Edits as plain data, and those that each action makes.
+-- The promise of the commands rests on these definitions.
 use Rattle.std.specs.Prelude.{ℕ, ◌+◌, List, [], ◌∷◌, ◌++◌, map, Option, None, Some}
 use Rattle.grove_names.specs.declared.name.Name.{Name}
 use Rattle.grove_sorts.specs.declared.position.Position.{Position}

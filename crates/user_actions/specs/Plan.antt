@@ -1,9 +1,10 @@
 -- What an action does to a graph: its edits, and what is answered.
+-- The promise of the commands rests on these definitions.
 use Rattle.std.specs.Prelude.{◌≡◌, ℕ, List, [], map, Option, None, Some}
 use Rattle.grove_edits.specs.declared.edge.Edge.{Edge}
 use Rattle.grove_edits.specs.declared.edit.Edit.{Edit}
 use Rattle.grove_edits.specs.Graph.{Graph}
-use Rattle.walks.specs.Live.{IsInEdgeOrder}
+use Rattle.graph_words.specs.Live.{IsInEdgeOrder}
 use Rattle.grove_edits.specs.declared.action.Action.{Action}
 use Rattle.grove_edits.specs.declared.act_fault.ActFault.{ActFault}
 use Rattle.grove_edits.specs.declared.answer.Answer.{Answer}

@@ -2,8 +2,8 @@
 use Rattle.std.specs.Prelude.{◌≡◌, ◌<◌, ℕ, List, [], Some, Result, Ok, Err}
 use Rattle.grove_edits.specs.declared.edge.Edge.{Edge}
 use Rattle.grove_edits.specs.Graph.{Graph}
-use Rattle.walks.specs.Live.{IsInEdgeOrder}
-use Rattle.walks.specs.Whole.{AreLive}
+use Rattle.graph_words.specs.Live.{IsInEdgeOrder}
+use Rattle.graph_words.specs.Whole.{AreLive}
 use Rattle.grove_edits.specs.declared.action.Action.{Action}
 use Rattle.grove_edits.specs.declared.answer.Answer.TheVariants.{Refused as refused}
 use Rattle.user_actions.specs.declared.planned.Plan.{Plan}

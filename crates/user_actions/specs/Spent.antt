@@ -1,6 +1,6 @@
 -- That an author's new names are spent.
 use Rattle.std.specs.Prelude.{ℕ, ◌+◌, ◌<◌}
-use Rattle.walks.specs.Names.{IsGreatest, IsNameOf}
+use Rattle.graph_words.specs.Names.{IsGreatest, IsNameOf}
 use Rattle.grove_edits.specs.Graph.{Graph}
 use Rattle.grove_edits.specs.declared.act_fault.ActFault.{ActFault}
 use Rattle.grove_edits.specs.declared.act_fault.ActFault.TheVariants.{NamesSpent}

@@ -9,12 +9,12 @@ ghost use Rattle.user_actions.specs.Admitted.{made_of, edits_made, answer_made, 
 
 use crate::edits::{carry_over, delete, delete_each, put, put_below};
 use crate::new_names::NewNames;
-use crate::no_memory::NoMemory;
 use crate::planned::Plan;
 use crate::spot::Spot;
 use grove_edits::{Answer, Edge, EditList, Vertex};
 use grove_sorts::{Ctor, Position};
 use std::alloc::Global;
+use text_parts::NoMemory;
 
 /// What the checks of an action found, which is all that its edits are made of.
 #[derive(Drop)]

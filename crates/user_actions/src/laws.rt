@@ -16,12 +16,12 @@ ghost use Rattle.grove_edits.specs.declared.answer.Answer.TheVariants.{Made, Mov
 ghost use Rattle.grove_edits.specs.Vertex.{stands_in};
 ghost use Rattle.grove_edits.specs.Edit.{edit_edge, edit_kind};
 ghost use Rattle.grove_edits.specs.Graph.{Graph, graph, IsSame};
-ghost use Rattle.walks.specs.Live.{IsInEdgeOrder, children_of, holds_edge};
-ghost use Rattle.walks.specs.declared.class.Class.TheVariants.{Cycle};
-ghost use Rattle.walks.specs.Class.{class};
-ghost use Rattle.walks.specs.Whole.{AreLive, IsVertexOf};
-ghost use Rattle.walks.specs.Names.{IsNameOf};
-ghost use Rattle.walks.specs.States.{well_formed};
+ghost use Rattle.graph_words.specs.Live.{IsInEdgeOrder, children_of, holds_edge};
+ghost use Rattle.graph_words.specs.declared.class.Class.TheVariants.{Cycle};
+ghost use Rattle.graph_words.specs.Class.{class};
+ghost use Rattle.graph_words.specs.Whole.{AreLive, IsVertexOf};
+ghost use Rattle.graph_words.specs.Names.{IsNameOf};
+ghost use Rattle.graph_words.specs.States.{well_formed};
 ghost use Rattle.user_actions.specs.Lists.{ArePresent};
 ghost use Rattle.user_actions.specs.Plan.{IsPlan};
 ghost use Rattle.user_actions.specs.After.{graph_after, IsAccepted, vertex_of, targets_at, goes_along, NamesNot};

@@ -10,7 +10,6 @@ mod edits;
 mod laws;
 mod live_view;
 mod new_names;
-mod no_memory;
 mod opening_flags;
 mod place;
 mod plan_view;
@@ -27,8 +26,8 @@ pub use laws::{
     other_places_stay,
 };
 pub use live_view::LiveView;
-pub use no_memory::NoMemory;
 pub use opening_flags::OpeningFlags;
 pub use plan_view::PlanView;
 pub use planned::{Plan, PlanFault};
 pub use planning::plan;
+pub use text_parts::NoMemory;

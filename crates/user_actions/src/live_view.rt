@@ -1,11 +1,11 @@
 ghost use Rattle.std.specs.Prelude.{◌≡◌, ◌<◌, IfOk};
-ghost use Rattle.walks.specs.Live.{children_of};
+ghost use Rattle.graph_words.specs.Live.{children_of};
 ghost use Rattle.live_graph.specs.Live.{live};
 
-use crate::no_memory::NoMemory;
 use crate::opening_flags::OpeningFlags;
 use crate::plan_view::PlanView;
 use edge_lattice::State;
+use graph_words::{Few, Named, ParentOf, Steps};
 use grove_edits::{Edge, Vertex};
 use grove_names::Name;
 use grove_sorts::Position;
@@ -13,7 +13,7 @@ use live_graph::{Edges, LiveGraph};
 use std::alloc::Global;
 use std::marker::Brand;
 use std::sync::ledger::{Blank, Ledger};
-use walks::{Few, Named, ParentOf, Steps};
+use text_parts::NoMemory;
 
 /// What a plan reads of a live graph: the graph, and which of its edges were not Absent as the block opened.
 #[derive(Clone, Copy)]
@@ -73,7 +73,7 @@ impl<'a> ParentOf for LiveView<'a> {
 }
 
 impl<'a> PlanView for LiveView<'a> {
-    ghost use Rattle.walks.specs.States.{state_in};
+    ghost use Rattle.graph_words.specs.States.{state_in};
     ghost use Rattle.live_graph.specs.Live.{live as live_edges};
     ghost use Rattle.user_actions.specs.Flags.{opening_edges};
 

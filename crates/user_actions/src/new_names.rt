@@ -1,5 +1,5 @@
 ghost use Rattle.std.specs.Prelude.{◌≡◌, ◌+◌, ◌<◌, ◌≤◌, ◌^◌, IfOk, IfErr};
-ghost use Rattle.walks.specs.Names.{IsGreatest, IsNameOf};
+ghost use Rattle.graph_words.specs.Names.{IsGreatest, IsNameOf};
 ghost use Rattle.user_actions.specs.Faults.{last_counter};
 ghost use Rattle.user_actions.specs.Names.{new_name};
 ghost use Rattle.user_actions.specs.PlainEdits.{new_vertex};

@@ -1,15 +1,15 @@
 ghost use Rattle.std.specs.Prelude.{◌≡◌, IfOk};
-ghost use Rattle.walks.specs.States.{state_in, is_present as is_present_state};
-ghost use Rattle.walks.specs.Live.{holds_edge};
+ghost use Rattle.graph_words.specs.States.{state_in, is_present as is_present_state};
+ghost use Rattle.graph_words.specs.Live.{holds_edge};
 ghost use Rattle.user_actions.specs.Flags.{opening_edges, present_flags};
 ghost use Rattle.user_actions.specs.Lists.{ArePresent};
 
-use crate::no_memory::NoMemory;
 use edge_lattice::State;
 use grove_edits::Edge;
 use live_graph::LiveGraph;
 use std::alloc::Global;
 use std::marker::Model;
+use text_parts::NoMemory;
 
 /// Which edges of a live graph were not Absent when the flags were made: a flag for each number that an edge had then. They serve as long
 /// as the numbers of that graph stay, and take a byte for each edge. Contracts see the flags.

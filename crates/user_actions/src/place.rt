@@ -1,24 +1,24 @@
 ghost use Rattle.std.specs.Prelude.{◌≡◌, ◌<◌, [], ◌∷◌, Some, None, IfOk, OnOk, is_none, option_map, slice_get, filter, not, if◌then◌else◌};
 ghost use Rattle.grove_sorts.specs.Ctor.{first_position, sort_of_ctor};
 ghost use Rattle.grove_edits.specs.declared.edge.Edge.{Edge};
-ghost use Rattle.walks.specs.Live.{children_of, parents_of};
-ghost use Rattle.walks.specs.Few.{first_two};
+ghost use Rattle.graph_words.specs.Live.{children_of, parents_of};
+ghost use Rattle.graph_words.specs.Few.{first_two};
 ghost use Rattle.user_actions.specs.Faults.{first_some};
 ghost use Rattle.user_actions.specs.Names.{is_same_name};
 ghost use Rattle.user_actions.specs.Place.{sort_at_place};
 ghost use Rattle.user_actions.specs.Checks.{other_sort, only_target, two_edges, none_named, below_itself};
 ghost use Rattle.user_actions.specs.Told.{Tells};
-ghost use Rattle.walks.specs.Cycle.{leads_to};
+ghost use Rattle.graph_words.specs.Cycle.{leads_to};
 
 use crate::plan_view::PlanView;
 use crate::walk_up::leads_to;
+use graph_words::{Few, Steps};
 use grove_edits::{ActFault, Edge, Place, Vertex};
 use grove_names::Name;
 use grove_sorts::{Ctor, Position, Sort, first_position_of_sort, position_sort, sort_of};
 use std::cmp::Ordering;
 use std::marker::Brand;
 use std::sync::ledger::{Blank, Ledger};
-use walks::{Few, Steps};
 
 /// The sort of the children at a place, or that its vertex has no such position.
 pub(crate) fn wanted_sort(vertex: &Vertex, place: Place) -> Result<Sort, ActFault>

@@ -1,17 +1,17 @@
 ghost use Rattle.std.specs.Prelude.{◌≡◌, length, slice_get, IfOk};
-ghost use Rattle.walks.specs.Live.{IsInEdgeOrder, children_of, holds_edge};
-ghost use Rattle.walks.specs.Names.{IsGreatest, IsNameOf};
-ghost use Rattle.walks.specs.Named.{AreLeastTwo, AreNamed};
+ghost use Rattle.graph_words.specs.Live.{IsInEdgeOrder, children_of, holds_edge};
+ghost use Rattle.graph_words.specs.Names.{IsGreatest, IsNameOf};
+ghost use Rattle.graph_words.specs.Named.{AreLeastTwo, AreNamed};
 ghost use Rattle.user_actions.specs.Lists.{IsFinite};
 ghost use Rattle.user_actions.specs.NamedVertices.{IsVertexNamed};
 
-use crate::no_memory::NoMemory;
 use edge_lattice::State;
+use graph_words::{Named, ParentOf};
 use grove_edits::{Edge, Vertex};
 use grove_names::Name;
 use grove_sorts::Position;
 use std::alloc::Global;
-use walks::{Named, ParentOf};
+use text_parts::NoMemory;
 
 /// What a plan reads: a graph, with the live edges from each vertex and those to it, and the edges that were not Absent as the block
 /// opened. As `ParentOf` it tells the live edges to each vertex.

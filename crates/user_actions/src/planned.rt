@@ -1,8 +1,8 @@
 ghost use Rattle.std.specs.Prelude.{◌≡◌};
 ghost use Rattle.user_actions.specs.declared.planned.PlanFault.TheVariants.{Refused, NoMemory as no_memory};
 
-use crate::no_memory::NoMemory;
 use grove_edits::{ActFault, Answer, EditList};
+use text_parts::NoMemory;
 
 /// The edits of an action, in order, and what is answered.
 #[derive(Debug, Drop)]

@@ -1,5 +1,5 @@
 ghost use Rattle.std.specs.Prelude.{◌≡◌, ◌<◌, IfOk, IfErr};
-ghost use Rattle.walks.specs.Whole.{AreLive};
+ghost use Rattle.graph_words.specs.Whole.{AreLive};
 ghost use Rattle.user_actions.specs.Good.{AreWellFormed, AreOpening};
 ghost use Rattle.user_actions.specs.Lists.{GraphLists, AreListsOf};
 ghost use Rattle.user_actions.specs.After.{IsAccepted};

@@ -2,9 +2,9 @@ ghost use Rattle.std.specs.Prelude.{◌≡◌, IfOk, IfErr};
 ghost use Rattle.user_actions.specs.NamedVertices.{IsOneNamed, IsVertexFault, IsFirstVertexFault};
 
 use crate::plan_view::PlanView;
+use graph_words::Named;
 use grove_edits::{ActFault, Vertex};
 use grove_names::Name;
-use walks::Named;
 
 /// The one vertex of the graph with a name.
 pub(crate) fn vertex_named<V: PlanView>(view: &V, name: Name) -> Result<Vertex, ActFault>

@@ -1,10 +1,10 @@
 ghost use Rattle.std.specs.Prelude.{◌≡◌, ◌<◌};
-ghost use Rattle.walks.specs.Walk.{above};
-ghost use Rattle.walks.specs.Cycle.{leads_to};
+ghost use Rattle.graph_words.specs.Walk.{above};
+ghost use Rattle.graph_words.specs.Cycle.{leads_to};
 
+use graph_words::{ParentOf, Steps, vertex_above};
 use grove_edits::{Vertex, is_same_vertex};
 use std::sync::ledger::Ledger;
-use walks::{ParentOf, Steps, vertex_above};
 
 /// Whether a vertex stands on the walk up from another. The walk has at most one vertex without a live parent edge that it goes
 /// on from, so a longer one goes round.

@@ -7,9 +7,9 @@ use Rattle.grove_edits.specs.declared.edge.Edge.{Edge}
 use Rattle.grove_edits.specs.Graph.{Graph}
 use Rattle.grove_edits.specs.Vertex.{is_same_vertex, stands_in}
 use Rattle.grove_edits.proofs.Vertices.{same_vertex_itself}
-use Rattle.walks.specs.declared.class.Class.{Class}
-use Rattle.walks.specs.Class.{of_class}
-use Rattle.walks.specs.Whole.{IsVertexOf, AreVertices}
+use Rattle.graph_words.specs.declared.class.Class.{Class}
+use Rattle.graph_words.specs.Class.{of_class}
+use Rattle.graph_words.specs.Whole.{IsVertexOf, AreVertices}
 use Rattle.grove_decompose.proofs.ByNumber.{all_of}
 
 pub first_held : (g : Graph) (v : Vertex) (left rest : List Vertex) → left ≡ v ∷ rest → AllByRecursion (IsVertexOf g) left → IsVertexOf g v × AllByRecursion (IsVertexOf g) rest

@@ -2,24 +2,24 @@ ghost use Rattle.std.specs.Prelude.{◌≡◌, ◌<◌, IfOk};
 ghost use Rattle.edge_lattice.specs.declared.state.State.TheVariants.{Live};
 ghost use Rattle.grove_edits.specs.declared.edge.Edge.{Edge};
 ghost use Rattle.grove_edits.specs.Edge.{IsWellFormed};
-ghost use Rattle.walks.specs.Whole.{AreLive};
+ghost use Rattle.graph_words.specs.Whole.{AreLive};
 ghost use Rattle.edge_index.specs.Lists.{live};
-ghost use Rattle.walks.specs.States.{state_in};
+ghost use Rattle.graph_words.specs.States.{state_in};
 ghost use Rattle.grove_terms.specs.Grove.{IsGrove};
 ghost use Rattle.grove_terms.specs.Sorted.{IsSortedGrove};
 
 use crate::heads::find_heads;
 use crate::listing_trees::trees_of;
-use crate::no_memory::NoMemory;
 use child_index::ChildIndex;
 use graph_store::GraphStore;
+use graph_words::Steps;
 use grove_terms::Grove;
 use parent_index::ParentIndex;
 use std::alloc::Global;
 use std::marker::Brand;
 use std::sync::ledger::{Blank, Ledger};
+use text_parts::NoMemory;
 use unicycle_roots::cycle_roots;
-use walks::Steps;
 
 /// The grove of the graph that a store holds, of which the indexes hold the live edges. Its trees are well sorted where the live edges
 /// are well formed, as they are where the store was raised by edits.

@@ -3,10 +3,10 @@ ghost use Rattle.marking.specs.Reading.{bare_nodes};
 
 use crate::marked_grove::MarkedGrove;
 use crate::marked_tree_list::MarkedTreeList;
-use crate::no_memory::NoMemory;
 use grove_terms::{Grove, Tree, TreeList};
 use marking::MarkedTree;
 use std::alloc::Global;
+use text_parts::NoMemory;
 
 /// The grove without what marking added.
 pub fn erase<'t>(alloc: Global, marked: &MarkedGrove<'_, 't>) -> Result<Grove<'t>, NoMemory>

@@ -1,12 +1,12 @@
 ghost use Rattle.std.specs.Prelude.{◌≡◌, IfOk};
-ghost use Rattle.walks.specs.declared.class.Class.TheVariants.{NoParent, Multi};
-ghost use Rattle.walks.specs.Class.{of_class};
+ghost use Rattle.graph_words.specs.declared.class.Class.TheVariants.{NoParent, Multi};
+ghost use Rattle.graph_words.specs.Class.{of_class};
 
-use crate::no_memory::NoMemory;
+use graph_words::{Few, ParentOf, Steps};
 use grove_edits::Vertex;
 use std::alloc::Global;
 use std::sync::ledger::Ledger;
-use walks::{Few, ParentOf, Steps};
+use text_parts::NoMemory;
 
 /// Vertices that head trees and stand on no cycle.
 #[derive(Drop)]

@@ -13,7 +13,6 @@ mod marked_grove;
 mod marked_lines;
 mod marked_tree_list;
 mod marking_groves;
-mod no_memory;
 mod printing;
 
 pub use decomposition::decompose;
@@ -24,5 +23,5 @@ pub use marked_grove::MarkedGrove;
 pub use marked_lines::print_marked_lines;
 pub use marked_tree_list::MarkedTreeList;
 pub use marking_groves::mark_grove;
-pub use no_memory::NoMemory;
 pub use printing::print_grove;
+pub use text_parts::NoMemory;

@@ -3,9 +3,9 @@ ghost use Rattle.grove_terms.specs.Nodes.{node_edges};
 ghost use Rattle.grove_terms.specs.Grove.{trees_edges, edges_in};
 
 use crate::edge_list::EdgeList;
-use crate::no_memory::NoMemory;
 use grove_terms::{Grove, Tree};
 use std::alloc::Global;
+use text_parts::NoMemory;
 
 /// The edge of each place of a grove, tree by tree and in preorder.
 pub fn edges(alloc: Global, grove: &Grove) -> Result<EdgeList, NoMemory>

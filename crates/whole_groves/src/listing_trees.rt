@@ -1,17 +1,17 @@
 ghost use Rattle.std.specs.Prelude.{◌≡◌, ◌≢◌, ◌≤◌, [], ◌∷◌, IfOk};
 ghost use Rattle.std.specs.List.{AllByRecursion};
-ghost use Rattle.walks.specs.declared.class.Class.TheVariants.{Inner};
-ghost use Rattle.walks.specs.Class.{class};
-ghost use Rattle.walks.specs.Whole.{IsVertexOf};
-ghost use Rattle.walks.specs.States.{state_in};
+ghost use Rattle.graph_words.specs.declared.class.Class.TheVariants.{Inner};
+ghost use Rattle.graph_words.specs.Class.{class};
+ghost use Rattle.graph_words.specs.Whole.{IsVertexOf};
+ghost use Rattle.graph_words.specs.States.{state_in};
 ghost use Rattle.edge_index.specs.Lists.{live};
 ghost use Rattle.grove_terms.specs.Grove.{IsTreeOf, AreTreesOf};
 
 use crate::live_indexes::{LiveIndexes, NoNotes};
-use crate::no_memory::NoMemory;
 use child_index::ChildIndex;
 use edit_table::LentVertex;
 use graph_store::GraphStore;
+use graph_words::Steps;
 use grove_decompose::{Room, tree_of};
 use grove_edits::{Edge, Vertex};
 use grove_terms::{LentNode, Tree, TreeList};
@@ -19,7 +19,7 @@ use parent_index::ParentIndex;
 use std::alloc::Global;
 use std::marker::PhantomData;
 use std::sync::ledger::Ledger;
-use walks::Steps;
+use text_parts::NoMemory;
 
 fn tree_at<'g, L: Ledger>(
     alloc: Global,

@@ -2,6 +2,7 @@ ghost use Rattle.std.specs.Prelude.{◌≡◌};
 ghost use Rattle.edge_index.specs.Lists.{live};
 
 use child_index::ChildIndex;
+use graph_words::{Few, ParentOf, Steps};
 use grove_decompose::{NoMemory, TreeSource};
 use grove_edits::{Edge, Vertex};
 use grove_sorts::Position;
@@ -9,7 +10,6 @@ use grove_terms::LentEdge;
 use parent_index::ParentIndex;
 use std::marker::PhantomData;
 use std::sync::ledger::Ledger;
-use walks::{Few, ParentOf, Steps};
 
 /// The live edges of a graph by both their ends. The look-ups are counted in a ledger.
 #[derive(Drop)]

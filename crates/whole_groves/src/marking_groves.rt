@@ -8,11 +8,11 @@ ghost use Rattle.grove_terms.specs.Sorted.{AreSortedTrees, IsSortedGrove};
 
 use crate::marked_grove::MarkedGrove;
 use crate::marked_tree_list::MarkedTreeList;
-use crate::no_memory::NoMemory;
 use ctx_table::CtxTable;
 use grove_terms::{Grove, TreeList};
 use mark_rules::{OpenFrames, mark_tree};
 use std::alloc::Global;
+use text_parts::NoMemory;
 use type_core::TypeTable;
 
 fn mark_trees<'n, 't>(

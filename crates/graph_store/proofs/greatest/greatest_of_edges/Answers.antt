@@ -7,7 +7,7 @@ use Rattle.std.specs.Iterator.Adapters.{rev_source}
 use Rattle.edge_lattice.specs.declared.state.State.{State}
 use Rattle.grove_edits.specs.declared.edge.Edge.{Edge}
 use Rattle.grove_edits.specs.contracts.edge.EdgeOrd.TheImpl as edge_impl
-use Rattle.walks.specs.States.{is_present, Entries}
+use Rattle.graph_words.specs.States.{is_present, Entries}
 use Rattle.graph_store.proofs.Maxima.{all_left, left_greater, left_absent, found_last, found_none, maximum_empty}
 use Rattle.graph_store.proofs.AuthorNames.{edges_in_name_order, greatest_of_edges}
 use Rattle.graph_store.proofs.greatest.greatest_of_edges.Goals as goal

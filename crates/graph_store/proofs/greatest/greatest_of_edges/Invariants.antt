@@ -1,7 +1,7 @@
 use Rattle.std.specs.Iterator.Adapters.{rev_source}
 use Rattle.grove_edits.specs.declared.edge.Edge.{Edge}
 use Rattle.grove_edits.specs.contracts.edge.EdgeOrd.TheImpl as edge_impl
-use Rattle.walks.specs.States.{is_present}
+use Rattle.graph_words.specs.States.{is_present}
 use Rattle.graph_store.proofs.Maxima.{IsLeft}
 use Rattle.graph_store.proofs.greatest.greatest_of_edges.Given as goal
 

@@ -9,7 +9,7 @@ use Rattle.edge_lattice.specs.declared.state.State.{State}
 use Rattle.grove_names.specs.Name.{name_cmp}
 use Rattle.grove_edits.specs.declared.edge.Edge.{Edge}
 use Rattle.grove_edits.specs.contracts.edge.EdgeOrd.TheImpl as edge_impl
-use Rattle.walks.specs.States.{is_present, Entries}
+use Rattle.graph_words.specs.States.{is_present, Entries}
 use Rattle.graph_store.proofs.Leasts.{pick, picked_first}
 use Rattle.graph_store.proofs.Names.{found_is_least}
 use Rattle.graph_store.proofs.named.first_named.Goals as goal

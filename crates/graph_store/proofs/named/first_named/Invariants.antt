@@ -1,6 +1,6 @@
 use Rattle.std.proofs.Common.{◌≡◌}
 use Rattle.grove_edits.specs.declared.edge.Edge.{Edge}
-use Rattle.walks.specs.States.{is_present}
+use Rattle.graph_words.specs.States.{is_present}
 use Rattle.graph_store.proofs.Leasts.{pick}
 use Rattle.graph_store.proofs.named.first_named.Given as goal
 

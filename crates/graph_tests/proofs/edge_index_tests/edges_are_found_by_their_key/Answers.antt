@@ -1,8 +1,8 @@
 use Rattle.std.proofs.Common.{ap, ◌∙◌}
 use Rattle.grove_sorts.proofs.Truths.{or_left}
 use Rattle.grove_edits.proofs.Orders.{same_edge_laws}
-use Rattle.walks.specs.Live.{holds_edge}
-use Rattle.walks.proofs.Ordered.{holds-with_edge}
+use Rattle.graph_words.specs.Live.{holds_edge}
+use Rattle.graph_words.proofs.Ordered.{holds-with_edge}
 use Rattle.graph_tests.proofs.edge_index_tests.edges_are_found_by_their_key.Goals as goal
 
 pub remove-requires : goal.remove-requires

@@ -1,5 +1,5 @@
 use Rattle.std.proofs.Common.{◌<◌, ℕ, List, [], length, map, sym, ap, subst}
-use Rattle.walks.specs.Live.{holds_edge}
+use Rattle.graph_words.specs.Live.{holds_edge}
 use Rattle.edge_numbers.specs.Numbered.{Numbered, edge_at}
 use Rattle.edge_lists.specs.Lists.{AreEdgeNumbers, places_at}
 use Rattle.edge_lists.specs.Order.{IsInOrder, position_first}

@@ -5,7 +5,7 @@ use Rattle.grove_sorts.proofs.Orders.{same_position_laws}
 use Rattle.grove_edits.specs.Vertex.{is_same_vertex}
 use Rattle.grove_edits.proofs.Vertices.{same_vertex_itself}
 use Rattle.edge_index.specs.Lists.{live}
-use Rattle.walks.specs.States.{state_in, HasRoom}
+use Rattle.graph_words.specs.States.{state_in, HasRoom}
 use Rattle.child_index.specs.Origin.{room_at_origin}
 use Rattle.parent_index.specs.Target.{room_at_vertex}
 use Rattle.graph_tests.proofs.Inserted.{one_more_live}

@@ -5,7 +5,7 @@ use Rattle.grove_sorts.specs.declared.position.Position.{Position}
 use Rattle.grove_sorts.specs.declared.position.Position.TheVariants.{Main, Operand}
 use Rattle.grove_edits.specs.declared.vertex.Vertex.{Vertex}
 use Rattle.grove_edits.specs.declared.edge.Edge.{Edge}
-use Rattle.walks.specs.Live.{IsInEdgeOrder, targets_of}
+use Rattle.graph_words.specs.Live.{IsInEdgeOrder, targets_of}
 use Rattle.grove_edits.specs.Vertex.{root}
 use Rattle.graph_tests.proofs.unicycle_roots_tests.sample.Goals as goal
 

@@ -2,7 +2,7 @@ use Rattle.std.proofs.Common.{ℕ, List, subst, sym}
 use Rattle.std.specs.List.{AllByRecursion}
 use Rattle.std.proofs.lemmas.Result.{on_ok_weaker}
 use Rattle.graph_table.specs.Table.{live}
-use Rattle.walks.specs.declared.class.Class.TheVariants.{Cycle as CycleClass}
+use Rattle.graph_words.specs.declared.class.Class.TheVariants.{Cycle as CycleClass}
 use Rattle.grove_terms.proofs.OneGrove.{vertices_of as vertices_of_edits, vertices_are}
 use Rattle.grove_decompose.specs.Trees.{vertices_of}
 use Rattle.grove_printer.specs.declared.section.Section.TheVariants.{NoParent, Multi, Cycle}

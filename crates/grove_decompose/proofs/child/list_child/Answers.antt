@@ -2,7 +2,7 @@ use Rattle.std.proofs.Common.{◌≡◌, ◌++◌, ◌+◌, List, map, sym, ap, 
 use Rattle.grove_sorts.specs.Ctor.{positions}
 use Rattle.grove_edits.specs.declared.edge.Edge.{Edge}
 use Rattle.grove_edits.specs.declared.vertex.Vertex.{Vertex}
-use Rattle.walks.specs.Class.{class}
+use Rattle.graph_words.specs.Class.{class}
 use Rattle.grove_terms.specs.declared.node.What.TheVariants as whats
 use Rattle.grove_terms.specs.declared.node.Role.{Role}
 use Rattle.edit_table.specs.Lent.{lent_vertex}

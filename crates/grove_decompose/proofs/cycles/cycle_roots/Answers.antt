@@ -1,6 +1,6 @@
 use Rattle.std.proofs.lemmas.Grind.{common_steps}
 use Rattle.std.proofs.Common.{◌≡◌, ℕ, ◌+◌, ◌<◌, List, ◌∷◌, drop, length, get_or, ap, ◌∙◌, arith}
-use Rattle.walks.specs.declared.class.Class.TheVariants.{Cycle}
+use Rattle.graph_words.specs.declared.class.Class.TheVariants.{Cycle}
 use Rattle.graph_table.specs.Table.{vertex_at, IsNumber}
 use Rattle.grove_decompose.specs.Trees.{vertices_of}
 use Rattle.grove_decompose.proofs.Vectors.{items_of}

@@ -1,5 +1,5 @@
 use Rattle.std.proofs.Common.{drop}
-use Rattle.walks.specs.declared.class.Class.TheVariants.{Cycle}
+use Rattle.graph_words.specs.declared.class.Class.TheVariants.{Cycle}
 use Rattle.grove_decompose.specs.Trees.{vertices_of}
 use Rattle.grove_decompose.proofs.ByNumber.{AreHeadsSoFar}
 use Rattle.grove_decompose.proofs.cycles.cycle_roots.Given as goal

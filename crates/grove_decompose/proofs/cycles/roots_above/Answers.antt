@@ -1,6 +1,6 @@
 use Rattle.std.proofs.Common.{ℕ, ◌+◌, Bool, false, List, Option, replicate, ap, subst, sym, ◌∙◌}
 use Rattle.std.specs.Prelude.{option_map}
-use Rattle.walks.specs.Met.{HasEnded}
+use Rattle.graph_words.specs.Met.{HasEnded}
 use Rattle.graph_table.specs.Table.{live, vertex_at, IsNumber}
 use Rattle.grove_decompose.specs.Met.{met_of}
 use Rattle.grove_decompose.proofs.Vectors.{items_of}

@@ -1,4 +1,4 @@
-use Rattle.walks.specs.Met.{unmet}
+use Rattle.graph_words.specs.Met.{unmet}
 use Rattle.graph_table.specs.Table.{live}
 use Rattle.grove_decompose.specs.Met.{met_of}
 use Rattle.grove_decompose.proofs.Walking.{IsWalking}

@@ -1,7 +1,7 @@
 use Rattle.std.proofs.Common.{◌≡◌, List, ℕ, subst, ap, ◌∙◌}
 use Rattle.std.specs.List.Sorted.{IsPermutation}
-use Rattle.walks.specs.declared.class.Class.TheVariants.{Cycle}
-use Rattle.walks.specs.Class.{of_class}
+use Rattle.graph_words.specs.declared.class.Class.TheVariants.{Cycle}
+use Rattle.graph_words.specs.Class.{of_class}
 use Rattle.graph_table.specs.Table.{live}
 use Rattle.grove_decompose.specs.Trees.{vertices_of}
 use Rattle.grove_decompose.proofs.SortedHeads.{sorted_heads}

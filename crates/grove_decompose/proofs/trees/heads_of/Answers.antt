@@ -1,6 +1,6 @@
 use Rattle.std.proofs.Common.{List, ℕ, subst}
 use Rattle.std.specs.List.Sorted.{IsPermutation}
-use Rattle.walks.specs.declared.class.Class.TheVariants.{NoParent, Multi}
+use Rattle.graph_words.specs.declared.class.Class.TheVariants.{NoParent, Multi}
 use Rattle.grove_decompose.proofs.SortedHeads.{sorted_heads}
 use Rattle.grove_decompose.proofs.trees.heads_of.Goals as goal
 

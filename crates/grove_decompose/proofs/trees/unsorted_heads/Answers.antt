@@ -1,7 +1,7 @@
 use Rattle.std.proofs.Common.{ℕ, ◌+◌, List, drop, ◌∙◌, arith}
 use Rattle.grove_edits.specs.declared.vertex.Vertex.{Vertex}
 use Rattle.grove_decompose.proofs.Vectors.{items_of}
-use Rattle.walks.specs.declared.class.Class.TheVariants.{NoParent, Multi}
+use Rattle.graph_words.specs.declared.class.Class.TheVariants.{NoParent, Multi}
 use Rattle.graph_table.specs.Table.{IsNumber}
 use Rattle.grove_decompose.proofs.ByNumber.{vertices_left, other_passed, one_put_down, zero_tells, one_tells, more_tells}
 use Rattle.grove_decompose.proofs.trees.unsorted_heads.Goals as goal

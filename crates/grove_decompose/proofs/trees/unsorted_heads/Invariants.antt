@@ -1,5 +1,5 @@
 use Rattle.std.proofs.Common.{drop}
-use Rattle.walks.specs.declared.class.Class.TheVariants.{NoParent, Multi}
+use Rattle.graph_words.specs.declared.class.Class.TheVariants.{NoParent, Multi}
 use Rattle.grove_decompose.proofs.ByNumber.{AreHeadsSoFar}
 use Rattle.grove_decompose.proofs.trees.unsorted_heads.Given as goal
 

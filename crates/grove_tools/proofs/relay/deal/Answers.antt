@@ -19,5 +19,5 @@ loop-sender-preserved c =
       many = many;
       room = room;
       each = subst (λ (ls : List (List Edit)). (sender : ℕ) (list : List Edit) → slice_get ls sender ≡ Some list → list ≡ dealt_to senders sender 0 edits) (sym c.push_reserved.ensures.items)
-      (dealt_one_more senders edits c.loop-sender.lists.items last before.each own);
+          (dealt_one_more senders edits c.loop-sender.lists.items last before.each own);
     }

@@ -2,7 +2,7 @@ use Rattle.std.proofs.Common.{sym, ap, ◌∙◌}
 use Rattle.std.specs.List.{list_any}
 use Rattle.numbers_by_name.specs.ByName.{name_by}
 use Rattle.live_graph.specs.ByName.{is_named}
-use Rattle.walks.specs.Names.{IsNameOfEdge}
+use Rattle.graph_words.specs.Names.{IsNameOfEdge}
 use Rattle.live_graph.proofs.Maxima.{greatest_found, before_more, none_greatest, edge_named, named_edge}
 use Rattle.live_graph.proofs.greatest.greatest_of_edges.Goals as goal
 

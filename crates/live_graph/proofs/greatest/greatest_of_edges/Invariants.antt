@@ -1,5 +1,5 @@
 use Rattle.std.proofs.Common.{◌^◌, unwrap_or}
-use Rattle.walks.specs.Names.{IsNameOfEdge}
+use Rattle.graph_words.specs.Names.{IsNameOfEdge}
 use Rattle.live_graph.proofs.Maxima.{AreBefore}
 use Rattle.live_graph.proofs.greatest.greatest_of_edges.Given as goal
 

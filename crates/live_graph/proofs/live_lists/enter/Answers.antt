@@ -1,6 +1,6 @@
 use Rattle.std.proofs.Common.{◌<◌, ◌^◌, length, refl, sym, ap, subst, ◌∙◌}
 use Rattle.edge_numbers.specs.Numbered.{with_entry}
-use Rattle.walks.specs.States.{Entries}
+use Rattle.graph_words.specs.States.{Entries}
 use Rattle.grove_sorts.proofs.Truths.{after_error}
 use Rattle.live_graph.proofs.Listed.{same_begins, listed-vertices, listed-entered}
 use Rattle.live_graph.proofs.Counts.{uses_vertices, names_vertices, uses_entered}

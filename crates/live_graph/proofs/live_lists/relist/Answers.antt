@@ -1,7 +1,7 @@
 use Rattle.std.proofs.Common.{◌≡◌, arith}
 use Rattle.std.proofs.lemmas.Grind.{common_steps}
 use Rattle.edge_numbers.specs.Numbered.{state_at}
-use Rattle.walks.specs.States.{is_live}
+use Rattle.graph_words.specs.States.{is_live}
 use Rattle.live_graph.proofs.Listed.{listed-kept}
 use Rattle.live_graph.proofs.live_lists.relist.Goals as goal
 

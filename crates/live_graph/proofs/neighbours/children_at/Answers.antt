@@ -1,5 +1,5 @@
 use Rattle.std.proofs.Common.{◌≡◌, ℕ, [], Some, None, map, sym, ap, subst, ◌∙◌, arith}
-use Rattle.walks.specs.Live.{IsInEdgeOrder}
+use Rattle.graph_words.specs.Live.{IsInEdgeOrder}
 use Rattle.edge_numbers.specs.Numbered.{edge_at}
 use Rattle.edge_lists.specs.Lists.{AreEdgeNumbers, numbers_at, edges_at, with_position}
 use Rattle.live_graph.proofs.Children.{children_listed, no_children, nothing_at, known_at_position}

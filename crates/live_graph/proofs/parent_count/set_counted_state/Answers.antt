@@ -1,6 +1,6 @@
 use Rattle.std.proofs.Common.{◌≡◌, get_or, ap, ◌∙◌, arith}
 use Rattle.grove_edits.specs.Vertex.{stands_in, root}
-use Rattle.walks.specs.Live.{targets_of}
+use Rattle.graph_words.specs.Live.{targets_of}
 use Rattle.edge_numbers.specs.Numbered.{edge_at}
 use Rattle.live_graph.specs.Live.{live}
 use Rattle.live_graph.specs.Around.{once}

@@ -2,7 +2,7 @@ use Rattle.std.proofs.Common.{◌≡◌, ℕ, ◌+◌, ◌≤◌, Bool, true, fa
 use Rattle.std.specs.Prelude.{◌&&◌, ◌==◌}
 use Rattle.std.proofs.lemmas.Bool.{eq-eqb}
 use Rattle.edge_numbers.specs.Numbered.{state_at}
-use Rattle.walks.specs.States.{is_present}
+use Rattle.graph_words.specs.States.{is_present}
 use Rattle.live_graph.specs.Around.{once}
 use Rattle.live_graph.proofs.Counts.{source_counted, target_counted, counted_there, uses_fit, uses_set}
 use Rattle.live_graph.proofs.uses.recount_ends.Goals as goal

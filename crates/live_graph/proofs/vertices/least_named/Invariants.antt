@@ -4,7 +4,7 @@ use Rattle.std.specs.List.{list_any}
 use Rattle.grove_edits.specs.Vertex.{is_same_vertex, root}
 use Rattle.numbers_by_name.specs.ByName.{is_same_name}
 use Rattle.live_graph.specs.Uses.{is_named_vertex}
-use Rattle.walks.specs.Named.{AreLeastTwo}
+use Rattle.graph_words.specs.Named.{AreLeastTwo}
 use Rattle.live_graph.proofs.vertices.least_named.Given as goal
 
 -- what is found are the least two that the numbers so far name

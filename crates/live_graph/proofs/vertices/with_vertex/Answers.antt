@@ -1,5 +1,5 @@
 use Rattle.std.proofs.Common.{◌≡◌, true, subst}
-use Rattle.walks.specs.Named.{AreLeastTwo}
+use Rattle.graph_words.specs.Named.{AreLeastTwo}
 use Rattle.live_graph.proofs.LeastTwo.{after_none}
 use Rattle.live_graph.proofs.vertices.with_vertex.Goals as goal
 

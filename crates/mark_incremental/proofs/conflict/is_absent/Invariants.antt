@@ -1,6 +1,6 @@
 -- The edge is among all exactly where it is among those that are left.
 use Rattle.std.proofs.Common.{◌≡◌, drop}
-use Rattle.walks.specs.Live.{holds_edge}
+use Rattle.graph_words.specs.Live.{holds_edge}
 use Rattle.mark_incremental.proofs.conflict.is_absent.Given as goal
 
 abbrev pub invariant-loop-child : goal.invariant-loop-child

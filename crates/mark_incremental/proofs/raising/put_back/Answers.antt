@@ -4,10 +4,10 @@ use Rattle.edge_lattice.specs.State.{rank}
 use Rattle.grove_edits.specs.declared.edge.Edge.{Edge}
 use Rattle.grove_edits.specs.Edit.{edit_edge, edit_kind}
 use Rattle.grove_edits.specs.Graph.{state_of, IsSame}
-use Rattle.walks.specs.Whole.{AreLive}
-use Rattle.walks.specs.declared.change.Change.{Change}
-use Rattle.walks.specs.Change.{IsChange}
-use Rattle.walks.specs.States.{state_in, with_state}
+use Rattle.graph_words.specs.Whole.{AreLive}
+use Rattle.graph_words.specs.declared.change.Change.{Change}
+use Rattle.graph_words.specs.Change.{IsChange}
+use Rattle.graph_words.specs.States.{state_in, with_state}
 use Rattle.edge_index.specs.Lists.{live}
 use Rattle.mark_incremental.specs.Raising.{MovesRoom, unfollowed, brought, brought_by, taken, taken_by}
 use Rattle.mark_incremental.proofs.Room.{moves_none}

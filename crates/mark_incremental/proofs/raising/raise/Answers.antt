@@ -4,8 +4,8 @@ use Rattle.edge_lattice.specs.State.{rank}
 use Rattle.grove_edits.specs.declared.edge.Edge.{Edge}
 use Rattle.grove_edits.specs.Edit.{edit_edge, edit_kind}
 use Rattle.grove_edits.specs.Graph.{state_of}
-use Rattle.walks.specs.Whole.{AreLive}
-use Rattle.walks.specs.States.{state_in}
+use Rattle.graph_words.specs.Whole.{AreLive}
+use Rattle.graph_words.specs.States.{state_in}
 use Rattle.edge_index.specs.Lists.{live}
 use Rattle.child_index.specs.Origin.{room_at_origin}
 use Rattle.parent_index.specs.Target.{room_at_vertex}

@@ -1,5 +1,5 @@
 -- The marks stand for the graph of the lines so far.
-use Rattle.walks.specs.States.{state_in}
+use Rattle.graph_words.specs.States.{state_in}
 use Rattle.mark_incremental.specs.Raising.{AreIndexed}
 use Rattle.mark_incremental.specs.Standing.{StandFor}
 use Rattle.mark_tests.proofs.mark_incremental_tests.after_counting.Given as goal

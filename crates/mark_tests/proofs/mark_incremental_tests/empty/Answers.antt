@@ -1,6 +1,6 @@
 -- The store of no entries has the empty graph.
 use Rattle.std.proofs.Common.{sym, subst}
-use Rattle.walks.specs.States.{Entries, state_in}
+use Rattle.graph_words.specs.States.{Entries, state_in}
 use Rattle.mark_incremental.specs.Standing.{StandFor}
 use Rattle.mark_tests.proofs.mark_incremental_tests.empty.Goals as goal
 

@@ -4,7 +4,7 @@ use Rattle.grove_edits.specs.declared.edge.Edge.{Edge}
 use Rattle.grove_edits.specs.declared.edit.Edit.{Edit}
 use Rattle.grove_edits.specs.Edit.{edit_edge, edit_kind}
 use Rattle.grove_edits.specs.Graph.{graph, graph_join, state_of, IsSame}
-use Rattle.walks.specs.States.{state_in}
+use Rattle.graph_words.specs.States.{state_in}
 use Rattle.live_graph.specs.NumberOf.{IsNumberOf}
 use Rattle.replica_core.specs.declared.taking.News.{News}
 use Rattle.replica_core.specs.Taking.{AreNumbered, edits_of}

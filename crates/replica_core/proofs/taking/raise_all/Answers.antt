@@ -1,5 +1,5 @@
 use Rattle.std.proofs.Common.{sym}
-use Rattle.walks.specs.States.{state_in}
+use Rattle.graph_words.specs.States.{state_in}
 use Rattle.replica_core.proofs.Numbers.{stay_twice, numbered_still, numbered_at, joined_next, joined_all}
 use Rattle.replica_core.proofs.taking.raise_all.Goals as goal
 

@@ -1,6 +1,6 @@
 use Rattle.std.proofs.Common.{take}
 use Rattle.grove_edits.specs.Graph.{graph, graph_join, IsSame}
-use Rattle.walks.specs.States.{state_in}
+use Rattle.graph_words.specs.States.{state_in}
 use Rattle.live_graph.specs.NumberOf.{KeepsNumbersOf}
 use Rattle.replica_core.specs.Taking.{AreNumbered, edits_of}
 use Rattle.replica_core.proofs.taking.raise_all.Given as goal

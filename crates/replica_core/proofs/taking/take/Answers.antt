@@ -1,6 +1,6 @@
 use Rattle.std.proofs.Common.{List, subst}
 use Rattle.grove_edits.specs.Graph.{graph, graph_join, IsSame}
-use Rattle.walks.specs.States.{state_in}
+use Rattle.graph_words.specs.States.{state_in}
 use Rattle.replica_core.specs.declared.taking.News.{News}
 use Rattle.replica_core.specs.Taking.{edits_of}
 use Rattle.replica_core.proofs.Numbers.{stay_twice, taken}

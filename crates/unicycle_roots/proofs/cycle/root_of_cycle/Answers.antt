@@ -1,5 +1,5 @@
 use Rattle.std.proofs.Common.{subst, sym, ◌∙◌}
-use Rattle.walks.proofs.Around.{IsAround, around_first, around_next, root_from_around, above_from_around, around_ends}
+use Rattle.graph_words.proofs.Around.{IsAround, around_first, around_next, root_from_around, above_from_around, around_ends}
 use Rattle.unicycle_roots.proofs.cycle.root_of_cycle.Goals as goal
 
 pub loop-above-init : goal.loop-above-init

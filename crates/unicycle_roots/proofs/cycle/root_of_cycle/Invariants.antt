@@ -1,6 +1,6 @@
 use Rattle.std.proofs.Common.{◌+◌, ◌*◌, ◌-◌}
-use Rattle.walks.proofs.Up.{walk_len}
-use Rattle.walks.proofs.Around.{IsAround}
+use Rattle.graph_words.proofs.Up.{walk_len}
+use Rattle.graph_words.proofs.Around.{IsAround}
 use Rattle.unicycle_roots.proofs.cycle.root_of_cycle.Given as goal
 
 abbrev pub invariant-loop-above : goal.invariant-loop-above

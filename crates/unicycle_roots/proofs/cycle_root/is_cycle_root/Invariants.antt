@@ -1,5 +1,5 @@
 use Rattle.std.proofs.Common.{◌+◌, ◌*◌, ◌-◌, length}
-use Rattle.walks.specs.Walk.{walk}
+use Rattle.graph_words.specs.Walk.{walk}
 use Rattle.unicycle_roots.proofs.Rounds.{IsAfterRounds}
 use Rattle.unicycle_roots.proofs.cycle_root.is_cycle_root.Given as goal
 

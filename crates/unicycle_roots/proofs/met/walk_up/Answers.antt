@@ -1,5 +1,5 @@
 use Rattle.std.proofs.Common.{Some, ap, sym, ◌∙◌}
-use Rattle.walks.proofs.Meetings.{meeting_entered, meeting_next, ended_at_none, ended_at_itself, ended_at_earlier, first_entered, round_within, fewer_entered, ticks_entered}
+use Rattle.graph_words.proofs.Meetings.{meeting_entered, meeting_next, ended_at_none, ended_at_itself, ended_at_earlier, first_entered, round_within, fewer_entered, ticks_entered}
 use Rattle.unicycle_roots.proofs.met.walk_up.Goals as goal
 
 pub returns-then-walk-number-clause-ended : goal.returns-then-walk-number-clause-ended

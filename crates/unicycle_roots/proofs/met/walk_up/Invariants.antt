@@ -1,6 +1,6 @@
 use Rattle.std.proofs.Common.{◌+◌, ◌*◌, ◌-◌}
-use Rattle.walks.proofs.Up.{walk_len}
-use Rattle.walks.proofs.Meetings.{IsMeeting}
+use Rattle.graph_words.proofs.Up.{walk_len}
+use Rattle.graph_words.proofs.Meetings.{IsMeeting}
 use Rattle.unicycle_roots.proofs.met.walk_up.Given as goal
 
 abbrev pub invariant-loop-walk : goal.invariant-loop-walk

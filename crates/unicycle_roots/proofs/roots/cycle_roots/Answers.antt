@@ -1,7 +1,7 @@
 use Rattle.std.proofs.Common.{◌≡◌, List, subst}
 use Rattle.std.specs.Prelude.{IfOk}
 use Rattle.grove_edits.specs.declared.vertex.Vertex.{Vertex}
-use Rattle.walks.proofs.Found.{roots_are_cycles}
+use Rattle.graph_words.proofs.Found.{roots_are_cycles}
 use Rattle.unicycle_roots.proofs.roots.cycle_roots.Goals as goal
 
 pub returns : goal.returns

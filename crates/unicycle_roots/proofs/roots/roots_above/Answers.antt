@@ -2,9 +2,9 @@ use Rattle.std.proofs.Common.{◌≡◌, [], ◌+◌, ◌≤◌, Option, Some, a
 use Rattle.std.proofs.lemmas.List.{get_or_read}
 use Rattle.grove_edits.specs.declared.vertex.Vertex.{Vertex}
 use Rattle.grove_edits.specs.Vertex.{stands_in}
-use Rattle.walks.specs.Met.{HasEnded, unmet, round_len}
-use Rattle.walks.proofs.Found.{AreFound, found_none, found_one, all_found, ticks_more, ticks_within, ticks_cut_off}
-use Rattle.walks.proofs.Unmet.{unmet-none}
+use Rattle.graph_words.specs.Met.{HasEnded, unmet, round_len}
+use Rattle.graph_words.proofs.Found.{AreFound, found_none, found_one, all_found, ticks_more, ticks_within, ticks_cut_off}
+use Rattle.graph_words.proofs.Unmet.{unmet-none}
 use Rattle.unicycle_roots.proofs.roots.roots_above.Goals as goal
 use Rattle.unicycle_roots.proofs.roots.roots_above.Goals.{in-Some+in_ok-add, in_default}
 

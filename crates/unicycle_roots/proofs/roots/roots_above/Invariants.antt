@@ -1,6 +1,6 @@
 use Rattle.std.proofs.Common.{◌+◌, ◌*◌, ◌≤◌, length}
-use Rattle.walks.specs.Met.{unmet}
-use Rattle.walks.proofs.Found.{AreFound}
+use Rattle.graph_words.specs.Met.{unmet}
+use Rattle.graph_words.proofs.Found.{AreFound}
 use Rattle.unicycle_roots.proofs.roots.roots_above.Given as goal
 
 abbrev pub invariant-loop-number : goal.invariant-loop-number

@@ -9,7 +9,7 @@ use Rattle.user_actions.specs.declared.admitted.Admitted.TheVariants as found
 use Rattle.user_actions.specs.Names.{greatest_counter, new_name}
 use Rattle.user_actions.specs.Admitted.{edits_made, answer_made}
 use Rattle.user_actions.proofs.PlanLaws.{edits_here}
-use Rattle.walks.specs.Live.{parents_of}
+use Rattle.graph_words.specs.Live.{parents_of}
 use Rattle.grove_edits.specs.declared.action.Action.TheVariants.{Restore}
 use Rattle.grove_edits.specs.declared.act_fault.ActFault.TheVariants.{Occupied, NotLoose}
 use Rattle.user_actions.specs.Faults.{names_spent}

@@ -1,6 +1,6 @@
 use Rattle.std.proofs.Common.{◌≡◌, List, filter, sym, ap, ◌∙◌}
 use Rattle.grove_edits.specs.declared.edge.Edge.{Edge}
-use Rattle.walks.specs.Live.{holds_edge}
+use Rattle.graph_words.specs.Live.{holds_edge}
 use Rattle.user_actions.specs.Names.{edges_named}
 use Rattle.user_actions.specs.Checks.{else_edges}
 use Rattle.user_actions.proofs.LiveEdges.{named_present_is, opened_is, cut_known}

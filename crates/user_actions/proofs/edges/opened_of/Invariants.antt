@@ -1,5 +1,5 @@
 use Rattle.std.proofs.Common.{◌≡◌, filter, take}
-use Rattle.walks.specs.Live.{holds_edge}
+use Rattle.graph_words.specs.Live.{holds_edge}
 use Rattle.user_actions.proofs.edges.opened_of.Given as goal
 
 abbrev pub invariant-loop-edge : goal.invariant-loop-edge

@@ -1,6 +1,6 @@
 use Rattle.std.proofs.Common.{ap, sym, ◌∙◌}
 use Rattle.std.specs.Prelude.{not, option_map}
-use Rattle.walks.specs.Live.{children_of}
+use Rattle.graph_words.specs.Live.{children_of}
 use Rattle.grove_edits.specs.declared.act_fault.ActFault.TheVariants.{Occupied}
 use Rattle.grove_edits.specs.declared.edge.Edge.{Edge}
 use Rattle.user_actions.specs.Names.{is_same_name}

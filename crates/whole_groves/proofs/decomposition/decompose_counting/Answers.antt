@@ -1,8 +1,8 @@
 use Rattle.std.proofs.Common.{ap, ◌∙◌}
 use Rattle.edge_index.specs.Lists.{live}
-use Rattle.walks.specs.States.{state_in}
-use Rattle.walks.specs.declared.class.Class.TheVariants.{NoParent, Multi, Cycle}
-use Rattle.walks.specs.Class.{of_class}
+use Rattle.graph_words.specs.States.{state_in}
+use Rattle.graph_words.specs.declared.class.Class.TheVariants.{NoParent, Multi, Cycle}
+use Rattle.graph_words.specs.Class.{of_class}
 use Rattle.grove_terms.specs.Grove.{IsGrove}
 use Rattle.grove_terms.proofs.OneGrove.{one_live}
 use Rattle.grove_terms.proofs.WellSorted.{sorted_grove}

@@ -2,8 +2,8 @@ use Rattle.std.proofs.lemmas.Grind.{common_steps}
 use Rattle.std.proofs.Common.{arith, ◌≡◌, ◌∷◌, ◌+◌, List, drop, ◌++◌, ap, ◌∙◌}
 use Rattle.grove_decompose.proofs.Vectors.{items_of}
 use Rattle.grove_edits.specs.declared.vertex.Vertex.{Vertex}
-use Rattle.walks.specs.declared.class.Class.TheVariants.{NoParent, Multi}
-use Rattle.walks.specs.Class.{of_class}
+use Rattle.graph_words.specs.declared.class.Class.TheVariants.{NoParent, Multi}
+use Rattle.graph_words.specs.Class.{of_class}
 use Rattle.grove_decompose.proofs.ByClass.{passed_by, put_down, tests_zero, tests_one, tests_more}
 use Rattle.whole_groves.proofs.heads.find_heads.Goals as goal
 use Rattle.whole_groves.proofs.heads.find_heads.Goals.{in-Zero+in_ok-push-in-Zero, in-One, in-More+in_ok-push-in-More}

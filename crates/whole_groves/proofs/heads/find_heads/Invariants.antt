@@ -1,6 +1,6 @@
 use Rattle.std.proofs.Common.{◌≡◌, ◌++◌, drop}
-use Rattle.walks.specs.declared.class.Class.TheVariants.{NoParent, Multi}
-use Rattle.walks.specs.Class.{of_class}
+use Rattle.graph_words.specs.declared.class.Class.TheVariants.{NoParent, Multi}
+use Rattle.graph_words.specs.Class.{of_class}
 use Rattle.whole_groves.proofs.heads.find_heads.Given as goal
 
 abbrev pub invariant-loop-vertex : goal.invariant-loop-vertex

@@ -2,7 +2,7 @@ use Rattle.std.proofs.Common.{◌≡◌, ◌∷◌, ◌+◌, drop, List, [], sub
 use Rattle.std.proofs.lemmas.Grind.{common_steps}
 use Rattle.grove_edits.specs.declared.vertex.Vertex.{Vertex}
 use Rattle.edge_index.specs.Lists.{live}
-use Rattle.walks.specs.States.{state_in}
+use Rattle.graph_words.specs.States.{state_in}
 use Rattle.grove_terms.specs.Grove.{IsTreeOf}
 use Rattle.whole_groves.proofs.SoFar.{one_more_tree, all_trees}
 use Rattle.whole_groves.proofs.Held.{first_held}

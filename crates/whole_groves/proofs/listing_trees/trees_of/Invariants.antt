@@ -1,8 +1,8 @@
 use Rattle.std.proofs.Common.{drop}
 use Rattle.std.specs.List.{AllByRecursion}
-use Rattle.walks.specs.Whole.{IsVertexOf}
+use Rattle.graph_words.specs.Whole.{IsVertexOf}
 use Rattle.edge_index.specs.Lists.{live}
-use Rattle.walks.specs.States.{state_in}
+use Rattle.graph_words.specs.States.{state_in}
 use Rattle.whole_groves.proofs.SoFar.{AreSoFar}
 use Rattle.whole_groves.proofs.listing_trees.trees_of.Given as goal
 

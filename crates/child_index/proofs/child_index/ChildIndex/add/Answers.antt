@@ -2,7 +2,7 @@ use Rattle.std.proofs.Common.{◌<◌, ◌+◌, cond, sym, ap, subst, ◌∙◌}
 use Rattle.edge_index.specs.Lists.{room_at}
 use Rattle.child_index.specs.contracts.origin.OriginOrd.TheImpl as impl
 use Rattle.child_index.specs.Origin.{room_at_origin}
-use Rattle.walks.specs.Live.{is_from}
+use Rattle.graph_words.specs.Live.{is_from}
 use Rattle.child_index.proofs.Origins.{test_is, room_is, origin_at}
 use Rattle.child_index.proofs.child_index.ChildIndex.add.Goals as goal
 

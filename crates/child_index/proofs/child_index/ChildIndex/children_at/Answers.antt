@@ -1,5 +1,5 @@
 use Rattle.std.proofs.Common.{ap, ◌∙◌}
-use Rattle.walks.specs.Live.{children_of}
+use Rattle.graph_words.specs.Live.{children_of}
 use Rattle.edge_index.specs.Lists.{live}
 use Rattle.child_index.proofs.Origins.{children_is}
 use Rattle.child_index.proofs.child_index.ChildIndex.children_at.Goals as goal

@@ -2,10 +2,10 @@ use Rattle.std.proofs.Common.{◌≡◌, ◌+◌, length, sym, ap, ◌∙◌, ar
 use Rattle.std.specs.Prelude.{◌==◌, Some}
 use Rattle.std.specs.Int.{from_bool}
 use Rattle.smallvec.specs.SmallVec.{small_vec_len}
-use Rattle.walks.specs.Live.{holds_edge}
+use Rattle.graph_words.specs.Live.{holds_edge}
 use Rattle.edge_index.specs.Lists.{room_at, live, keys_of_edges}
 use Rattle.edge_index.specs.ByKey.{indexed, room_in, room_of}
-use Rattle.walks.specs.Ordered.{with_edge}
+use Rattle.graph_words.specs.Ordered.{with_edge}
 use Rattle.edge_index.proofs.Ties.{lookup-equal, written}
 use Rattle.edge_index.proofs.Keys.{from_bool-le, length-keys-le, length-keys-more}
 use Rattle.edge_index.proofs.Lookups.{held_at, ordered_at, with_edge_is, by_key-after, all_edges-after, room_at-indexed, room_less}

@@ -1,5 +1,5 @@
 use Rattle.std.proofs.Common.{◌≡◌, [], ap, subst, ◌∙◌}
-use Rattle.walks.specs.Live.{IsInEdgeOrder}
+use Rattle.graph_words.specs.Live.{IsInEdgeOrder}
 use Rattle.edge_index.specs.Lists.{live, with_key}
 use Rattle.edge_index.specs.ByKey.{edges_of, edges_at}
 use Rattle.edge_index.proofs.Ties.{lookup-equal}

@@ -1,5 +1,5 @@
 use Rattle.std.proofs.Common.{length, ap, subst, ◌∙◌}
-use Rattle.walks.specs.Live.{IsInEdgeOrder}
+use Rattle.graph_words.specs.Live.{IsInEdgeOrder}
 use Rattle.edge_index.specs.Lists.{live, keys_of_edges}
 use Rattle.edge_index.proofs.Lookups.{in_order-all_edges}
 use Rattle.edge_index.proofs.edge_index.EdgeIndex.key_count.Goals as goal

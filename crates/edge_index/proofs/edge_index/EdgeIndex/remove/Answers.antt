@@ -2,9 +2,9 @@ use Rattle.std.proofs.Common.{◌+◌, cond, ap, ◌∙◌, arith}
 use Rattle.std.specs.Prelude.{None, Some}
 use Rattle.std.specs.Int.{from_bool}
 use Rattle.std.specs.Ordering.{is_eq}
-use Rattle.walks.specs.Live.{holds_edge}
+use Rattle.graph_words.specs.Live.{holds_edge}
 use Rattle.edge_index.specs.Lists.{room_at, live}
-use Rattle.walks.specs.Ordered.{without_edge}
+use Rattle.graph_words.specs.Ordered.{without_edge}
 use Rattle.edge_index.proofs.Ties.{lookup-equal, written}
 use Rattle.edge_index.proofs.Keys.{length-keys-fewer}
 use Rattle.edge_index.proofs.Lookups.{held_at, ordered_at, without_edge_is, by_key-after, all_edges-after, edges_at-there, room_more}

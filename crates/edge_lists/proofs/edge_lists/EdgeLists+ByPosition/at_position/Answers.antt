@@ -1,6 +1,6 @@
 use Rattle.std.proofs.Common.{◌-◌, ◌≤◌, rules, true, false, length, map, take, drop, sym, ap, subst, ◌∙◌, arith}
 use Rattle.grove_sorts.specs.Position.{is_same_position}
-use Rattle.walks.specs.Live.{IsInEdgeOrder}
+use Rattle.graph_words.specs.Live.{IsInEdgeOrder}
 use Rattle.edge_numbers.specs.Numbered.{edge_at}
 use Rattle.edge_lists.specs.Lists.{numbers_at, edges_at, numbers_with_position}
 use Rattle.edge_lists.specs.Order.{IsInOrder, position_first}

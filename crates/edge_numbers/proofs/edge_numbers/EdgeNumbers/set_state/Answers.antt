@@ -2,7 +2,7 @@ use Rattle.std.proofs.Common.{sym, ap, subst, ◌∙◌}
 use Rattle.std.specs.Prelude.{set}
 use Rattle.indexmap.specs.IndexMap.{set_value_at}
 use Rattle.edge_numbers.specs.Numbered.{Numbered, edges_of, states_of, edge_at, IsEdgeNumber}
-use Rattle.walks.specs.States.{state_in, with_state, KeepsRoom}
+use Rattle.graph_words.specs.States.{state_in, with_state, KeepsRoom}
 use Rattle.edge_numbers.specs.Narrow.{entries_of, numbered}
 use Rattle.edge_numbers.proofs.Narrow.{numbered_set, entries_set, edges_set, states_set}
 use Rattle.edge_numbers.proofs.States.{state_set, room_of_edges, numbers_of_edges}

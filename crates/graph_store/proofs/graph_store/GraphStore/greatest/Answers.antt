@@ -1,6 +1,6 @@
 use Rattle.std.proofs.Common.{subst}
-use Rattle.walks.specs.Names.{IsGreatest, IsNameOf}
-use Rattle.walks.specs.States.{Entries, state_in}
+use Rattle.graph_words.specs.Names.{IsGreatest, IsNameOf}
+use Rattle.graph_words.specs.States.{Entries, state_in}
 use Rattle.graph_store.proofs.AuthorNames.{greatest_of_all}
 use Rattle.graph_store.proofs.graph_store.GraphStore.greatest.Goals as goal
 

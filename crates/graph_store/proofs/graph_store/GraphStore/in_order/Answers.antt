@@ -6,7 +6,7 @@ use Rattle.std.proofs.lemmas.Map.Iter.{rest_more, rest_all}
 use Rattle.grove_edits.specs.contracts.edge.EdgeOrd.TheImpl as edge_impl
 use Rattle.edge_lattice.specs.declared.state.State.{State}
 use Rattle.grove_edits.specs.declared.edge.Edge.{Edge}
-use Rattle.walks.specs.States.{Entries}
+use Rattle.graph_words.specs.States.{Entries}
 use Rattle.graph_store.proofs.Listing.{ListsSoFar, pushed, all_listed}
 use Rattle.graph_store.proofs.graph_store.GraphStore.in_order.Goals as goal
 

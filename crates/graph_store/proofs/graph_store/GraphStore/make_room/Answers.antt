@@ -1,6 +1,6 @@
 use Rattle.std.proofs.Common.{ap, is_some, sym, subst, ◌∙◌}
 use Rattle.std.proofs.lemmas.Result.{on_ok_weaker}
-use Rattle.walks.specs.States.{Entries, state_in, HasRoom}
+use Rattle.graph_words.specs.States.{Entries, state_in, HasRoom}
 use Rattle.graph_store.proofs.Counts.{counted_kept, counted_with_room}
 use Rattle.graph_store.proofs.Lookups.{get_edge, room_kept, states_kept}
 use Rattle.graph_store.proofs.graph_store.GraphStore.make_room.Goals as goal

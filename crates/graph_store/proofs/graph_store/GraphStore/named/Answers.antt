@@ -3,7 +3,7 @@ use Rattle.std.specs.Option.{option_copied}
 use Rattle.grove_edits.specs.Edge.{edge_cmp}
 use Rattle.graph_store.specs.Least.{IsLeast}
 use Rattle.graph_store.specs.Named.{IsNamed, IsNamedFrom}
-use Rattle.walks.specs.States.{Entries}
+use Rattle.graph_words.specs.States.{Entries}
 use Rattle.graph_store.proofs.Leasts.{least_same}
 use Rattle.graph_store.proofs.graph_store.GraphStore.named.Goals as goal
 

@@ -2,7 +2,7 @@ use Rattle.std.proofs.Common.{◌≡◌, ◌≤◌, ◌<◌, ◌+◌, ap, is_som
 use Rattle.edge_lattice.specs.declared.state.State.TheVariants.{Absent}
 use Rattle.graph_store.specs.Counts.{weight, count_of}
 use Rattle.graph_store.proofs.Counts.{weight_counted, weight_fits, counted_set}
-use Rattle.walks.specs.States.{Entries, state_in, HasRoom, with_state}
+use Rattle.graph_words.specs.States.{Entries, state_in, HasRoom, with_state}
 use Rattle.graph_store.proofs.Lookups.{get_edge, state_set, room_set}
 use Rattle.graph_store.proofs.graph_store.GraphStore.put_back.Goals as goal
 

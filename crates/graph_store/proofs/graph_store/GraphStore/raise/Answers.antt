@@ -1,4 +1,4 @@
-use Rattle.walks.specs.States.{state_in}
+use Rattle.graph_words.specs.States.{state_in}
 use Rattle.std.proofs.Common.{ap, ◌∙◌}
 use Rattle.grove_edits.specs.Graph.{state_of}
 use Rattle.graph_store.proofs.Joins.{joined_edit}

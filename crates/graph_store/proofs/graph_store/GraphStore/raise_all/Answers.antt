@@ -8,7 +8,7 @@ use Rattle.grove_edits.specs.contracts.edge.EdgeOrd.TheImpl as edge_impl
 use Rattle.edge_lattice.specs.declared.state.State.{State}
 use Rattle.grove_edits.specs.declared.edge.Edge.{Edge}
 use Rattle.graph_store.specs.Store.{only}
-use Rattle.walks.specs.States.{Entries, HasRoom, state_in}
+use Rattle.graph_words.specs.States.{Entries, HasRoom, state_in}
 use Rattle.graph_store.proofs.Joins.{joined, joined_more, joined_all, first_has_room, rest_has_room}
 use Rattle.graph_store.proofs.graph_store.GraphStore.raise_all.Goals as goal
 

@@ -1,7 +1,7 @@
 use Rattle.std.proofs.Common.{◌≡◌}
 use Rattle.edge_lattice.specs.State.{state_join}
 use Rattle.grove_edits.specs.declared.edge.Edge.{Edge}
-use Rattle.walks.specs.States.{state_in, HasRoom, KeepsRoom}
+use Rattle.graph_words.specs.States.{state_in, HasRoom, KeepsRoom}
 use Rattle.graph_store.proofs.Joins.{joined}
 use Rattle.graph_store.proofs.graph_store.GraphStore.raise_all.Given as goal
 

@@ -4,7 +4,7 @@ use Rattle.edge_lattice.specs.State.{state_join}
 use Rattle.grove_edits.specs.Graph.{IsSame, graph_join, is_same_edge}
 use Rattle.graph_store.specs.Counts.{weight, count_of}
 use Rattle.graph_store.specs.Store.{only}
-use Rattle.walks.specs.States.{Entries, state_in, HasRoom}
+use Rattle.graph_words.specs.States.{Entries, state_in, HasRoom}
 use Rattle.graph_store.proofs.Counts.{weight_counted, weight_fits, counted_set, set_by_order}
 use Rattle.graph_store.proofs.Joins.{joined_one}
 use Rattle.graph_store.proofs.Lookups.{state_set, room_set}

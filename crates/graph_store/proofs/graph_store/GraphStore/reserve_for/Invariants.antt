@@ -1,7 +1,7 @@
 use Rattle.std.proofs.Common.{ℕ, ◌<◌, slice_index_or}
 use Rattle.grove_edits.specs.declared.edge.Edge.{Edge}
 use Rattle.grove_edits.specs.Graph.{IsSame}
-use Rattle.walks.specs.States.{state_in, HasRoom, KeepsRoom}
+use Rattle.graph_words.specs.States.{state_in, HasRoom, KeepsRoom}
 use Rattle.graph_store.proofs.graph_store.GraphStore.reserve_for.Given as goal
 
 -- the edges so far have room, and nothing else changed

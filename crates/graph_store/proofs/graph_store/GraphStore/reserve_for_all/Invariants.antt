@@ -1,7 +1,7 @@
 use Rattle.std.proofs.Common.{◌⊎◌}
 use Rattle.grove_edits.specs.declared.edge.Edge.{Edge}
 use Rattle.grove_edits.specs.Graph.{IsSame}
-use Rattle.walks.specs.States.{state_in, HasRoom, KeepsRoom}
+use Rattle.graph_words.specs.States.{state_in, HasRoom, KeepsRoom}
 use Rattle.graph_store.proofs.graph_store.GraphStore.reserve_for_all.Given as goal
 
 -- what has room in the other store has it here, or among the entries that are left

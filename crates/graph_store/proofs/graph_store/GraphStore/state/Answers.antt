@@ -1,6 +1,6 @@
 use Rattle.std.proofs.Common.{unwrap_or, ap, ◌∙◌}
 use Rattle.edge_lattice.specs.declared.state.State.TheVariants.{Absent}
-use Rattle.walks.specs.States.{Entries, state_in}
+use Rattle.graph_words.specs.States.{Entries, state_in}
 use Rattle.graph_store.proofs.Lookups.{get_edge}
 use Rattle.graph_store.proofs.graph_store.GraphStore.state.Goals as goal
 

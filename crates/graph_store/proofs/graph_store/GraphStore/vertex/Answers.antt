@@ -1,6 +1,6 @@
 use Rattle.std.proofs.Common.{sym, subst, ◌∙◌}
-use Rattle.walks.specs.Whole.{IsVertexOf}
-use Rattle.walks.specs.States.{Entries, state_in}
+use Rattle.graph_words.specs.Whole.{IsVertexOf}
+use Rattle.graph_words.specs.States.{Entries, state_in}
 use Rattle.graph_store.proofs.KeptVertices.{kept_is_same, vertex_has_entry}
 use Rattle.graph_store.proofs.graph_store.GraphStore.vertex.Goals as goal
 

@@ -7,9 +7,9 @@ use Rattle.std.specs.declared.ops.Bound.TheVariants.{Excluded, Unbounded}
 use Rattle.std.proofs.lemmas.Map.Iter.{rest_all}
 use Rattle.grove_edits.specs.declared.vertex.Vertex.{Vertex}
 use Rattle.grove_edits.specs.contracts.vertex.VertexOrd.TheImpl as vertex_impl
-use Rattle.walks.specs.Whole.{AreVertices}
+use Rattle.graph_words.specs.Whole.{AreVertices}
 use Rattle.grove_edits.specs.Vertex.{root}
-use Rattle.walks.specs.States.{Entries, state_in}
+use Rattle.graph_words.specs.States.{Entries, state_in}
 use Rattle.graph_store.proofs.VertexOrder.{is_counted}
 use Rattle.graph_store.proofs.Parts.{kept, kept_all, vertices_listed}
 use Rattle.graph_store.proofs.graph_store.GraphStore.vertices.Goals as goal

@@ -1,7 +1,7 @@
 use Rattle.std.proofs.Common.{subst}
-use Rattle.walks.specs.declared.named.Named.TheVariants.{Zero, One, More}
-use Rattle.walks.specs.States.{Entries}
-use Rattle.walks.specs.Named.{AreLeastTwo, IsVertexNamed}
+use Rattle.graph_words.specs.declared.named.Named.TheVariants.{Zero, One, More}
+use Rattle.graph_words.specs.States.{Entries}
+use Rattle.graph_words.specs.Named.{AreLeastTwo, IsVertexNamed}
 use Rattle.graph_store.proofs.VertexOrder.{none_named, one_named, two_named}
 use Rattle.graph_store.proofs.graph_store.GraphStore.vertices_named.Goals as goal
 

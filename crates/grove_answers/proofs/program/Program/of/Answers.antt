@@ -1,8 +1,8 @@
 use Rattle.std.proofs.Common.{List, subst, sym}
 use Rattle.grove_edits.specs.declared.edit.Edit.{Edit}
 use Rattle.grove_edits.specs.Graph.{graph}
-use Rattle.walks.specs.declared.class.Class.TheVariants.{NoParent, Multi}
-use Rattle.walks.specs.Whole.{AreLive}
+use Rattle.graph_words.specs.declared.class.Class.TheVariants.{NoParent, Multi}
+use Rattle.graph_words.specs.Whole.{AreLive}
 use Rattle.graph_table.specs.Table.{live}
 use Rattle.grove_terms.proofs.OneGrove.{vertices_of, vertices_are}
 use Rattle.grove_answers.proofs.Heads.{heads_of_class}

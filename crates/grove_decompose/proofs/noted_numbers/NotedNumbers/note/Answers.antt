@@ -1,6 +1,6 @@
 use Rattle.std.proofs.Common.{◌≡◌, subst, sym}
-use Rattle.walks.specs.declared.class.Class.TheVariants.{Inner}
-use Rattle.walks.specs.Class.{class}
+use Rattle.graph_words.specs.declared.class.Class.TheVariants.{Inner}
+use Rattle.graph_words.specs.Class.{class}
 use Rattle.graph_table.specs.Table.{live, vertex_at}
 use Rattle.grove_decompose.specs.Trees.{OnlyInner}
 use Rattle.grove_decompose.proofs.Noted.{one_more_noted}

@@ -1,6 +1,6 @@
 use Rattle.std.proofs.Common.{subst}
-use Rattle.walks.specs.Whole.{AreLive}
-use Rattle.walks.specs.States.{Entries, state_in}
+use Rattle.graph_words.specs.Whole.{AreLive}
+use Rattle.graph_words.specs.States.{Entries, state_in}
 use Rattle.live_graph.specs.Live.{live}
 use Rattle.live_graph.proofs.Lives.{are_live}
 use Rattle.live_graph.proofs.live_graph.LiveGraph.edge_count.Goals as goal

@@ -1,8 +1,8 @@
 use Rattle.std.proofs.Common.{ap, subst, ◌∙◌}
 use Rattle.std.specs.List.{list_any}
-use Rattle.walks.specs.States.{Entries, state_in}
+use Rattle.graph_words.specs.States.{Entries, state_in}
 use Rattle.live_graph.specs.ByName.{is_named_edge}
-use Rattle.walks.specs.Named.{AreNamed}
+use Rattle.graph_words.specs.Named.{AreNamed}
 use Rattle.live_graph.proofs.Names.{named_edges}
 use Rattle.live_graph.proofs.live_graph.LiveGraph.edges_named.Goals as goal
 

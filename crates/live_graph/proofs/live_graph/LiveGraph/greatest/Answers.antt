@@ -1,6 +1,6 @@
 use Rattle.std.proofs.Common.{sym, subst}
-use Rattle.walks.specs.States.{Entries, state_in}
-use Rattle.walks.specs.Names.{IsGreatest, IsNameOf}
+use Rattle.graph_words.specs.States.{Entries, state_in}
+use Rattle.graph_words.specs.Names.{IsGreatest, IsNameOf}
 use Rattle.live_graph.proofs.Maxima.{greatest_of_both}
 use Rattle.live_graph.proofs.live_graph.LiveGraph.greatest.Goals as goal
 

@@ -1,6 +1,6 @@
 use Rattle.std.proofs.Common.{subst}
 use Rattle.grove_edits.specs.Graph.{graph, IsCanonical}
-use Rattle.walks.specs.States.{Entries, state_in, well_formed}
+use Rattle.graph_words.specs.States.{Entries, state_in, well_formed}
 use Rattle.live_graph.proofs.Listing.{canonical_of}
 use Rattle.live_graph.proofs.live_graph.LiveGraph.in_order.Goals as goal
 

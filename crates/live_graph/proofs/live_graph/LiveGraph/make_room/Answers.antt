@@ -1,6 +1,6 @@
 use Rattle.std.proofs.Common.{length, refl, sym, ap, subst, ◌∙◌}
-use Rattle.walks.specs.Live.{targets_of}
-use Rattle.walks.specs.States.{Entries, state_in, HasRoom}
+use Rattle.graph_words.specs.Live.{targets_of}
+use Rattle.graph_words.specs.States.{Entries, state_in, HasRoom}
 use Rattle.live_graph.specs.Live.{live}
 use Rattle.live_graph.specs.NumberOf.{IsNumberOf, KeepsNumbersOf}
 use Rattle.live_graph.proofs.Names.{names_after, names_kept}

@@ -1,5 +1,5 @@
 use Rattle.std.proofs.Common.{◌<◌, length, sym, subst}
-use Rattle.walks.specs.States.{Entries, HasRoom}
+use Rattle.graph_words.specs.States.{Entries, HasRoom}
 use Rattle.live_graph.specs.NumberOf.{IsNumberOf}
 use Rattle.live_graph.proofs.NumbersStay.{no_room}
 use Rattle.live_graph.proofs.live_graph.LiveGraph.put_back.Goals as goal

@@ -2,8 +2,8 @@ use Rattle.std.proofs.Common.{sym, subst}
 use Rattle.grove_edits.specs.declared.edge.Edge.{Edge}
 use Rattle.grove_edits.specs.Edit.{edit_edge}
 use Rattle.grove_edits.specs.Graph.{state_of}
-use Rattle.walks.specs.States.{Entries, state_in, HasRoom}
-use Rattle.walks.specs.Change.{IsChange}
+use Rattle.graph_words.specs.States.{Entries, state_in, HasRoom}
+use Rattle.graph_words.specs.Change.{IsChange}
 use Rattle.live_graph.specs.NumberOf.{IsNumberOf}
 use Rattle.live_graph.proofs.NumbersStay.{no_room}
 use Rattle.live_graph.proofs.live_graph.LiveGraph.raise.Goals as goal

@@ -4,7 +4,7 @@ use Rattle.edge_lattice.specs.State.{rank}
 use Rattle.grove_edits.specs.declared.edge.Edge.{Edge}
 use Rattle.grove_edits.specs.Edit.{edit_edge}
 use Rattle.grove_edits.specs.Graph.{IsSame, state_of}
-use Rattle.walks.specs.States.{state_in, with_state}
+use Rattle.graph_words.specs.States.{state_in, with_state}
 use Rattle.live_graph.specs.NumberOf.{IsNumberOf}
 use Rattle.live_graph.proofs.Raises.{raised, not_raised, raised_at, not_raised_at, above_from_not}
 use Rattle.live_graph.proofs.live_graph.LiveGraph.raise_at.Goals as goal

@@ -1,6 +1,6 @@
 use Rattle.std.proofs.Common.{length, ap, subst, ◌∙◌}
 use Rattle.grove_edits.specs.Graph.{IsSame}
-use Rattle.walks.specs.States.{Entries, state_in, with_state}
+use Rattle.graph_words.specs.States.{Entries, state_in, with_state}
 use Rattle.live_graph.specs.NumberOf.{IsNumberOf, KeepsNumbersOf}
 use Rattle.live_graph.proofs.Counts.{names_set}
 use Rattle.live_graph.proofs.Names.{names_kept}

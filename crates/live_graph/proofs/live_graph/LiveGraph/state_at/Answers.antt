@@ -1,5 +1,5 @@
 use Rattle.std.proofs.Common.{◌≡◌, sym, ap, subst, ◌∙◌}
-use Rattle.walks.specs.States.{Entries, state_in}
+use Rattle.graph_words.specs.States.{Entries, state_in}
 use Rattle.live_graph.specs.NumberOf.{IsNumberOf}
 use Rattle.live_graph.proofs.Names.{state_there}
 use Rattle.live_graph.proofs.live_graph.LiveGraph.state_at.Goals as goal

@@ -1,6 +1,6 @@
 use Rattle.std.proofs.Common.{subst}
-use Rattle.walks.specs.Whole.{AreVertices}
-use Rattle.walks.specs.States.{Entries, state_in}
+use Rattle.graph_words.specs.Whole.{AreVertices}
+use Rattle.graph_words.specs.States.{Entries, state_in}
 use Rattle.live_graph.proofs.Ends.{vertices_whole}
 use Rattle.live_graph.proofs.live_graph.LiveGraph.vertices.Goals as goal
 

@@ -2,10 +2,10 @@ use Rattle.std.proofs.Common.{subst}
 use Rattle.std.specs.Prelude.{◌&&◌, ◌||◌}
 use Rattle.std.specs.List.{list_any}
 use Rattle.grove_edits.specs.Vertex.{is_same_vertex, root}
-use Rattle.walks.specs.States.{Entries}
+use Rattle.graph_words.specs.States.{Entries}
 use Rattle.numbers_by_name.specs.ByName.{numbers_of, is_same_name}
 use Rattle.live_graph.specs.Uses.{is_named_vertex}
-use Rattle.walks.specs.Named.{AreLeastTwo, IsVertexNamed}
+use Rattle.graph_words.specs.Named.{AreLeastTwo, IsVertexNamed}
 use Rattle.live_graph.proofs.LeastTwo.{least_two_alike}
 use Rattle.live_graph.proofs.VertexNames.{least_two_named}
 use Rattle.live_graph.proofs.live_graph.LiveGraph.vertices_named.Goals as goal

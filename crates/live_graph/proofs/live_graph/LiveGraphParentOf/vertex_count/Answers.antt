@@ -1,6 +1,6 @@
 use Rattle.std.proofs.Common.{subst}
-use Rattle.walks.specs.Live.{IsInEdgeOrder}
-use Rattle.walks.specs.States.{Entries}
+use Rattle.graph_words.specs.Live.{IsInEdgeOrder}
+use Rattle.graph_words.specs.States.{Entries}
 use Rattle.live_graph.specs.Live.{live}
 use Rattle.live_graph.proofs.Lives.{in_order-live}
 use Rattle.live_graph.proofs.live_graph.LiveGraphParentOf.vertex_count.Goals as goal

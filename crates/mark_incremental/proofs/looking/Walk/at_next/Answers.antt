@@ -2,7 +2,7 @@
 use Rattle.std.proofs.Common.{◌≡◌, ◌<◌, length, nat_lt, rules, arith, Some, ap, ◌∙◌}
 use Rattle.std.specs.Prelude.{◌↔◌, IsTrue, slice_get}
 use Rattle.grove_sorts.specs.Ctor.{positions}
-use Rattle.walks.specs.Live.{children_of}
+use Rattle.graph_words.specs.Live.{children_of}
 use Rattle.edge_index.specs.Lists.{live}
 use Rattle.judging.proofs.Kept.{open_kept}
 use Rattle.mark_incremental.specs.declared.frame.Frame.{Frame}

@@ -2,8 +2,8 @@
 use Rattle.std.proofs.Common.{◌≡◌, suc, drop, ◌+◌, ◌<◌, ◌≤◌, List, [], ◌∷◌, ◌++◌, length, take, sym, ap, subst, ◌∙◌, arith}
 use Rattle.std.proofs.lemmas.List.{take_more}
 use Rattle.grove_edits.specs.declared.vertex.Vertex.{Vertex}
-use Rattle.walks.specs.declared.class.Class.TheVariants.{Inner}
-use Rattle.walks.specs.Class.{class}
+use Rattle.graph_words.specs.declared.class.Class.TheVariants.{Inner}
+use Rattle.graph_words.specs.Class.{class}
 use Rattle.edge_index.specs.Lists.{live}
 use Rattle.judging.proofs.Kept.{types-then, contexts-then}
 use Rattle.mark_incremental.specs.Looking.{on}

@@ -2,8 +2,8 @@
 use Rattle.std.proofs.Common.{[], ◌∷◌, None, refl, subst, ◌∙◌, arith}
 use Rattle.grove_edits.specs.Edit.{edit_edge, edit_kind}
 use Rattle.grove_edits.specs.Graph.{graph, graph_join, IsSame}
-use Rattle.walks.specs.declared.change.Change.TheVariants.{Same}
-use Rattle.walks.specs.States.{state_in}
+use Rattle.graph_words.specs.declared.change.Change.TheVariants.{Same}
+use Rattle.graph_words.specs.States.{state_in}
 use Rattle.mark_incremental.specs.Raising.{LeavesRoom, MovesRoom, brought_by, taken_by}
 use Rattle.std.specs.Prelude.{IfSome}
 use Rattle.mark_incremental.specs.declared.applying.Applied.{Applied}

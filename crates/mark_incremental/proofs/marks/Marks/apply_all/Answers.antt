@@ -3,7 +3,7 @@ use Rattle.std.proofs.Common.{sym, ◌∙◌, arith}
 use Rattle.std.specs.Prelude.{reverse}
 use Rattle.edge_lattice.specs.declared.state.State.TheVariants.{Absent}
 use Rattle.edge_lattice.proofs.States.{state_join_comm, Absent-state_join}
-use Rattle.walks.specs.States.{state_in}
+use Rattle.graph_words.specs.States.{state_in}
 use Rattle.mark_incremental.specs.Receipts.{held}
 use Rattle.mark_incremental.proofs.Receipts.{none_led, last_led, have_led_on, as_failed, store_room, marks_room}
 use Rattle.mark_incremental.proofs.AllApplied.{nothing_spent, joined_more, joined_all, spent_more, spent_within}

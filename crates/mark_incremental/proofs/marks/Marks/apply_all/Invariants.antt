@@ -2,7 +2,7 @@
 use Rattle.std.proofs.Common.{◌≡◌, ◌≤◌, length, take, drop, vec_len, vec_capacity}
 use Rattle.std.specs.Prelude.{reverse}
 use Rattle.grove_edits.specs.Graph.{graph, graph_join, IsSame}
-use Rattle.walks.specs.States.{state_in}
+use Rattle.graph_words.specs.States.{state_in}
 use Rattle.mark_incremental.specs.Raising.{AreIndexed}
 use Rattle.mark_incremental.specs.Standing.{StandFor}
 use Rattle.mark_incremental.specs.Receipts.{held, HaveLed}

@@ -2,7 +2,7 @@
 use Rattle.std.proofs.Common.{◌*◌, sym, subst, arith}
 use Rattle.std.specs.Prelude.{IsTrue}
 use Rattle.grove_edits.specs.Edit.{edit_edge, edit_kind}
-use Rattle.walks.specs.States.{state_in}
+use Rattle.graph_words.specs.States.{state_in}
 use Rattle.edge_index.specs.Lists.{live}
 use Rattle.mark_incremental.specs.Raising.{brought_by, taken_by}
 use Rattle.mark_incremental.specs.Looking.{AreRoots}

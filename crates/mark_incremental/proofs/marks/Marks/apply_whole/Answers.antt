@@ -1,7 +1,7 @@
 -- The marks stand for the graph with the edit, or all is as before.
 use Rattle.std.proofs.Common.{refl, arith}
 use Rattle.grove_edits.specs.Edit.{edit_edge, edit_kind}
-use Rattle.walks.specs.States.{state_in}
+use Rattle.graph_words.specs.States.{state_in}
 use Rattle.edge_index.specs.Lists.{live}
 use Rattle.mark_incremental.specs.Raising.{brought_by, taken_by}
 use Rattle.mark_incremental.proofs.Room.{moved_back}

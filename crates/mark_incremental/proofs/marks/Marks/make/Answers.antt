@@ -1,8 +1,8 @@
 -- The heads are no trees of others.
 use Rattle.std.proofs.Common.{◌≡◌, sym, subst, ◌∙◌, arith}
 use Rattle.std.specs.List.{AllByRecursion}
-use Rattle.walks.specs.declared.class.Class.TheVariants.{Inner}
-use Rattle.walks.specs.Class.{class}
+use Rattle.graph_words.specs.declared.class.Class.TheVariants.{Inner}
+use Rattle.graph_words.specs.Class.{class}
 use Rattle.edge_index.specs.Lists.{live}
 use Rattle.mark_incremental.specs.Looking.{on}
 use Rattle.mark_incremental.specs.Ticks.{AreTreesPaidFor}

@@ -1,8 +1,8 @@
 -- The tables of the marks are those that the walk reads and grows.
 use Rattle.std.proofs.Common.{◌≡◌, ◌+◌, ◌*◌, ◌≤◌, ℕ, false, length, subst}
 use Rattle.std.specs.Prelude.{IfOk, IfSome}
-use Rattle.walks.specs.declared.class.Class.TheVariants.{Inner}
-use Rattle.walks.specs.Class.{class}
+use Rattle.graph_words.specs.declared.class.Class.TheVariants.{Inner}
+use Rattle.graph_words.specs.Class.{class}
 use Rattle.grove_terms.specs.Forest.{edges_under}
 use Rattle.edge_index.specs.Lists.{live}
 use Rattle.mark_step.specs.Expression.{Demanded}

@@ -1,7 +1,7 @@
 -- The marks stand for the new graph.
 use Rattle.std.proofs.Common.{Bool, ap, ◌∙◌, arith}
 use Rattle.grove_edits.specs.declared.edge.Edge.{Edge}
-use Rattle.walks.specs.States.{state_in}
+use Rattle.graph_words.specs.States.{state_in}
 use Rattle.edge_index.specs.Lists.{live}
 use Rattle.mark_store.specs.Places.{Places}
 use Rattle.mark_incremental.specs.Looking.{holds}

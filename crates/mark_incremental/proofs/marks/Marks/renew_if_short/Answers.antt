@@ -1,8 +1,8 @@
 -- The source alone sees what the edit makes of the target, or nothing is done.
 use Rattle.std.proofs.Common.{◌≡◌, length, ap, arith}
-use Rattle.walks.specs.Live.{children_of}
+use Rattle.graph_words.specs.Live.{children_of}
 use Rattle.edge_index.specs.Lists.{live}
-use Rattle.walks.specs.States.{state_in}
+use Rattle.graph_words.specs.States.{state_in}
 use Rattle.mark_incremental.proofs.ApartFrom.{seen_by_one, rooted_there, well_there, stands_there, size_near, stand_if, few_short}
 use Rattle.mark_incremental.proofs.ConflictRenewed.{children_seen}
 use Rattle.mark_incremental.proofs.marks.Marks.renew_if_short.Goals as goal

@@ -2,7 +2,7 @@
 use Rattle.std.proofs.Common.{sym, subst, ◌∙◌}
 use Rattle.type_core.specs.TypeTable.{KeepsTypes}
 use Rattle.ctx_table.specs.CtxTable.{KeepsContexts}
-use Rattle.walks.specs.States.{state_in}
+use Rattle.graph_words.specs.States.{state_in}
 use Rattle.mark_incremental.proofs.Edited.{grown_stands}
 use Rattle.mark_incremental.proofs.marks.Marks.take_back.Goals as goal
 

@@ -1,4 +1,4 @@
-use Rattle.walks.specs.States.{state_in}
+use Rattle.graph_words.specs.States.{state_in}
 use Rattle.marked_replica.specs.MarkingCost.{edits_marking_cost}
 use Rattle.replica_core.proofs.Keeping.{seen_unchanged, seen_taken, graph_seen}
 use Rattle.marked_replica.proofs.MarkingCosts.{edits_marking_cost_is}

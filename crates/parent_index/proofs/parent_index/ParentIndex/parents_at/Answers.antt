@@ -1,5 +1,5 @@
 use Rattle.std.proofs.Common.{ap, ◌∙◌}
-use Rattle.walks.specs.Live.{parents_of}
+use Rattle.graph_words.specs.Live.{parents_of}
 use Rattle.edge_index.specs.Lists.{live}
 use Rattle.parent_index.proofs.Targets.{parents_is}
 use Rattle.parent_index.proofs.parent_index.ParentIndex.parents_at.Goals as goal

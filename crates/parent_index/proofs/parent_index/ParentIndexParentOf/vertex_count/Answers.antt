@@ -1,5 +1,5 @@
 use Rattle.std.proofs.Common.{length, ap, ◌∙◌}
-use Rattle.walks.specs.Live.{targets_of}
+use Rattle.graph_words.specs.Live.{targets_of}
 use Rattle.edge_index.specs.Lists.{live}
 use Rattle.parent_index.proofs.Targets.{keys_count}
 use Rattle.parent_index.proofs.parent_index.ParentIndexParentOf.vertex_count.Goals as goal

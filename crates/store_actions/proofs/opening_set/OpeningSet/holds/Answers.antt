@@ -1,5 +1,5 @@
 use Rattle.std.proofs.Common.{ap, subst, sym, ◌∙◌}
-use Rattle.walks.specs.Live.{IsInEdgeOrder, holds_edge}
+use Rattle.graph_words.specs.Live.{IsInEdgeOrder, holds_edge}
 use Rattle.user_actions.proofs.Openings.{search_tells}
 use Rattle.store_actions.proofs.opening_set.OpeningSet.holds.Goals as goal
 

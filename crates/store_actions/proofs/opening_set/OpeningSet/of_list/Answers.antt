@@ -4,7 +4,7 @@ use Rattle.grove_edits.specs.declared.edge.Edge.{Edge}
 use Rattle.grove_edits.specs.declared.edit.Edit.{Edit}
 use Rattle.grove_edits.specs.Edit.{edit_edge}
 use Rattle.grove_edits.specs.Graph.{graph}
-use Rattle.walks.specs.Live.{IsInEdgeOrder}
+use Rattle.graph_words.specs.Live.{IsInEdgeOrder}
 use Rattle.user_actions.specs.Lists.{ArePresent}
 use Rattle.user_actions.proofs.Openings.{edges_in_order, canonical_present}
 use Rattle.store_actions.proofs.opening_set.OpeningSet.of_list.Goals as goal

@@ -1,6 +1,6 @@
 use Rattle.std.proofs.Common.{◌<◌, Bool, List, length, get_or, sym, subst, refl, arith}
 use Rattle.edge_numbers.specs.Numbered.{edges_of, no_edge}
-use Rattle.walks.specs.States.{state_in}
+use Rattle.graph_words.specs.States.{state_in}
 use Rattle.user_actions.specs.Flags.{opening_edges}
 use Rattle.user_actions.specs.Lists.{ArePresent}
 use Rattle.user_actions.proofs.FlaggedEdges.{flags_next, flags_all, opening_present}

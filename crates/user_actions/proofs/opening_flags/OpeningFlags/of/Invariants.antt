@@ -1,6 +1,6 @@
 use Rattle.std.proofs.Common.{◌≡◌, map, take}
 use Rattle.edge_numbers.specs.Numbered.{edges_of}
-use Rattle.walks.specs.States.{state_in, is_present}
+use Rattle.graph_words.specs.States.{state_in, is_present}
 use Rattle.user_actions.proofs.opening_flags.OpeningFlags.of.Given as goal
 
 abbrev pub invariant-loop-number : goal.invariant-loop-number

@@ -2,7 +2,7 @@ use Rattle.std.proofs.Common.{◌≡◌, ℕ, false, ap, sym, ◌∙◌, arith}
 use Rattle.std.specs.Prelude.{Option, Some}
 use Rattle.std.proofs.lemmas.Bool.{le-ltb}
 use Rattle.std.proofs.lemmas.List.{get_or_read_under}
-use Rattle.walks.specs.Live.{holds_edge}
+use Rattle.graph_words.specs.Live.{holds_edge}
 use Rattle.user_actions.specs.Flags.{opening_edges}
 use Rattle.user_actions.proofs.FlaggedEdges.{flag_told, behind_told, none_told}
 use Rattle.user_actions.proofs.opening_flags.OpeningFlags.was_open.Goals as goal
