@@ -1,0 +1,11 @@
+mod Appending
+mod Committing
+mod Kept
+mod Lines
+mod Logs
+mod Moments
+mod Recorded
+mod Records
+mod Runs
+mod WorkedValues
+mod Writes

@@ -1,0 +1,12 @@
+pub mod Calls
+pub mod Disk
+pub mod DiskRecord
+pub mod Fault
+pub mod FuseDisk
+pub mod History
+pub mod Keeping
+pub mod LogFault
+pub mod LogFile
+pub mod LogState
+pub mod RecoveryFault
+pub mod Writing

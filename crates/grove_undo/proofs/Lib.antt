@@ -1,0 +1,14 @@
+pub mod Gathered
+pub mod Exchanged
+pub mod Shapes
+pub mod Classes
+pub mod Again
+pub mod Undone
+pub mod Redone
+pub mod Apart
+pub mod Raised
+pub mod Named
+pub mod EdgePlaces
+pub mod Changed
+pub mod Faults
+pub mod Taken
