@@ -9,6 +9,7 @@ use edit_text::read_line;
 use grove_edits::{Edit, EditList};
 use grove_sorts::Version;
 use std::alloc::Global;
+use text_parts::NoMemory;
 
 /// Why the edits of a file's log were not read.
 #[derive(Clone, Copy, Debug, PartialEq, Eq)]
@@ -21,7 +22,7 @@ pub(crate) enum LogFault {
 impl From<NoMemory> for LogFault {
     ghost from_gives = { λ _ fault. fault ≡ no_memory };
 
-    fn from(_: grove_edits::NoMemory) -> LogFault {
+    fn from(_: NoMemory) -> LogFault {
         LogFault::NoMemory
     }
 }
