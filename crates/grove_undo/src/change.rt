@@ -10,11 +10,11 @@ use crate::places::{places_of, standing_at};
 use crate::raising::{graph_of, raise_each};
 use crate::undo_view::UndoView;
 use grove_edits::{Edge, Edit, EditKind};
-use grove_terms::EdgeList;
 use live_graph::LiveGraph;
 use seeded_hash::HashSeed;
 use std::alloc::Global;
 use text_parts::NoMemory;
+use whole_groves::EdgeList;
 
 /// What the edits of an action changed in a graph. Each list is in edge order.
 #[derive(Debug, Drop)]

@@ -9,11 +9,11 @@ ghost use Rattle.grove_undo.specs.Undoing.{IsLeastApart};
 
 use edge_lattice::State;
 use grove_edits::{Edge, Edit, EditKind};
-use grove_terms::EdgeList;
 use live_graph::LiveGraph;
 use std::alloc::Global;
 use std::cmp::Ordering;
 use text_parts::NoMemory;
+use whole_groves::EdgeList;
 
 /// Puts edges in order, and each there once.
 pub(crate) fn sort_edges(edges: &mut Vec<Edge>)
