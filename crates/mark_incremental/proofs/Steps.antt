@@ -589,6 +589,10 @@ way_ends live types ctxs places judged from before made way records reads leaves
 
 -- ---- frames that are put on and taken off
 
+pub no_first : {X : Type 0} (xs : List X) → slice_get xs 0 ≡ None → xs ≡ []
+no_first [] is = refl
+no_first (x ∷ xs) is = absurd cc
+
 pub first_is : {X : Type 0} (xs : List X) (x : X) → slice_get xs 0 ≡ Some x → xs ≡ x ∷ drop 1 xs
 first_is [] x is = absurd cc
 first_is (y ∷ ys) x is = ap (λ z. z ∷ ys) (some_part y x is)

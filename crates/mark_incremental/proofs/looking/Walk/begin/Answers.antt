@@ -8,6 +8,9 @@ use Rattle.judging.specs.Machine as machine
 use Rattle.mark_incremental.specs.Ticks.{places_cost}
 use Rattle.mark_incremental.proofs.looking.Walk.begin.Goals as goal
 
+pub at_next-requires-clause-ctor : goal.at_next-requires-clause-ctor
+at_next-requires-clause-ctor g c = ap (λ (v : machine.Opened). v.ctor) (c.fresh-state.ensures.opened c.args.ctxs.now)
+
 pub returns-clause-at_most : goal.returns-clause-at_most
 returns-clause-at_most g c =
     let all : drop c.fresh-state.result.next (positions c.args.vertex.now.ctor) ≡ positions c.args.vertex.now.ctor =

@@ -2,10 +2,14 @@
 use Rattle.std.proofs.Common.{drop, sym}
 use Rattle.edge_index.specs.Lists.{live}
 use Rattle.mark_incremental.specs.Looking.{on}
-use Rattle.mark_incremental.proofs.Steps.{first_is}
-use Rattle.mark_incremental.proofs.Opened.{passed_conflict, passed_only}
+use Rattle.mark_incremental.proofs.Steps.{first_is, no_first}
+use Rattle.mark_incremental.proofs.Opened.{passed_empty, passed_conflict, passed_only}
 use Rattle.mark_incremental.proofs.Ticks.{some_left}
 use Rattle.mark_incremental.proofs.looking.Walk.pass.Goals as goal
+
+pub returns-in_default-clause-passed : goal.returns-in_default-clause-passed
+returns-in_default-clause-passed g c = λ l opened records reads leaves.
+    passed_empty (live c.args.self.now.parents.now) c.args.types.now c.args.ctxs.now l c.args.frame.now (opened records reads leaves) (no_first c.args.frame.now.left.now (sym c.in_default.ensures.value))
 
 pub returns-then-frame-clause-passed : goal.returns-then-frame-clause-passed
 returns-then-frame-clause-passed g c = λ l opened records reads leaves.

@@ -8,7 +8,8 @@ use Rattle.mark_incremental.specs.Raising.{LeavesRoom, MovesRoom, brought_by, ta
 use Rattle.std.specs.Prelude.{IfSome}
 use Rattle.mark_incremental.specs.declared.applying.Applied.{Applied}
 use Rattle.mark_incremental.specs.Standing.{StandFor}
-use Rattle.mark_incremental.specs.Applying.{WasApplied, IsApplied, IsBack}
+use Rattle.mark_incremental.specs.Applying.{WasApplied, IsApplied, IsBack, HaveGrown}
+use Rattle.mark_incremental.proofs.Receipts.{room_then}
 use Rattle.mark_incremental.proofs.Room.{leaves_room, leaves_more}
 use Rattle.mark_incremental.proofs.Stack.{if_ok_so}
 use Rattle.grove_sorts.proofs.Truths.{after_error, none_from_cases}
@@ -76,7 +77,27 @@ returns-in-Some-clause-ticks g c = λ n size.
     let short = c.apply_short.ensures.ticks n (size_over c.args.edit.now (state_in c.args.store.now) (state_in c.reserve.new.store) n c.reserve.ensures.graph size) in
     omega (arith, short)
 
+pub returns-in-Some-clause-room_stays : goal.returns-in-Some-clause-room_stays
+returns-in-Some-clause-room_stays g c = λ e had. c.apply_short.ensures.room_stays e (c.reserve.ensures.room_stays e had)
+
 -- ---- it is not enough
+
+pub returns-clause-unchanged : goal.returns-clause-unchanged
+returns-clause-unchanged g c =
+    let back = c.in_ok-applied.ensures.back (none_from_cases c.in_ok-applied.field-0 c.in_default.not-Some) in
+    on_err_so c.apply_whole.result
+    (IsBack c.apply_short.new.store c.apply_short.new.children c.apply_short.new.parents c.apply_short.new.self c.apply_whole.new.store c.apply_whole.new.children c.apply_whole.new.parents c.apply_whole.new.self)
+    (IsSame (state_in c.apply_whole.new.store) (state_in c.args.store.now)) (λ again e. again.same e ∙ back.same e ∙ c.reserve.ensures.graph e) c.apply_whole.ensures.unchanged
+
+pub returns-clause-kept : goal.returns-clause-kept
+returns-clause-kept g c =
+    let back = c.in_ok-applied.ensures.back (none_from_cases c.in_ok-applied.field-0 c.in_default.not-Some) in
+    on_err_so c.apply_whole.result
+    (IsBack c.apply_short.new.store c.apply_short.new.children c.apply_short.new.parents c.apply_short.new.self c.apply_whole.new.store c.apply_whole.new.children c.apply_whole.new.parents c.apply_whole.new.self)
+    (HaveGrown c.args.self.now c.apply_whole.new.self) (λ again. grown_then c.args.self.now c.apply_short.new.self c.apply_whole.new.self back.grown again.grown) c.apply_whole.ensures.unchanged
+
+pub returns-clause-marks_room_stays : goal.returns-clause-marks_room_stays
+returns-clause-marks_room_stays g c = room_then c.args.self.now c.apply_short.new.self c.apply_whole.new.self c.apply_short.ensures.marks_room_stays c.apply_whole.ensures.marks_room_stays
 
 pub apply_whole-requires-clause-stand : goal.apply_whole-requires-clause-stand
 apply_whole-requires-clause-stand g c =
