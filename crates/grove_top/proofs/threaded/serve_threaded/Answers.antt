@@ -1,4 +1,4 @@
-use Rattle.std.proofs.Common.{refl, sym, ap, ◌∙◌, subst, List, ℕ, Err, arith, [], ◌≡◌, ◌⊎◌, inl, inr, ◌<◌, ◌≤◌, length}
+use Rattle.std.proofs.Common.{refl, sym, ap, ◌∙◌, subst, List, ℕ, Err, arith, [], ◌≡◌, ◌⊎◌, inl, inr, ◌<◌, length}
 use Rattle.grove_io.specs.Outside.{Gave, Took, IsAtEnd}
 use Rattle.grove_calls.specs.declared.ending.Ending.TheVariants.{TooLong}
 use Rattle.grove_top.specs.Words.{AreOf, Reads}

@@ -1,4 +1,4 @@
-use Rattle.grove_top.proofs.NeverUnfit.{never_unfit, served_as}
+use Rattle.grove_top.proofs.NeverUnfit.{never_unfit}
 use Rattle.grove_top.proofs.top.run.Goals as goal
 
 pub status_of-requires : goal.status_of-requires

@@ -1,6 +1,3 @@
-use Rattle.std.proofs.Common.{◌≡◌, sym, subst, ℕ}
-use Rattle.grove_calls.specs.declared.ending.Ending.{Ending}
-use Rattle.grove_calls.specs.Served.{Outside, IsServed}
 use Rattle.grove_calls.proofs.Asked.{asked}
 use Rattle.grove_top.specs.declared.command.Command.TheVariants.{Ask}
 use Rattle.grove_top.specs.Due.{top_rules}
