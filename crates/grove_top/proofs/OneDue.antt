@@ -1,6 +1,6 @@
 -- A text gets one answer from a command, or has one first fault.
 use Rattle.std.specs.declared.alloc.Global.{Global}
-use Rattle.std.proofs.Common.{◌≡◌, ◌≢◌, ◌⊎◌, inl, inr, ℕ, List, [], get_or, nat_eq, if◌then◌else◌, refl, sym, ap, subst, ◌∙◌, arith}
+use Rattle.std.proofs.Common.{◌≡◌, ◌≢◌, ℕ, List, [], get_or, nat_eq, if◌then◌else◌, refl, sym, ap, subst, ◌∙◌, arith}
 use Rattle.std.specs.Prelude.{String}
 use Rattle.std.specs.Str.Parse.{digits_value}
 use Rattle.std.proofs.lemmas.Fmt.{decimal_is_IsNumeral}
@@ -11,7 +11,6 @@ use Rattle.grove_sorts.specs.declared.version.Version.{Version}
 use Rattle.edit_text.specs.Whole.{IsTextOf}
 use Rattle.edit_text.proofs.WholeTexts.{one_list}
 use Rattle.session_script.specs.declared.session.Session.{Session}
-use Rattle.session_script.specs.Session.{Spells}
 use Rattle.session_script.proofs.OneSession.{one_session}
 use Rattle.replica_core.specs.Content.{Content}
 use Rattle.session_report.specs.Taken.{Journals}

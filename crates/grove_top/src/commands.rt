@@ -2,6 +2,7 @@ ghost use Rattle.std.specs.Prelude.{◌≡◌, ◌≤◌, ◌++◌, length, IfOk
 ghost use Rattle.grove_edits.specs.Graph.{graph, Ascends};
 ghost use Rattle.edit_text.specs.Whole.{HasWholeFault, header};
 ghost use Rattle.grove_answers.specs.Texts.{IsPrintText, IsCheckText};
+ghost use Rattle.session_script.specs.Session.{IsSession};
 ghost use Rattle.session_report.specs.Legal.{AreLegal};
 ghost use Rattle.session_report.specs.Report.{IsReport};
 ghost use Rattle.grove_calls.specs.Due.{IsRefusal, most_bytes};
@@ -69,6 +70,7 @@ fn report<R: Threads + Wait + Sync, G: Gate>(
     session: &Session,
     gate: &G,
 ) -> Result<Formed<JournalList<Replica>>, NoMemory>
+    requires { IsSession session.now }
     ensures legal { IfOk result (λ formed. AreLegal session.now formed.handed) }
     ensures report { IfOk result (λ formed. IsReport session.now formed.handed formed.text.items) }
 {

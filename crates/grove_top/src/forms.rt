@@ -1,4 +1,4 @@
-//! What forms the answer of each command.
+//! What forms the answer of a command that starts no threads.
 ghost use Rattle.grove_calls.specs.Rules.{AreFor};
 ghost use Rattle.grove_top.specs.declared.command.Command.{Command};
 ghost use Rattle.grove_top.specs.declared.command.Command.TheVariants.{Ask};
@@ -6,16 +6,13 @@ ghost use Rattle.grove_top.specs.Words.{AreOf, IsPlain};
 ghost use Rattle.grove_top.specs.Due.{top_rules};
 
 use crate::command::{Command, Question};
-use crate::commands::{form_answer, form_report, form_summary};
+use crate::commands::form_answer;
 use crate::words::command_of;
 use grove_calls::{Form, Formed, Refusal};
-use grove_io::Gate;
 use replica_core::Replica;
 use seeded_hash::HashSeed;
 use session_report::JournalList;
 use std::alloc::Global;
-use std::sync::Wait;
-use std::thread::Threads;
 
 const USAGE: &[u8] = b"usage: grove merge | show | check | run | gen N\n";
 
@@ -64,51 +61,5 @@ pub(crate) fn plain_form(seed: HashSeed, words: &[String]) -> Option<Plain>
         Some(Command::Ask(question)) => Some(Plain { seed, question }),
         Some(Command::Run) | Some(Command::Generate { .. }) => unreachable!(),
         None => None,
-    }
-}
-
-/// Any command, with what it takes to start threads.
-#[derive(Drop)]
-pub(crate) struct Threaded<'r, R, G> {
-    pub(crate) rt: &'r R,
-    pub(crate) seed: HashSeed,
-    pub(crate) command: Command,
-    pub(crate) gate: &'r G,
-}
-
-impl<'r, R: Threads + Wait + Sync, G: Gate> Form for Threaded<'r, R, G> {
-    type Command = Command;
-
-    type Handed = JournalList<Replica>;
-
-    ghost use Rattle.grove_top.specs.Due.{top_rules};
-
-    ghost rules = { top_rules };
-
-    ghost command = { λ form. form.command };
-
-    fn reads(&self) -> bool {
-        match self.command {
-            Command::Ask(_) | Command::Run => true,
-            Command::Generate { .. } => false,
-        }
-    }
-
-    fn form(&self, alloc: Global, text: &[u8]) -> Result<Formed<JournalList<Replica>>, Refusal> {
-        match self.command {
-            Command::Ask(question) => form_answer(alloc, self.seed, question, text),
-            Command::Run => form_report(self.rt, alloc, self.seed, text, self.gate),
-            Command::Generate { loads } => {
-                Ok(form_summary(self.rt, alloc, self.seed, loads, self.gate)?)
-            }
-        }
-    }
-
-    fn nothing(alloc: Global) -> JournalList<Replica> {
-        JournalList::new(alloc)
-    }
-
-    fn usage() -> &'static [u8] {
-        USAGE
     }
 }

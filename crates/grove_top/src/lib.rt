@@ -8,6 +8,7 @@ mod forms;
 mod laws;
 mod limit;
 mod outcome;
+mod threaded;
 mod top;
 mod words;
 

@@ -6,8 +6,9 @@ ghost use Rattle.grove_top.specs.Due.{top_rules};
 ghost use Rattle.grove_top.specs.EndingOf.{ending_of};
 
 use crate::command::Command;
-use crate::forms::{Threaded, plain_form};
+use crate::forms::plain_form;
 use crate::outcome::{Outcome, status_of};
+use crate::threaded::serve_threaded;
 use crate::words::command_of;
 use grove_calls::serve;
 use grove_io::{Gate, Sink, Source};
@@ -39,13 +40,7 @@ pub fn run<R: Threads + Wait + Sync, S: Source, K: Sink, G: Gate>(
     match command_of(words) {
         Some(Command::Ask(_)) | None => run_plain(alloc, seed, words, source, sink),
         Some(command) => {
-            let form = Threaded {
-                rt,
-                seed,
-                command,
-                gate,
-            };
-            let (ending, journals) = serve(alloc, Some(form), source, sink);
+            let (ending, journals) = serve_threaded(rt, alloc, seed, command, source, sink, gate);
             Outcome {
                 status: status_of(ending),
                 journals,

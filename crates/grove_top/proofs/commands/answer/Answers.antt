@@ -1,5 +1,4 @@
 use Rattle.std.proofs.Common.{subst, sym}
-use Rattle.grove_top.specs.declared.command.Question.{Question}
 use Rattle.grove_top.specs.declared.command.Question.TheVariants.{Show, Check}
 use Rattle.grove_top.specs.Due.{IsAnswered}
 use Rattle.grove_top.proofs.Answered.{answer_told}

@@ -4,4 +4,4 @@ use Rattle.grove_top.proofs.OneDue.{top_decided}
 use Rattle.grove_top.proofs.laws.one_text_is_due.Goals as goal
 
 pub returns : goal.returns
-returns c = one_due top_rules top_decided
+returns c = record { one = one_due top_rules top_decided }
