@@ -1,2 +1,4 @@
 pub mod Sound
 pub mod Dealing
+pub mod Fails
+pub mod Known

@@ -1,3 +1,4 @@
 pub mod Words
 pub mod Relay
 pub mod Due
+pub mod Known

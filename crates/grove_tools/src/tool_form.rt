@@ -23,9 +23,12 @@ impl<'r, R: Threads + Wait + Sync> Form for ToolForm<'r, R> {
 
     type Handed = Handed;
 
+    ghost use Rattle.std.specs.Thread.{IsSync};
     ghost use Rattle.grove_tools.specs.Due.{tool_rules};
+    ghost use Rattle.grove_tools.specs.Known.{where_known};
 
-    ghost rules = { tool_rules };
+    // A method is not told that threads may share the runtime, so the rules hand that on.
+    ghost rules = { where_known tool_rules (IsSync R.row) };
 
     ghost command = { λ form. form.tool };
 
