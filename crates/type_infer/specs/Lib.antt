@@ -1,0 +1,16 @@
+pub mod Terms
+pub mod TermCode
+pub mod Equations
+pub mod Forms
+pub mod EqList
+pub mod Links
+pub mod Nodes
+pub mod Placing
+pub mod Inference
+pub mod Writing
+pub mod TreeEquations
+pub mod Examples
+pub mod Rows
+pub mod Walking
+pub mod Scopes
+pub mod Positions
