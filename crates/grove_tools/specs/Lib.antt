@@ -1,4 +1,5 @@
 pub mod Words
 pub mod Relay
+pub mod Infer
 pub mod Due
 pub mod Known

@@ -7,4 +7,7 @@ pub enum Tool {
     /// Lets the edits of the input flow from so many senders, from 1 to `MOST_SENDERS`, to a replica, and writes how many each sent and the
     /// canonical text of the replica.
     Relay { senders: u32 },
+    /// Writes for each tree of a program or an expression the types that its holes for types must have, or the number of the first
+    /// equation that cannot hold.
+    Infer,
 }

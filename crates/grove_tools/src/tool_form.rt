@@ -1,4 +1,5 @@
 //! What each form answers.
+use crate::infer::form_infer;
 use crate::outcome::Handed;
 use crate::relay::form_relay;
 use crate::tool::Tool;
@@ -39,6 +40,7 @@ impl<'r, R: Threads + Wait + Sync> Form for ToolForm<'r, R> {
     fn form(&self, alloc: Global, text: &[u8]) -> Result<Formed<Handed>, Refusal> {
         match self.tool {
             Tool::Relay { senders } => form_relay(self.rt, alloc, self.seed, senders, text),
+            Tool::Infer => form_infer(alloc, self.seed, text),
         }
     }
 
