@@ -1,4 +1,4 @@
--- Rules where a fact is known. A method of a form is told its rules and no bounds of its types, so the rules hand on what such a bound says.
+-- Rules where a fact is known. A method of a form is told its rules and no more of its types, so the rules hand on what else its answer rests on.
 use Rattle.grove_calls.specs.Rules.{Rules}
 
 module _ {C H : Type 0} where
