@@ -2,3 +2,4 @@ pub mod OneDue
 pub mod OneGenerated
 pub mod Answered
 pub mod NeverUnfit
+pub mod Known

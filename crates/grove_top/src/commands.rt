@@ -5,13 +5,14 @@ ghost use Rattle.grove_answers.specs.Texts.{IsPrintText, IsCheckText};
 ghost use Rattle.session_script.specs.Session.{IsSession};
 ghost use Rattle.session_report.specs.Legal.{AreLegal};
 ghost use Rattle.session_report.specs.Report.{IsReport};
+ghost use Rattle.grove_calls.specs.Rules.{IsAsked};
 ghost use Rattle.grove_calls.specs.Due.{IsRefusal, most_bytes};
 ghost use Rattle.grove_top.specs.declared.command.Command.TheVariants.{Ask, Run};
 ghost use Rattle.grove_top.specs.declared.command.Question.TheVariants.{Merge};
 ghost use Rattle.grove_top.specs.Words.{most_loads};
 ghost use Rattle.grove_top.specs.Due.{IsAnswerTo, IsAnswered, IsReported, IsSummarized, top_rules};
 
-use crate::command::Question;
+use crate::command::{Command, Question};
 use edit_merge::merge_lines;
 use edit_table::EditTable;
 use edit_text::{TextFault, split_version, write_version};
@@ -48,8 +49,29 @@ pub(crate) fn form_answer(
     })
 }
 
-/// The report of the session of a text, with its journals.
-pub(crate) fn form_report<R: Threads + Wait + Sync, G: Gate>(
+/// The answer to any command.
+pub(crate) fn form_threaded<R: Threads + Wait + Sync, G: Gate>(
+    rt: &R,
+    alloc: Global,
+    seed: HashSeed,
+    command: Command,
+    text: &[u8],
+    gate: &G,
+) -> Result<Formed<JournalList<Replica>>, Refusal>
+    requires short { length text.now ≤ most_bytes }
+    requires asked { IsAsked top_rules command }
+    ensures answered { IfOk result (λ formed. IsAnswerTo command text.now formed.handed formed.text.items) }
+    ensures refused { IfErr result (IsRefusal top_rules command text.now) }
+{
+    match command {
+        Command::Ask(question) => form_answer(alloc, seed, question, text),
+        Command::Run => form_report(rt, alloc, seed, text, gate),
+        Command::Generate { loads } => Ok(form_summary(rt, alloc, seed, loads, gate)?),
+    }
+}
+
+// The report of the session of a text, with its journals.
+fn form_report<R: Threads + Wait + Sync, G: Gate>(
     rt: &R,
     alloc: Global,
     seed: HashSeed,
@@ -81,8 +103,8 @@ fn report<R: Threads + Wait + Sync, G: Gate>(
     })
 }
 
-/// The summary of a generated session, with its journals.
-pub(crate) fn form_summary<R: Threads + Wait + Sync, G: Gate>(
+// The summary of a generated session, with its journals.
+fn form_summary<R: Threads + Wait + Sync, G: Gate>(
     rt: &R,
     alloc: Global,
     seed: HashSeed,

@@ -1,4 +1,4 @@
-//! What forms the answer of a command that starts no threads.
+//! What forms the answers of commands: `Plain` starts no threads.
 ghost use Rattle.grove_calls.specs.Rules.{AreFor};
 ghost use Rattle.grove_top.specs.declared.command.Command.{Command};
 ghost use Rattle.grove_top.specs.declared.command.Command.TheVariants.{Ask};
@@ -60,6 +60,64 @@ pub(crate) fn plain_form(seed: HashSeed, words: &[String]) -> Option<Plain>
     match command_of(words) {
         Some(Command::Ask(question)) => Some(Plain { seed, question }),
         Some(Command::Run) | Some(Command::Generate { .. }) => unreachable!(),
+        None => None,
+    }
+}
+
+/// Any command, with what forms its answer.
+#[derive(Drop)]
+pub(crate) struct Threaded<F> {
+    pub(crate) answer: F,
+    pub(crate) command: Command,
+}
+
+impl<F: Fn(Global, Command, &[u8]) -> Result<Formed<JournalList<Replica>>, Refusal>> Form
+    for Threaded<F> {
+    type Command = Command;
+
+    type Handed = JournalList<Replica>;
+
+    ghost use Rattle.std.specs.Prelude.{◌≤◌, length, IfOk, IfErr};
+    ghost use Rattle.grove_calls.specs.Rules.{IsAsked};
+    ghost use Rattle.grove_calls.specs.Due.{IsRefusal, most_bytes};
+    ghost use Rattle.grove_top.specs.declared.command.Command.{Command};
+    ghost use Rattle.grove_top.specs.Due.{IsAnswerTo, top_rules};
+    ghost use Rattle.grove_top.specs.Known.{where_known};
+
+    // A method is not told that threads may share a runtime and a gate, so it is given what uses them, and the rules hand on what that answers.
+    ghost rules = { where_known top_rules
+        (((f : F) (alloc : _) (command : Command) (text : _) → length text.now ≤ most_bytes → IsAsked top_rules command → F.pre f alloc command text)
+        × ((f : F) (alloc : _) (command : Command) (text : _) (result : _) → F.post f alloc command text result
+        → IfOk result (λ formed. IsAnswerTo command text.now formed.handed formed.text.items) × IfErr result (IsRefusal top_rules command text.now))) };
+
+    ghost command = { λ form. form.command };
+
+    fn reads(&self) -> bool {
+        match self.command {
+            Command::Ask(_) | Command::Run => true,
+            Command::Generate { .. } => false,
+        }
+    }
+
+    fn form(&self, alloc: Global, text: &[u8]) -> Result<Formed<JournalList<Replica>>, Refusal> {
+        (self.answer)(alloc, self.command, text)
+    }
+
+    fn nothing(alloc: Global) -> JournalList<Replica> {
+        JournalList::new(alloc)
+    }
+
+    fn usage() -> &'static [u8] {
+        USAGE
+    }
+}
+
+/// What the words ask for, with what forms its answer.
+pub(crate) fn threaded_form<F: Drop>(answer: F, words: &[String]) -> Option<Threaded<F>>
+    ensures { AreFor top_rules (λ form. form.command) result words.now }
+{
+    match command_of(words) {
+        Some(command) => Some(Threaded { answer, command }),
         None => None,
     }
 }

@@ -8,7 +8,6 @@ mod forms;
 mod laws;
 mod limit;
 mod outcome;
-mod threaded;
 mod top;
 mod words;
 

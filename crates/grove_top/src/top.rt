@@ -1,18 +1,21 @@
-ghost use Rattle.std.specs.Prelude.{◌≡◌};
+ghost use Rattle.std.specs.Prelude.{◌≡◌, ◌≤◌, length, IfOk, IfErr};
+ghost use Rattle.grove_calls.specs.Rules.{IsAsked};
+ghost use Rattle.grove_calls.specs.Due.{IsRefusal, most_bytes};
 ghost use Rattle.grove_calls.specs.Served.{IsServed};
 ghost use Rattle.grove_top.specs.declared.command.Command.{Command};
 ghost use Rattle.grove_top.specs.Words.{AreOf, IsPlain};
-ghost use Rattle.grove_top.specs.Due.{top_rules};
+ghost use Rattle.grove_top.specs.Due.{IsAnswerTo, top_rules};
 ghost use Rattle.grove_top.specs.EndingOf.{ending_of};
 
 use crate::command::Command;
-use crate::forms::plain_form;
+use crate::commands::form_threaded;
+use crate::forms::{plain_form, threaded_form};
 use crate::outcome::{Outcome, status_of};
-use crate::threaded::serve_threaded;
-use crate::words::command_of;
-use grove_calls::serve;
+use grove_calls::{Formed, Refusal, serve};
 use grove_io::{Gate, Sink, Source};
+use replica_core::Replica;
 use seeded_hash::HashSeed;
+use session_report::JournalList;
 use std::alloc::Global;
 use std::sync::Wait;
 use std::thread::Threads;
@@ -37,15 +40,20 @@ pub fn run<R: Threads + Wait + Sync, S: Source, K: Sink, G: Gate>(
         (record { left = S.left source.new; read_faults = S.faults source.new; taken = K.taken sink.new; write_faults = K.faults sink.new })
         (S.never_fails source.old) (source.new ≡ source.old) (K.never_fails sink.old) result.journals (ending_of result.status) }
 {
-    match command_of(words) {
-        Some(Command::Ask(_)) | None => run_plain(alloc, seed, words, source, sink),
-        Some(command) => {
-            let (ending, journals) = serve_threaded(rt, alloc, seed, command, source, sink, gate);
-            Outcome {
-                status: status_of(ending),
-                journals,
-            }
-        }
+    let answer = |alloc: Global, command: Command, text: &[u8]| -> Result<
+        Formed<JournalList<Replica>>,
+        Refusal,
+    >
+        requires short { length text.now ≤ most_bytes }
+        requires asked { IsAsked top_rules command }
+        ensures answered { IfOk result (λ formed. IsAnswerTo command text.now formed.handed formed.text.items) }
+        ensures refused { IfErr result (IsRefusal top_rules command text.now) }
+    { form_threaded(rt, alloc, seed, command, text, gate) };
+    let form = threaded_form(answer, words);
+    let (ending, journals) = serve(alloc, form, source, sink);
+    Outcome {
+        status: status_of(ending),
+        journals,
     }
 }
 
