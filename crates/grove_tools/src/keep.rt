@@ -37,11 +37,7 @@ pub(crate) fn form_keep(alloc: Global, text: &[u8]) -> Result<Formed<Handed>, Re
 }
 
 // The disk on which the edits are kept, and the text of those found on it.
-fn kept(
-    alloc: Global,
-    version: Version,
-    edits: EditList,
-) -> Result<(MemoryDisk, Vec<u8>), NoMemory>
+fn kept(alloc: Global, version: Version, edits: EditList) -> Result<(MemoryDisk, Vec<u8>), NoMemory>
     requires { length (text_of edits) ≤ most_kept }
     ensures log { IfOk result (λ kept. IsLogOf edits kept.0) }
     ensures text { IfOk result (λ kept. (canonical : List ℕ) × IsCanonicalText (graph edits) canonical × (kept.1.items ≡ header version ++ canonical)) }
