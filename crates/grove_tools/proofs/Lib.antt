@@ -1,6 +1,5 @@
 pub mod Sound
 pub mod Dealing
 pub mod Inferring
-pub mod Kept
 pub mod Fails
 pub mod Known
