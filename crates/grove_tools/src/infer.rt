@@ -27,7 +27,10 @@ pub(crate) fn form_infer(
     let text = infer_text(alloc, seed, table)?;
     Ok(Formed {
         text,
-        handed: Handed { relayed: None },
+        handed: Handed {
+            relayed: None,
+            kept: None,
+        },
     })
 }
 

@@ -3,6 +3,7 @@
 #![tactic(auto)]
 
 mod infer;
+mod keep;
 mod outcome;
 mod relay;
 mod tool;

@@ -10,4 +10,7 @@ pub enum Tool {
     /// Writes for each tree of a program or an expression the types that its holes for types must have, or the number of the first
     /// equation that cannot hold.
     Infer,
+    /// Keeps the edits of the input in a log on a disk in memory, opens the log again, and writes the canonical text of the edits found
+    /// in it, behind the line of the input's version.
+    Keep,
 }

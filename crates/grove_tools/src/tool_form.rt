@@ -1,5 +1,6 @@
 //! What each form answers.
 use crate::infer::form_infer;
+use crate::keep::form_keep;
 use crate::outcome::Handed;
 use crate::relay::form_relay;
 use crate::tool::Tool;
@@ -41,11 +42,15 @@ impl<'r, R: Threads + Wait + Sync> Form for ToolForm<'r, R> {
         match self.tool {
             Tool::Relay { senders } => form_relay(self.rt, alloc, self.seed, senders, text),
             Tool::Infer => form_infer(alloc, self.seed, text),
+            Tool::Keep => form_keep(alloc, text),
         }
     }
 
     fn nothing(_alloc: Global) -> Handed {
-        Handed { relayed: None }
+        Handed {
+            relayed: None,
+            kept: None,
+        }
     }
 
     fn usage() -> &'static [u8] {

@@ -15,6 +15,8 @@ pub(crate) fn tool_of(words: &[String]) -> Option<Tool>
 {
     if is_word(words, "infer") {
         Some(Tool::Infer)
+    } else if is_word(words, "keep") {
+        Some(Tool::Keep)
     } else {
         let senders = senders_of(words)?;
         Some(Tool::Relay { senders })
