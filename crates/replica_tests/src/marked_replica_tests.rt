@@ -33,39 +33,57 @@ fn take<L: Ledger>(
     Ok(())
 }
 
-// The mark that is kept of the vertex to which the edge of a line leads, and whether its type is that of truth values.
-fn kept(marked: &mut MarkedReplica, line: &str) -> Result<Option<(Mark, bool)>, Fail> {
+// The mark that is kept of a vertex, and whether its type is that of truth values.
+#[derive(Clone, Copy, Debug, PartialEq, Eq)]
+struct Told {
+    mark: Mark,
+    is_boolean: bool,
+}
+
+const GOOD_TRUTH: Told = Told {
+    mark: Mark::None,
+    is_boolean: true,
+};
+
+// What is kept of the vertex to which the edge of a line leads.
+fn kept(marked: &mut MarkedReplica, line: &str) -> Result<Option<Told>, Fail> {
     let edge = read_line(Version::Two, line.as_bytes())?.edge();
     let boolean = marked.types().boolean();
     let record = marked.kept(&edge.target);
-    Ok(record.map(|record| (record.mark, record.typ == Some(boolean))))
+    Ok(record.map(|record| Told {
+        mark: record.mark,
+        is_boolean: record.typ == Some(boolean),
+    }))
 }
 
-// What is kept once the edits of lines are taken, the last of them in a block that opened before.
-fn kept_counting<L: Ledger>(
+// A replica that took the edits of lines, and then those of later ones in a block that opened in between.
+fn taken_counting<L: Ledger>(
     alloc: Global,
-    marked: &mut MarkedReplica,
     lines: &[&str],
-    last: &str,
-    line: &str,
+    later: &[&str],
     blank: Blank,
-) -> Result<Option<(Mark, bool)>, Fail>
+) -> Result<MarkedReplica, Fail>
     requires name { blank.name ≡ L.name }
     requires parts { blank.parts ≡ L.parts }
     requires some { 0 < blank.parts }
 {
     let mut steps = Steps::<L>::new(blank);
-    take(alloc, marked, lines, &mut steps)?;
+    let mut marked = MarkedReplica::new(alloc)?;
+    take(alloc, &mut marked, lines, &mut steps)?;
     marked.begin_block(alloc)?;
-    take(alloc, marked, &[last], &mut steps)?;
-    kept(marked, line)
+    take(alloc, &mut marked, later, &mut steps)?;
+    Ok(marked)
+}
+
+fn taken(alloc: Global, lines: &[&str], last: &str) -> Result<MarkedReplica, Fail> {
+    taken_counting::<Brand>(alloc, lines, &[last], Blank::new(1))
 }
 
 fn mark_after(alloc: Global, lines: &[&str], last: &str, line: &str) -> Result<Option<Mark>, Fail> {
-    let mut marked = MarkedReplica::new(alloc)?;
-    let told = kept_counting::<Brand>(alloc, &mut marked, lines, last, line, Blank::new(1));
+    let mut marked = taken(alloc, lines, last)?;
+    let told = kept(&mut marked, line);
     drop(marked);
-    Ok(told?.map(|(mark, _)| mark))
+    Ok(told?.map(|told| told.mark))
 }
 
 #[test]
@@ -95,24 +113,27 @@ fn nothing_is_kept_of_what_is_no_vertex(rt: HostRuntime) -> Result<(), Fail> {
     Ok(())
 }
 
-// What is kept after an action of the first author.
+// A replica that took the edits of lines, and then an action of the first author.
 fn acted_counting<L: Ledger>(
     alloc: Global,
-    marked: &mut MarkedReplica,
     lines: &[&str],
     action: &Action,
-    line: &str,
     blank: Blank,
-) -> Result<Option<(Mark, bool)>, Fail>
+) -> Result<MarkedReplica, Fail>
     requires name { blank.name ≡ L.name }
     requires parts { blank.parts ≡ L.parts }
     requires some { 0 < blank.parts }
 {
     let mut steps = Steps::<L>::new(blank);
-    take(alloc, marked, lines, &mut steps)?;
+    let mut marked = MarkedReplica::new(alloc)?;
+    take(alloc, &mut marked, lines, &mut steps)?;
     marked.begin_block(alloc)?;
     let (_edits, _answer) = marked.act(alloc, 1, action, &mut steps)?;
-    kept(marked, line)
+    Ok(marked)
+}
+
+fn acted(alloc: Global, lines: &[&str], action: &Action) -> Result<MarkedReplica, Fail> {
+    acted_counting::<Brand>(alloc, lines, action, Blank::new(1))
 }
 
 fn kept_once_acted(
@@ -120,9 +141,11 @@ fn kept_once_acted(
     lines: &[&str],
     action: &Action,
     line: &str,
-) -> Result<Option<(Mark, bool)>, Fail> {
-    let mut marked = MarkedReplica::new(alloc)?;
-    acted_counting::<Brand>(alloc, &mut marked, lines, action, line, Blank::new(1))
+) -> Result<Option<Told>, Fail> {
+    let mut marked = acted(alloc, lines, action)?;
+    let told = kept(&mut marked, line);
+    drop(marked);
+    told
 }
 
 #[test]
@@ -134,7 +157,7 @@ fn what_an_action_leaves_is_marked(rt: HostRuntime) -> Result<(), Fail> {
         },
     };
     let mended = kept_once_acted(rt.alloc(), &SUM, &cut, SUM[2])?;
-    assert!(rt; mended == Some((Mark::None, true)));
+    assert!(rt; mended == Some(GOOD_TRUTH));
     Ok(())
 }
 
@@ -158,7 +181,7 @@ fn a_use_takes_the_type_of_what_comes_in_place(rt: HostRuntime) -> Result<(), Fa
         ctor: Ctor::LitTrue,
     };
     let defined = kept_once_acted(rt.alloc(), &DEFINITION, &literal, DEFINITION[3])?;
-    assert!(rt; defined == Some((Mark::None, true)));
+    assert!(rt; defined == Some(GOOD_TRUTH));
     Ok(())
 }
 
