@@ -41,7 +41,8 @@ pub(crate) fn append_marks(
     Ok(())
 }
 
-fn append_mode(
+/// Appends the column of what is wanted of a node of a sort.
+pub fn append_mode(
     sort: Sort,
     mode: Option<Mode>,
     types: &mut TypePrinter,
@@ -63,7 +64,8 @@ fn append_mode(
     Ok(())
 }
 
-fn append_type(
+/// Appends the column of a type, or a dash where there is none.
+pub fn append_type(
     typ: Option<TypeId>,
     types: &mut TypePrinter,
     out: &mut Vec<u8>,
@@ -80,7 +82,8 @@ fn append_type(
     Ok(())
 }
 
-fn sort_of_node(what: &LentWhat) -> Sort
+/// The sort of a node: that of its vertex, or of the position without a sole child.
+pub fn sort_of_node(what: &LentWhat) -> Sort
     ensures { result ≡ sort_of_node (what_of what.now) }
 {
     match what {
@@ -91,7 +94,8 @@ fn sort_of_node(what: &LentWhat) -> Sort
     }
 }
 
-fn mark_word(mark: Mark) -> &'static [u8]
+/// The column of a mark.
+pub fn mark_word(mark: Mark) -> &'static [u8]
     ensures { result.now ≡ mark_text mark }
 {
     match mark {
