@@ -8,9 +8,8 @@ ghost use Rattle.grove_answers.specs.Laws.{lines_none, lines_more, typed_none, t
 
 use crate::marks::marks_in;
 use crate::no_memory::NoMemory;
-use crate::program::Program;
 use crate::report::Report;
-use crate::reporting::report_program;
+use crate::reporting::report_graph;
 use edit_table::EditTable;
 use grove_printer::{Section, print_marked_lines_of};
 use marking::MarkedTree;
@@ -25,13 +24,12 @@ pub fn check_text(alloc: Global, table: EditTable, seed: HashSeed) -> Result<Vec
     requires { Ascends table.edits }
     ensures { IfOk result (λ text. IsCheckText (graph table.edits) text.items) }
 {
-    let program = Program::of(alloc, table, seed)?;
     let mut checked = Checked {
         text: Vec::new(alloc),
         roots: 0,
         typed: 0,
     };
-    report_program(alloc, &program, &mut checked)?;
+    report_graph(alloc, table, seed, &mut checked)?;
     let Checked {
         mut text,
         roots,

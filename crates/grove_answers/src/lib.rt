@@ -21,4 +21,6 @@ pub use counting::grove_counts;
 pub use counts::Counts;
 pub use laws::same_graphs_have_one_text;
 pub use no_memory::NoMemory;
+pub use report::Report;
+pub use reporting::report_graph;
 pub use show::print_text;

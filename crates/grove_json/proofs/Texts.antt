@@ -1,0 +1,106 @@
+-- The texts of nodes, of trees and of lists of trees.
+use Rattle.std.proofs.Common.{◌≡◌, ℕ, List, [], ◌∷◌, ◌++◌, map, refl, sym, ap, ◌∙◌, append_assoc}
+use Rattle.std.specs.Prelude.{true, false, codes, decimal}
+use Rattle.json.specs.Print.{quoted}
+use Rattle.serde_json.specs.Data.{Data, string, Members, member, no_members}
+use Rattle.serde_json.specs.View.{items_of}
+use Rattle.serde_json.specs.Written.{compact_text, items_text, members_text}
+use Rattle.marking.specs.Marking.{MarkedNode}
+use Rattle.grove_printer.specs.Print.{edge_column, mark_text, mode_column, position_column, sort_of_node, type_column, vertex_column, what_column}
+use Rattle.grove_json.specs.GroveValue.{node_value, tree_value, trees_value}
+use Rattle.grove_json.specs.NodeText.{depth_member, text_member, first_members, last_members}
+use Rattle.grove_json.specs.TreeTexts.{listed}
+use Rattle.grove_json.proofs.Plain.{IsPlain, plain_stays}
+
+-- ---- members
+
+-- what opens a member up to its text, the text, and a quote
+pub member_written : (old opened told new opening key text : List ℕ) → opened ≡ old ++ opening → told ≡ opened ++ text → new ≡ told ++ 34 ∷ []
+    → opening ≡ 44 ∷ (quoted key ++ 58 ∷ 34 ∷ []) → IsPlain text → new ≡ old ++ text_member key text
+member_written old opened told new opening key text is_opened is_told is_new is_opening plain =
+    is_new
+    ∙ ap (λ (xs : List ℕ). xs ++ 34 ∷ []) (is_told ∙ ap (λ (xs : List ℕ). xs ++ text) is_opened)
+    ∙ append_assoc (old ++ opening) text (34 ∷ [])
+    ∙ append_assoc old opening (text ++ 34 ∷ [])
+    ∙ ap (λ (xs : List ℕ). old ++ (xs ++ (text ++ 34 ∷ []))) is_opening
+    ∙ ap (λ (xs : List ℕ). old ++ 44 ∷ xs) (append_assoc (quoted key) (58 ∷ 34 ∷ []) (text ++ 34 ∷ []))
+    ∙ ap (λ (xs : List ℕ). old ++ 44 ∷ (quoted key ++ 58 ∷ 34 ∷ (xs ++ 34 ∷ []))) (sym (plain_stays text plain))
+
+member_first : (key text rest : List ℕ) (ms : Members) → rest ≡ members_text true ms → text_member key text ++ rest ≡ members_text true (member key (string text) ms)
+member_first key text rest ms is = ap (λ (xs : List ℕ). text_member key text ++ xs) is ∙ ap (λ (xs : List ℕ). 44 ∷ xs) (append_assoc (quoted key) (58 ∷ quoted text) (members_text true ms))
+
+-- ---- nodes
+
+pub node_is : (m : MarkedNode) → first_members m ++ last_members m ≡ compact_text (node_value m)
+node_is m =
+    append_assoc depth (edge ++ (mark ++ mode)) (last_members m)
+    ∙ ap (λ (xs : List ℕ). depth ++ xs) (append_assoc edge (mark ++ mode) (last_members m) ∙ ap (λ (xs : List ℕ). edge ++ xs) (append_assoc mark mode (last_members m)))
+    ∙ ap (λ (xs : List ℕ). depth ++ xs)
+    (member_first (codes "edge") (edge_column m.node.edge) _ _
+    (member_first (codes "mark") (mark_text m.mark) _ _
+    (member_first (codes "mode") (mode_column (sort_of_node m.node.what) m.wanted) _ _ last)))
+    ∙ ap (λ (xs : List ℕ). 123 ∷ xs) (append_assoc (quoted (codes "depth")) (58 ∷ decimal m.node.depth) _)
+  where
+    depth : List ℕ
+    depth = depth_member m.node.depth
+
+    edge : List ℕ
+    edge = text_member (codes "edge") (edge_column m.node.edge)
+
+    mark : List ℕ
+    mark = text_member (codes "mark") (mark_text m.mark)
+
+    mode : List ℕ
+    mode = text_member (codes "mode") (mode_column (sort_of_node m.node.what) m.wanted)
+
+    last : last_members m ≡ members_text true
+        (member (codes "position") (string (position_column m.node.position))
+        (member (codes "type") (string (type_column m.typ))
+        (member (codes "vertex") (string (vertex_column m.node.what))
+        (member (codes "what") (string (what_column m.node.what)) no_members))))
+    last =
+        member_first (codes "position") (position_column m.node.position) _ _
+        (member_first (codes "type") (type_column m.typ) _ _
+        (member_first (codes "vertex") (vertex_column m.node.what) _ _
+        (member_first (codes "what") (what_column m.node.what) (125 ∷ []) no_members refl)))
+
+-- two parts, one behind the other
+pub two_parts : (old middle new first last whole : List ℕ) → middle ≡ old ++ first → new ≡ middle ++ last → first ++ last ≡ whole → new ≡ old ++ whole
+two_parts old middle new first last whole is_middle is_new is =
+    is_new ∙ ap (λ (xs : List ℕ). xs ++ last) is_middle ∙ append_assoc old first last ∙ ap (λ (xs : List ℕ). old ++ xs) is
+
+-- ---- lists of trees
+
+listed_closed : (trees : List (List MarkedNode)) → listed trees ++ 93 ∷ [] ≡ items_text true (items_of (map tree_value trees))
+listed_closed [] = refl
+listed_closed (t ∷ ts) =
+    ap (λ (xs : List ℕ). 44 ∷ xs) (append_assoc (compact_text (tree_value t)) (listed ts) (93 ∷ []))
+    ∙ ap (λ (xs : List ℕ). 44 ∷ (compact_text (tree_value t) ++ xs)) (listed_closed ts)
+
+-- without the first comma
+first_closed : (trees : List (List MarkedNode)) (comma : ℕ) (first : List ℕ) → comma ∷ first ≡ listed trees → first ++ 93 ∷ [] ≡ items_text false (items_of (map tree_value trees))
+first_closed [] comma first is = absurd cc
+first_closed (t ∷ ts) comma first is =
+    let same : first ≡ compact_text (tree_value t) ++ listed ts = cc in
+    ap (λ (xs : List ℕ). xs ++ 93 ∷ []) same
+    ∙ append_assoc (compact_text (tree_value t)) (listed ts) (93 ∷ [])
+    ∙ ap (λ (xs : List ℕ). compact_text (tree_value t) ++ xs) (listed_closed ts)
+
+none_closed : (trees : List (List MarkedNode)) → [] ≡ listed trees → 93 ∷ [] ≡ items_text false (items_of (map tree_value trees))
+none_closed [] is = refl
+none_closed (t ∷ ts) is = absurd cc
+
+-- the array of some trees, by the part of their texts behind the first comma
+pub array_written : (old opened told new first texts : List ℕ) (comma : ℕ) (trees : List (List MarkedNode)) → opened ≡ old ++ 91 ∷ [] → told ≡ opened ++ first → new ≡ told ++ 93 ∷ []
+    → texts ≡ comma ∷ first → texts ≡ listed trees → new ≡ old ++ compact_text (trees_value trees)
+array_written old opened told new first texts comma trees is_opened is_told is_new parts are =
+    is_new
+    ∙ ap (λ (xs : List ℕ). xs ++ 93 ∷ []) (is_told ∙ ap (λ (xs : List ℕ). xs ++ first) is_opened)
+    ∙ append_assoc (old ++ 91 ∷ []) first (93 ∷ [])
+    ∙ append_assoc old (91 ∷ []) (first ++ 93 ∷ [])
+    ∙ ap (λ (xs : List ℕ). old ++ 91 ∷ xs) (first_closed trees comma first (sym parts ∙ are))
+
+pub array_empty : (old opened new texts : List ℕ) (trees : List (List MarkedNode)) → opened ≡ old ++ 91 ∷ [] → new ≡ opened ++ 93 ∷ [] → texts ≡ [] → texts ≡ listed trees
+    → new ≡ old ++ compact_text (trees_value trees)
+array_empty old opened new texts trees is_opened is_new none are =
+    is_new ∙ ap (λ (xs : List ℕ). xs ++ 93 ∷ []) is_opened ∙ append_assoc old (91 ∷ []) (93 ∷ []) ∙ ap (λ (xs : List ℕ). old ++ 91 ∷ xs) (none_closed trees (sym none ∙ are))

@@ -1,0 +1,14 @@
+//! The text of `undo`. A session at one replica is run in the order of its text, on one thread, and then an author's last action that was not
+//! refused is undone. Programs that undo in sessions stand on this crate.
+#![tactic(auto)]
+
+mod course;
+mod fit;
+mod no_memory;
+mod taking;
+mod undo_text;
+mod writing;
+
+pub use fit::is_fit;
+pub use no_memory::NoMemory;
+pub use undo_text::undo_text;
