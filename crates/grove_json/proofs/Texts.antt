@@ -1,10 +1,10 @@
 -- The texts of nodes, of trees and of lists of trees.
 use Rattle.std.proofs.Common.{◌≡◌, ℕ, List, [], ◌∷◌, ◌++◌, map, refl, sym, ap, ◌∙◌, append_assoc}
-use Rattle.std.specs.Prelude.{true, false, codes, decimal}
+use Rattle.std.specs.Prelude.{Bool, true, false, codes, decimal}
 use Rattle.json.specs.Print.{quoted}
-use Rattle.serde_json.specs.Data.{Data, string, Members, member, no_members}
+use Rattle.serde_json.specs.Data.{string, Members, member, no_members}
 use Rattle.serde_json.specs.View.{items_of}
-use Rattle.serde_json.specs.Written.{compact_text, items_text, members_text}
+use Rattle.serde_json.specs.Written.{comma_if, compact_text, items_text, members_text}
 use Rattle.marking.specs.Marking.{MarkedNode}
 use Rattle.grove_printer.specs.Print.{edge_column, mark_text, mode_column, position_column, sort_of_node, type_column, vertex_column, what_column}
 use Rattle.grove_json.specs.GroveValue.{node_value, tree_value, trees_value}
@@ -68,6 +68,29 @@ node_is m =
 pub two_parts : (old middle new first last whole : List ℕ) → middle ≡ old ++ first → new ≡ middle ++ last → first ++ last ≡ whole → new ≡ old ++ whole
 two_parts old middle new first last whole is_middle is_new is =
     is_new ∙ ap (λ (xs : List ℕ). xs ++ last) is_middle ∙ append_assoc old first last ∙ ap (λ (xs : List ℕ). old ++ xs) is
+
+-- ---- trees
+
+-- one node more behind some, where what is left follows
+pub node_behind : (out comma new : List ℕ) (later : Bool) (m : MarkedNode) (left : List MarkedNode) (all : List ℕ) → comma ≡ out ++ comma_if later → new ≡ comma ++ compact_text (node_value m)
+    → out ++ items_text later (items_of (map node_value (m ∷ left))) ≡ all → new ++ items_text true (items_of (map node_value left)) ≡ all
+node_behind out comma new later m left all is_comma is_new so_far =
+    ap (λ (xs : List ℕ). xs ++ rest) (is_new ∙ ap (λ (xs : List ℕ). xs ++ node) is_comma)
+    ∙ append_assoc (out ++ comma_if later) node rest
+    ∙ append_assoc out (comma_if later) (node ++ rest)
+    ∙ so_far
+  where
+    node : List ℕ
+    node = compact_text (node_value m)
+
+    rest : List ℕ
+    rest = items_text true (items_of (map node_value left))
+
+-- behind the last node a bracket closes the array
+pub tree_written : (old opened out new : List ℕ) (later : Bool) (nodes : List MarkedNode) → opened ≡ old ++ 91 ∷ []
+    → out ++ 93 ∷ [] ≡ opened ++ items_text false (items_of (map node_value nodes)) → new ≡ out ++ 93 ∷ [] → new ≡ old ++ compact_text (tree_value nodes)
+tree_written old opened out new later nodes is_opened all is_new =
+    is_new ∙ all ∙ ap (λ (xs : List ℕ). xs ++ items_text false (items_of (map node_value nodes))) is_opened ∙ append_assoc old (91 ∷ []) (items_text false (items_of (map node_value nodes)))
 
 -- ---- lists of trees
 

@@ -6,9 +6,9 @@ mod course;
 mod fit;
 mod no_memory;
 mod taking;
-mod undo_text;
+mod text;
 mod writing;
 
 pub use fit::is_fit;
 pub use no_memory::NoMemory;
-pub use undo_text::undo_text;
+pub use text::undo_text;
