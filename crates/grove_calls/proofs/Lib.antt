@@ -1,0 +1,5 @@
+pub mod Counting
+pub mod Endings
+pub mod Faults
+pub mod OneDue
+pub mod WordsAre
