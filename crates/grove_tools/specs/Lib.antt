@@ -1,3 +1,5 @@
 pub mod Words
 pub mod Relay
+pub mod Undo
+pub mod Json
 pub mod Due

@@ -5,9 +5,11 @@
 mod no_memory;
 mod outcome;
 mod relay;
+mod report;
 mod tool;
 mod tool_form;
 mod top;
+mod undoing;
 mod words;
 
 pub use grove_calls::{Ending as ToolStatus, Fault, MOST_BYTES, exit_status};

@@ -47,6 +47,18 @@ impl From<replica_core::NoMemory> for NoMemory {
     }
 }
 
+impl From<undo_answers::NoMemory> for NoMemory {
+    fn from(_error: undo_answers::NoMemory) -> NoMemory {
+        NoMemory
+    }
+}
+
+impl From<grove_json::NoMemory> for NoMemory {
+    fn from(_error: grove_json::NoMemory) -> NoMemory {
+        NoMemory
+    }
+}
+
 impl From<live_relay::NoMemory> for NoMemory {
     fn from(_error: live_relay::NoMemory) -> NoMemory {
         NoMemory

@@ -7,4 +7,9 @@ pub enum Tool {
     /// Lets the edits of the input flow from so many senders, from 1 to `MOST_SENDERS`, to a replica, and writes how many each sent and the
     /// canonical text of the replica.
     Relay { senders: u32 },
+    /// Undoes the last action of this author, from 1 on, that was not refused in the session of the input, and writes how many edits that takes,
+    /// or why it is refused, and the print text.
+    Undo { author: u32 },
+    /// Writes the report of the graph of the input as JSON.
+    Json,
 }

@@ -1,7 +1,9 @@
 //! What each form answers.
 use crate::outcome::Handed;
 use crate::relay::form_relay;
+use crate::report::form_json;
 use crate::tool::Tool;
+use crate::undoing::form_undo;
 use grove_calls::{Form, Formed, Refusal};
 use seeded_hash::HashSeed;
 use std::alloc::Global;
@@ -36,6 +38,8 @@ impl<'r, R: Threads + Wait + Sync> Form for ToolForm<'r, R> {
     fn form(&self, alloc: Global, text: &[u8]) -> Result<Formed<Handed>, Refusal> {
         match self.tool {
             Tool::Relay { senders } => form_relay(self.rt, alloc, self.seed, senders, text),
+            Tool::Undo { author } => form_undo(alloc, self.seed, author, text),
+            Tool::Json => form_json(alloc, self.seed, text),
         }
     }
 
