@@ -1,6 +1,6 @@
 ghost use Rattle.std.specs.Prelude.{◌≡◌, ◌++◌, OnOk};
 ghost use Rattle.serde_json.specs.Written.{comma_if, compact_text};
-ghost use Rattle.grove_terms.specs.Lent.{node_of};
+ghost use Rattle.grove_terms.specs.Lent.{node_of, what_of};
 ghost use Rattle.marking.specs.Added.{with_added};
 ghost use Rattle.marking.specs.Reading.{meant, meant_nodes};
 ghost use Rattle.marking.specs.Numbers.{AreMarkedNodesOf, IsMarkedNodeOf};
@@ -26,7 +26,7 @@ fn append_first(
     out: &mut Vec<u8>,
 ) -> Result<(), NoMemory>
     requires node { IsMarkedNodeOf types.old (with_added node.now added.now) }
-    requires what { what.now ≡ node.now.what }
+    requires what { what_of what.now ≡ (node_of node.now).what }
     ensures appended { OnOk result (out.new.items ≡ out.old.items ++ first_members (meant types.old (with_added node.now added.now))) }
     ensures same_types { types.new ≡ types.old }
 {
@@ -45,7 +45,7 @@ fn append_last(
     out: &mut Vec<u8>,
 ) -> Result<(), NoMemory>
     requires node { IsMarkedNodeOf types.old (with_added node.now added.now) }
-    requires what { what.now ≡ node.now.what }
+    requires what { what_of what.now ≡ (node_of node.now).what }
     ensures appended { OnOk result (out.new.items ≡ out.old.items ++ last_members (meant types.old (with_added node.now added.now))) }
     ensures same_types { types.new ≡ types.old }
 {

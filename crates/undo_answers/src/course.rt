@@ -1,4 +1,4 @@
-ghost use Rattle.std.specs.Prelude.{◌≡◌, Bool, IfOk, OnOk};
+ghost use Rattle.std.specs.Prelude.{◌≡◌, ◌==◌, ◌&&◌, not, IfOk, OnOk};
 ghost use Rattle.undo_answers.specs.Course.{Course as CourseOf, at_start, after_action, after_line, after_lines, after_item, after_items, is_refused, loaded};
 ghost use Rattle.undo_answers.specs.Kept.{StandsFor};
 
@@ -102,11 +102,18 @@ impl Course {
         let (edits, answer) = act(alloc, &mut self.replica, by, action)?;
         let before = self.taken.len();
         self.taken.extend_from_slice(edits.as_slice())?;
-        if by == author && !is_refused(answer) {
+        if is_last(by, author, answer) {
             self.last = Some(Acted { before, edits });
         }
         Ok(())
     }
+}
+
+// Whether the action of an author with this answer is the last so far of the author that was not refused.
+fn is_last(by: u32, author: u32, answer: Answer) -> bool
+    ensures { result ≡ ((by == author) && not (is_refused answer)) }
+{
+    by == author && !is_refused(answer)
 }
 
 fn is_refused(answer: Answer) -> bool

@@ -1,9 +1,11 @@
-ghost use Rattle.std.specs.Prelude.{◌≡◌, ◌<◌, ◌≤◌, ◌++◌, ℕ, List, length, take, IfOk};
+ghost use Rattle.std.specs.Prelude.{◌≡◌, ◌⊎◌, ◌<◌, ◌≤◌, ◌++◌, ℕ, List, length, take, IfOk};
 ghost use Rattle.grove_edits.specs.Graph.{graph};
+ghost use Rattle.edge_numbers.specs.Numbered.{state_in};
+ghost use Rattle.grove_undo.specs.Change.{IsOfEdits};
 ghost use Rattle.session_script.specs.Session.{IsSession};
 ghost use Rattle.undo_answers.specs.Fit.{IsFit};
 ghost use Rattle.undo_answers.specs.Course.{Course as CourseOf};
-ghost use Rattle.undo_answers.specs.UndoText.{IsUndoText, IsAnswerTo, IsTextOf};
+ghost use Rattle.undo_answers.specs.UndoText.{IsUndoText, IsAnswerTo, IsRefused, IsTextOf, IsUndone};
 ghost use Rattle.undo_answers.specs.Kept.{AnswersLast, IsWithin, StandsFor};
 
 use crate::course::{Acted, Course};
@@ -11,7 +13,8 @@ use crate::no_memory::NoMemory;
 use crate::taking::take;
 use crate::writing::{append_nothing, append_refused, append_undone};
 use grove_edits::{Edit, EditList};
-use grove_undo::{UndoFault, change_of, graph_of, undo};
+use grove_undo::{Change, UndoFault, UndoView, change_of, graph_of, undo};
+use live_graph::LiveGraph;
 use seeded_hash::HashSeed;
 use session_script::Session;
 use std::alloc::Global;
@@ -89,11 +92,24 @@ fn append_undoing(
 {
     let change = change_of(alloc, seed, &taken[..acted.before], acted.edits.as_slice())?;
     let graph = graph_of(alloc, seed, taken)?;
-    match undo(alloc, &graph, author, &change) {
-        Ok(undoing) => {
-            append_undone(&undoing, out)?;
-            Ok(undoing)
-        }
+    append_undoing_in(alloc, &graph, author, &change, out)
+}
+
+fn append_undoing_in(
+    alloc: Global,
+    graph: &LiveGraph,
+    author: u32,
+    change: &Change,
+    out: &mut Vec<u8>,
+) -> Result<EditList, NoMemory>
+    requires author { 0 < author }
+    requires change { IsOfEdits change.now }
+    ensures { IfOk result (λ undoing. (line : List ℕ) × (out.new.items ≡ out.old.items ++ line)
+        × (IsUndone (state_in graph.now) author change.now undoing line ⊎ IsRefused (state_in graph.now) author change.now undoing line)) }
+{
+    graph.known();
+    match undo(alloc, graph, author, change) {
+        Ok(undoing) => append_undone(undoing, out),
         Err(UndoFault::NoMemory) => Err(NoMemory),
         Err(fault) => append_refused(alloc, fault, out),
     }

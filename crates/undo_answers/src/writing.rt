@@ -17,14 +17,15 @@ pub(crate) fn append_nothing(alloc: Global, out: &mut Vec<u8>) -> Result<EditLis
     Ok(EditList::new(alloc))
 }
 
-/// Appends the line that tells how many edits undo an action.
-pub(crate) fn append_undone(edits: &EditList, out: &mut Vec<u8>) -> Result<(), NoMemory>
-    ensures { OnOk result (out.new.items ≡ out.old.items ++ undone_line (length edits.now)) }
+/// Appends the line that tells how many edits undo an action, and hands the edits on.
+pub(crate) fn append_undone(edits: EditList, out: &mut Vec<u8>) -> Result<EditList, NoMemory>
+    ensures line { OnOk result (out.new.items ≡ out.old.items ++ undone_line (length edits)) }
+    ensures edits { IfOk result (λ same. same ≡ edits) }
 {
     out.extend_from_slice(b"undone ")?;
     write_number(edits.len() as u64, out)?;
     out.push(b'\n')?;
-    Ok(())
+    Ok(edits)
 }
 
 /// Appends the line that tells why an action is not undone. There are no edits.
