@@ -11,4 +11,6 @@ mod replica_core_tests;
 #[cfg(test)]
 mod session_answers_tests;
 #[cfg(test)]
+mod undo_tests;
+#[cfg(test)]
 mod user_actions_tests;
