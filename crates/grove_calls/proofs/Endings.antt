@@ -135,22 +135,22 @@ module _ {C H : Type 0} (rules : Rules C H) where
   -- so is a command that does not read
   unread : AreSound rules → (words : List (String Global)) (before after : Outside) (handed : H) (ending : Ending) (command : C) → Meets rules words before after handed ending → rules.are_of command words
       → (rules.reads command → ⊥) → ¬ HasRisen before.write_faults after.write_faults → (ending ≡ Done) ⊎ (ending ≡ NoMemory)
-  unread sound words before after handed Done command meets are no no_write = inl refl
-  unread sound words before after handed Usage command meets are no no_write = absurd (meets.answers.is_due.0 command are)
-  unread sound words before after handed (Malformed line fault) command meets are no no_write =
+  unread sound words before after handed Done command meets are idle no_write = inl refl
+  unread sound words before after handed Usage command meets are idle no_write = absurd (meets.answers.is_due.0 command are)
+  unread sound words before after handed (Malformed line fault) command meets are idle no_write =
       let answers = meets.answers in
-      absurd (sound.no_fault command answers.text line fault (sound.unread command answers.text no)
+      absurd (sound.no_fault command answers.text line fault (sound.unread command answers.text idle)
       (subst (λ (c : C). rules.is_first_fault c answers.text line fault) (sound.one_command words answers.is_due.0 command answers.is_due.1 are) answers.is_due.2.2))
-  unread sound words before after handed Unfit command meets are no no_write =
+  unread sound words before after handed Unfit command meets are idle no_write =
       let answers = meets.answers in
-      absurd (sound.no_unfit command answers.text (sound.unread command answers.text no)
+      absurd (sound.no_unfit command answers.text (sound.unread command answers.text idle)
       (subst (λ (c : C). rules.is_unfit c answers.text) (sound.one_command words answers.is_due.0 command answers.is_due.1 are) answers.is_due.2.2))
-  unread sound words before after handed TooLong command meets are no no_write =
+  unread sound words before after handed TooLong command meets are idle no_write =
       let due = meets.answers.is_due in
-      absurd (no (subst rules.reads (sound.one_command words due.0 command due.1 are) due.2.3))
-  unread sound words before after handed ReadFault command meets are no no_write = absurd (no (subst rules.reads (sound.one_command words meets.2.0 command meets.2.1 are) meets.2.2))
-  unread sound words before after handed WriteFault command meets are no no_write = absurd (no_write meets.failed)
-  unread sound words before after handed NoMemory command meets are no no_write = inr refl
+      absurd (idle (subst rules.reads (sound.one_command words due.0 command due.1 are) due.2.3))
+  unread sound words before after handed ReadFault command meets are idle no_write = absurd (idle (subst rules.reads (sound.one_command words meets.2.0 command meets.2.1 are) meets.2.2))
+  unread sound words before after handed WriteFault command meets are idle no_write = absurd (no_write meets.failed)
+  unread sound words before after handed NoMemory command meets are idle no_write = inr refl
 
   pub served : AreSound rules → (words : List (String Global)) (before after : Outside) (never_fails unchanged : Type 0) (never_fails_for : ℕ → Type 0) (handed : H) (ending : Ending)
       → Meets rules words before after handed ending → ((AskToRead rules words → ⊥) → unchanged) → (never_fails → after.read_faults ≡ before.read_faults)

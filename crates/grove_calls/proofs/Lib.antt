@@ -3,3 +3,5 @@ pub mod Endings
 pub mod Faults
 pub mod OneDue
 pub mod WordsAre
+pub mod Numbers
+pub mod Asked

@@ -1,4 +1,5 @@
 ghost use Rattle.std.specs.Prelude.{◌≡◌};
+ghost use Rattle.grove_calls.specs.Rules.{AreFor};
 ghost use Rattle.grove_calls.specs.Served.{IsServed};
 ghost use Rattle.grove_tools.specs.Due.{tool_rules};
 
@@ -28,10 +29,17 @@ pub fn run_tool<R: Threads + Wait + Sync, S: Source, K: Sink>(
         (record { left = S.left source.new; read_faults = S.faults source.new; taken = K.taken sink.new; write_faults = K.faults sink.new })
         (S.never_fails source.old) (source.new ≡ source.old) (K.never_fails sink.old) (record { relayed = result.relayed }) result.status }
 {
-    let form = match tool_of(words) {
-        Some(tool) => Some(ToolForm { rt, seed, tool }),
-        None => None,
-    };
+    let form = form_of(rt, seed, words);
     let (status, Handed { relayed }) = serve(alloc, form, source, sink);
     ToolOutcome { status, relayed }
+}
+
+// What the words ask for, with what it takes to answer it.
+fn form_of<'r, R>(rt: &'r R, seed: HashSeed, words: &[String]) -> Option<ToolForm<'r, R>>
+    ensures { AreFor tool_rules (λ form. form.tool) result words.now }
+{
+    match tool_of(words) {
+        Some(tool) => Some(ToolForm { rt, seed, tool }),
+        None => None,
+    }
 }

@@ -136,9 +136,9 @@ no_unfit Run text h = h
 no_unfit (Generate loads) text h = h
 
 unread : (command : Command) (text : List ℕ) → (Reads command → ⊥) → HasReading command text
-unread (Ask question) text no = absurd (no tt)
-unread Run text no = absurd (no tt)
-unread (Generate loads) text no = tt
+unread (Ask question) text idle = absurd (idle tt)
+unread Run text idle = absurd (idle tt)
+unread (Generate loads) text idle = tt
 
 pub top_sound : AreSound top_rules
 top_sound = record {

@@ -6,7 +6,7 @@ use Rattle.grove_calls.proofs.serving.answer.Goals as goal
 pub returns-in-Ok-clause-no_fault : goal.returns-in-Ok-clause-no_fault
 returns-in-Ok-clause-no_fault g c = λ room sure enough.
     let formed = c.in-Ok.field-0 in
-    let same : formed.text.items ≡ c.deref.result.now = cc (c.in-Ok.text-is, c.deref.ensures.value) in
+    let same : formed.text.items ≡ c.deref.result.now = cc c.deref.ensures.value in
     c.write.ensures.no_fault room sure (subst (λ (text : List ℕ). length text ≤ room) same (enough formed.text.items formed.handed Done (c.requires.short, c.in-Ok.ensures.answered)))
 
 pub returns-in-Err-Malformed-clause-no_fault : goal.returns-in-Err-Malformed-clause-no_fault

@@ -12,7 +12,7 @@ returns-in_default g c = λ words are.
     let none : AreOfNone rules words = subst (λ form. AreFor rules g.F.Form.command form words) c.in_default.is are in
     served rules c.requires.sound words _ _ _ _ _ c.nothing.result c.write.result
     (usage_meets rules words _ _ c.nothing.result c.write.result c.usage.result.now none c.nothing.ensures c.usage.ensures refl c.write.ensures.wrote)
-    (λ no. refl)
+    (λ idle. refl)
     (λ sure. refl)
     (λ room sure enough. c.write.ensures.no_fault room sure (enough [] c.usage.result.now c.nothing.result Usage (gave_nothing (g.S.Source.left c.args.source.now)) (none, c.nothing.ensures, c.usage.ensures)))
 
@@ -30,7 +30,7 @@ returns-in-Ok g c = λ words are.
       inl silent ↦ inl (silent.0, silent.1, subst (λ sink. Took (g.K.Sink.taken c.args.sink.now) [] (g.K.Sink.taken sink)) (sym silent.2) (took_nothing (g.K.Sink.taken c.args.sink.now)))
       | inr due ↦ inr due
     ]))
-    (λ no. c.read_for.ensures.reads_nothing (λ reads. no (command, asked, reads)))
+    (λ idle. c.read_for.ensures.reads_nothing (λ reads. idle (command, asked, reads)))
     c.read_for.ensures.no_fault
     (λ room sure enough. c.answer.ensures.no_fault room sure
     (λ due other ending is. enough c.deref.result.now due other ending gave (command_due rules words c.deref.result.now other due ending command asked is)))
@@ -46,7 +46,7 @@ returns-in-Err-TooLong g c = λ words are.
     let write = c.write-in-Err-TooLong in
     served rules c.requires.sound words _ _ _ _ _ nothing.result write.result
     (too_long_meets rules words _ _ nothing.result write.result given.1.0 command asked nothing.ensures given.0 given.1.1 given.1.2 write.ensures.wrote)
-    (λ no. c.read_for.ensures.reads_nothing (λ reads. no (command, asked, reads)))
+    (λ idle. c.read_for.ensures.reads_nothing (λ reads. idle (command, asked, reads)))
     c.read_for.ensures.no_fault
     (λ room sure enough. write.ensures.no_fault room sure
     (enough given.1.0 too_long_text nothing.result TooLong given.1.2 (command, asked, (nothing.ensures, more, refl, given.0))))
