@@ -6,8 +6,9 @@ use Rattle.serde_json.specs.Data.{string, Members, member, no_members}
 use Rattle.serde_json.specs.View.{items_of}
 use Rattle.serde_json.specs.Written.{comma_if, compact_text, items_text, members_text}
 use Rattle.marking.specs.Marking.{MarkedNode}
+use Rattle.marking.specs.Grove.{MarkedTrees}
 use Rattle.grove_printer.specs.Print.{edge_column, mark_text, mode_column, position_column, sort_of_node, type_column, vertex_column, what_column}
-use Rattle.grove_json.specs.GroveValue.{node_value, tree_value, trees_value}
+use Rattle.grove_json.specs.GroveValue.{node_value, tree_value, trees_value, grove_value}
 use Rattle.grove_json.specs.NodeText.{depth_member, text_member, first_members, last_members}
 use Rattle.grove_json.specs.TreeTexts.{listed}
 use Rattle.grove_json.proofs.Plain.{IsPlain, plain_stays}
@@ -113,17 +114,51 @@ none_closed : (trees : List (List MarkedNode)) → [] ≡ listed trees → 93 �
 none_closed [] is = refl
 none_closed (t ∷ ts) is = absurd cc
 
--- the array of some trees, by the part of their texts behind the first comma
-pub array_written : (old opened told new first texts : List ℕ) (comma : ℕ) (trees : List (List MarkedNode)) → opened ≡ old ++ 91 ∷ [] → told ≡ opened ++ first → new ≡ told ++ 93 ∷ []
-    → texts ≡ comma ∷ first → texts ≡ listed trees → new ≡ old ++ compact_text (trees_value trees)
-array_written old opened told new first texts comma trees is_opened is_told is_new parts are =
+-- the texts of some trees, with and without the first comma
+pub behind_first : (texts : List ℕ) (comma : ℕ) (first : List ℕ) (trees : List (List MarkedNode)) → texts ≡ comma ∷ first → texts ≡ listed trees
+    → first ++ 93 ∷ [] ≡ items_text false (items_of (map tree_value trees))
+behind_first texts comma first trees parts are = first_closed trees comma first (sym parts ∙ are)
+
+pub behind_none : (texts : List ℕ) (trees : List (List MarkedNode)) → texts ≡ [] → texts ≡ listed trees → texts ++ 93 ∷ [] ≡ items_text false (items_of (map tree_value trees))
+behind_none texts trees none are = ap (λ (xs : List ℕ). xs ++ 93 ∷ []) none ∙ none_closed trees (sym none ∙ are)
+
+-- the array of some trees
+pub array_written : (old opened told new first : List ℕ) (trees : List (List MarkedNode)) → opened ≡ old ++ 91 ∷ [] → told ≡ opened ++ first → new ≡ told ++ 93 ∷ []
+    → first ++ 93 ∷ [] ≡ items_text false (items_of (map tree_value trees)) → new ≡ old ++ compact_text (trees_value trees)
+array_written old opened told new first trees is_opened is_told is_new closed =
     is_new
     ∙ ap (λ (xs : List ℕ). xs ++ 93 ∷ []) (is_told ∙ ap (λ (xs : List ℕ). xs ++ first) is_opened)
     ∙ append_assoc (old ++ 91 ∷ []) first (93 ∷ [])
     ∙ append_assoc old (91 ∷ []) (first ++ 93 ∷ [])
-    ∙ ap (λ (xs : List ℕ). old ++ 91 ∷ xs) (first_closed trees comma first (sym parts ∙ are))
+    ∙ ap (λ (xs : List ℕ). old ++ 91 ∷ xs) closed
 
-pub array_empty : (old opened new texts : List ℕ) (trees : List (List MarkedNode)) → opened ≡ old ++ 91 ∷ [] → new ≡ opened ++ 93 ∷ [] → texts ≡ [] → texts ≡ listed trees
-    → new ≡ old ++ compact_text (trees_value trees)
-array_empty old opened new texts trees is_opened is_new none are =
-    is_new ∙ ap (λ (xs : List ℕ). xs ++ 93 ∷ []) is_opened ∙ append_assoc old (91 ∷ []) (93 ∷ []) ∙ ap (λ (xs : List ℕ). old ++ 91 ∷ xs) (none_closed trees (sym none ∙ are))
+-- ---- the whole object
+
+-- three arrays, between parts of the object
+pub object_written : (a b c d e f g h first second third fourth : List ℕ) (trees : MarkedTrees) → a ≡ [] → b ≡ a ++ first → c ≡ b ++ compact_text (trees_value trees.cycle) → d ≡ c ++ second
+    → e ≡ d ++ compact_text (trees_value trees.multi) → f ≡ e ++ third → g ≡ f ++ compact_text (trees_value trees.none) → h ≡ g ++ fourth
+    → first ≡ 123 ∷ (quoted (codes "cycle") ++ 58 ∷ []) → second ≡ 44 ∷ (quoted (codes "multi") ++ 58 ∷ []) → third ≡ 44 ∷ (quoted (codes "none") ++ 58 ∷ []) → fourth ≡ 125 ∷ 10 ∷ []
+    → h ≡ compact_text (grove_value trees) ++ 10 ∷ []
+object_written a b c d e f g h first second third fourth trees is_a is_b is_c is_d is_e is_f is_g is_h is_first is_second is_third is_fourth =
+    is_h
+    ∙ ap (λ (xs : List ℕ). xs ++ fourth) (is_g ∙ ap (λ (xs : List ℕ). xs ++ none) (is_f ∙ ap (λ (xs : List ℕ). xs ++ third) (is_e ∙ ap (λ (xs : List ℕ). xs ++ multi)
+    (is_d ∙ ap (λ (xs : List ℕ). xs ++ second) (is_c ∙ ap (λ (xs : List ℕ). xs ++ cycle) (is_b ∙ ap (λ (xs : List ℕ). xs ++ first) is_a))))))
+    ∙ literal first second third fourth is_first is_second is_third is_fourth
+  where
+    cycle : List ℕ
+    cycle = compact_text (trees_value trees.cycle)
+
+    multi : List ℕ
+    multi = compact_text (trees_value trees.multi)
+
+    none : List ℕ
+    none = compact_text (trees_value trees.none)
+
+    literal : (p q r s : List ℕ) → p ≡ 123 ∷ (quoted (codes "cycle") ++ 58 ∷ []) → q ≡ 44 ∷ (quoted (codes "multi") ++ 58 ∷ []) → r ≡ 44 ∷ (quoted (codes "none") ++ 58 ∷ []) → s ≡ 125 ∷ 10 ∷ []
+        → ((((((p ++ cycle) ++ q) ++ multi) ++ r) ++ none) ++ s) ≡ compact_text (grove_value trees) ++ 10 ∷ []
+    literal p q r s is_p is_q is_r is_s =
+        ap (λ (xs : List ℕ). (((((xs ++ cycle) ++ q) ++ multi) ++ r) ++ none) ++ s) is_p
+        ∙ ap (λ (xs : List ℕ). (((((123 ∷ (quoted (codes "cycle") ++ 58 ∷ []) ++ cycle) ++ xs) ++ multi) ++ r) ++ none) ++ s) is_q
+        ∙ ap (λ (xs : List ℕ). (((((123 ∷ (quoted (codes "cycle") ++ 58 ∷ []) ++ cycle) ++ 44 ∷ (quoted (codes "multi") ++ 58 ∷ [])) ++ multi) ++ xs) ++ none) ++ s) is_r
+        ∙ ap (λ (xs : List ℕ). (((((123 ∷ (quoted (codes "cycle") ++ 58 ∷ []) ++ cycle) ++ 44 ∷ (quoted (codes "multi") ++ 58 ∷ [])) ++ multi) ++ 44 ∷ (quoted (codes "none") ++ 58 ∷ [])) ++ none) ++ xs) is_s
+        ∙ simp append_assoc (sym (simp append_assoc))
