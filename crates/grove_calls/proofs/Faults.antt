@@ -60,4 +60,3 @@ one_session_fault text m n f g a b =
 -- a text that spells a session has no fault
 pub no_session_fault : (text : List ℕ) (session : Session) (line : ℕ) (fault : Fault) → Spells text session → IsFirstFaultOfSession text line fault → ⊥
 no_session_fault text session line fault spelled h = session_or_fault text session line h.kind spelled h.is_bad
-

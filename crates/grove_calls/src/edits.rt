@@ -29,11 +29,7 @@ pub fn read_edits(alloc: Global, text: &[u8]) -> Result<EditList, TextFault>
 
 /// A table of the canonical list of the graph of the edits that a text spells, or the first line that spells none. It finds its vertices
 /// by hashes under a seed.
-pub fn read_edit_table(
-    alloc: Global,
-    text: &[u8],
-    seed: HashSeed,
-) -> Result<EditTable, TextFault>
+pub fn read_edit_table(alloc: Global, text: &[u8], seed: HashSeed) -> Result<EditTable, TextFault>
     requires { length text.now ≤ most_bytes }
     ensures list { IfOk result (λ table. IsListOf text.now table.edits) }
     ensures fault { IfErr result (HasWholeFault text.now) }

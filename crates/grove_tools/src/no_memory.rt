@@ -1,4 +1,5 @@
 ghost use Rattle.std.specs.Prelude.{◌≡◌};
+ghost use Rattle.grove_calls.specs.declared.refusal.Refusal.TheVariants as refusals;
 
 use grove_calls::Refusal;
 use std::alloc::{AllocError, AllocFailed};
@@ -66,7 +67,7 @@ impl From<live_relay::NoMemory> for NoMemory {
 }
 
 impl From<NoMemory> for Refusal {
-    ghost from_gives = { λ _ refusal. refusal ≡ Refusal.NoMemory };
+    ghost from_gives = { λ _ refusal. refusal ≡ refusals.NoMemory };
 
     fn from(_error: NoMemory) -> Refusal {
         Refusal::NoMemory

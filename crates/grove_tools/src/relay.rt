@@ -65,12 +65,7 @@ fn deal(alloc: Global, senders: u32, edits: &EditList) -> Result<Vec<EditList>, 
     Ok(lists)
 }
 
-fn edits_of(
-    alloc: Global,
-    senders: u32,
-    sender: u32,
-    edits: &[Edit],
-) -> Result<EditList, NoMemory>
+fn edits_of(alloc: Global, senders: u32, sender: u32, edits: &[Edit]) -> Result<EditList, NoMemory>
     requires { 1 ≤ senders }
     ensures { IfOk result (λ list. list ≡ dealt_to senders sender 0 edits.now) }
 {

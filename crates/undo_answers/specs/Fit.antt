@@ -1,5 +1,5 @@
 -- The sessions in which actions can be undone.
-use Rattle.std.specs.Prelude.{Bool, false, ◌&&◌, not, ◌==◌, IsTrue, length}
+use Rattle.std.specs.Prelude.{◌≡◌, Bool, true, false, ◌&&◌, not, ◌==◌, length}
 use Rattle.std.specs.List.{list_any}
 use Rattle.session_script.specs.declared.item.Item.{Item}
 use Rattle.session_script.specs.declared.item.Item.TheVariants as item
@@ -15,4 +15,4 @@ abbrev pub is_fit : Session → Bool
 is_fit session = (length session.replicas == 1) && not (list_any has_send session.items)
 
 abbrev pub IsFit : Session → Type 0
-IsFit session = IsTrue (is_fit session)
+IsFit session = is_fit session ≡ true

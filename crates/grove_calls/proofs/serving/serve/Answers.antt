@@ -27,7 +27,7 @@ returns-in-Ok g c = λ words are.
     served rules c.requires.sound words _ _ _ _ _ c.answer.result.1 c.answer.result.0
     (command_meets rules words _ _ c.deref.result.now c.answer.result.1 c.answer.result.0 command asked (omega (arith, c.in-Ok.ensures.short, c.deref.ensures.len)) gave read
     (elim c.answer.ensures.due [
-      inl silent ↦ inl (silent.0, silent.1, subst (λ sink. Took (g.K.Sink.taken c.args.sink.now) [] (g.K.Sink.taken sink)) (sym silent.2) (took_nothing (g.K.Sink.taken c.args.sink.now)))
+      | inl silent ↦ inl (silent.0, silent.1, subst (λ sink. Took (g.K.Sink.taken c.args.sink.now) [] (g.K.Sink.taken sink)) (sym silent.2) (took_nothing (g.K.Sink.taken c.args.sink.now)))
       | inr due ↦ inr due
     ]))
     (λ idle. c.read_for.ensures.reads_nothing (λ reads. idle (command, asked, reads)))
