@@ -69,11 +69,7 @@ impl Report for TreeTexts {
     }
 }
 
-fn append_listed(
-    marked: &MarkedTree,
-    types: &TypeTable,
-    out: &mut Vec<u8>,
-) -> Result<(), NoMemory>
+fn append_listed(marked: &MarkedTree, types: &TypeTable, out: &mut Vec<u8>) -> Result<(), NoMemory>
     requires { AreMarkedNodesOf types.now marked.now }
     ensures { OnOk result (out.new.items ≡ out.old.items ++ listed (meant_nodes types.now marked.now ∷ [])) }
 {

@@ -20,11 +20,7 @@ const EMPTY: &str =
 fn empty_table(alloc: Global) -> Result<EditTable, Fail>
     ensures { IfOk result (λ table. Ascends table.edits) }
 {
-    Ok(EditTable::of_list(
-        alloc,
-        &EditList::new(alloc),
-        HashSeed::FIXED,
-    )?)
+    Ok(EditTable::of_list(alloc, &EditList::new(alloc), HashSeed::FIXED)?)
 }
 
 fn report_of_nothing(alloc: Global) -> Result<Vec<u8>, Fail> {

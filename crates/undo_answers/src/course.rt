@@ -90,13 +90,7 @@ impl Course {
         }
     }
 
-    fn act(
-        &mut self,
-        alloc: Global,
-        by: u32,
-        action: Action,
-        author: u32,
-    ) -> Result<(), NoMemory>
+    fn act(&mut self, alloc: Global, by: u32, action: Action, author: u32) -> Result<(), NoMemory>
         ensures { (before : CourseOf) → StandsFor self.old before → OnOk result (StandsFor self.new (after_action author by action before)) }
     {
         let (edits, answer) = act(alloc, &mut self.replica, by, action)?;

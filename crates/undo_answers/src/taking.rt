@@ -15,11 +15,7 @@ use std::sync::ledger::{Blank, Ledger};
 use walks::Steps;
 
 /// The replica takes edits.
-pub(crate) fn take(
-    alloc: Global,
-    replica: &mut Replica,
-    edits: &EditList,
-) -> Result<(), NoMemory>
+pub(crate) fn take(alloc: Global, replica: &mut Replica, edits: &EditList) -> Result<(), NoMemory>
     ensures { OnOk result (replica.new ≡ with_taken edits.now replica.old) }
 {
     take_counting::<Brand>(alloc, replica, edits, Blank::new(1))

@@ -37,12 +37,7 @@ pub fn undo_text(
     text_of(alloc, seed, course, author)
 }
 
-fn text_of(
-    alloc: Global,
-    seed: HashSeed,
-    course: Course,
-    author: u32,
-) -> Result<Vec<u8>, NoMemory>
+fn text_of(alloc: Global, seed: HashSeed, course: Course, author: u32) -> Result<Vec<u8>, NoMemory>
     requires { 0 < author }
     ensures { (of : CourseOf) → StandsFor course of → IfOk result (λ text. IsTextOf of author text.items) }
 {
