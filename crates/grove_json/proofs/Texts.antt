@@ -1,5 +1,5 @@
 -- The texts of nodes, of trees and of lists of trees.
-use Rattle.std.proofs.Common.{◌≡◌, ℕ, List, [], ◌∷◌, ◌++◌, map, refl, sym, ap, ◌∙◌, append_assoc}
+use Rattle.std.proofs.Common.{◌≡◌, ℕ, List, [], ◌∷◌, ◌++◌, length, map, refl, sym, ap, ◌∙◌, append_assoc, arith}
 use Rattle.std.specs.Prelude.{Bool, true, false, codes, decimal}
 use Rattle.json.specs.Print.{quoted}
 use Rattle.serde_json.specs.Data.{string, Members, member, no_members}
@@ -119,8 +119,12 @@ pub behind_first : (texts : List ℕ) (comma : ℕ) (first : List ℕ) (trees : 
     → first ++ 93 ∷ [] ≡ items_text false (items_of (map tree_value trees))
 behind_first texts comma first trees parts are = first_closed trees comma first (sym parts ∙ are)
 
-pub behind_none : (texts : List ℕ) (trees : List (List MarkedNode)) → texts ≡ [] → texts ≡ listed trees → texts ++ 93 ∷ [] ≡ items_text false (items_of (map tree_value trees))
-behind_none texts trees none are = ap (λ (xs : List ℕ). xs ++ 93 ∷ []) none ∙ none_closed trees (sym none ∙ are)
+no_bytes : (texts : List ℕ) → length texts ≡ 0 → texts ≡ []
+no_bytes [] h = refl
+no_bytes (x ∷ xs) h = absurd (omega (arith, h))
+
+pub behind_none : (texts : List ℕ) (trees : List (List MarkedNode)) → length texts ≡ 0 → texts ≡ listed trees → texts ++ 93 ∷ [] ≡ items_text false (items_of (map tree_value trees))
+behind_none texts trees empty are = let none = no_bytes texts empty in ap (λ (xs : List ℕ). xs ++ 93 ∷ []) none ∙ none_closed trees (sym none ∙ are)
 
 -- the array of some trees
 pub array_written : (old opened told new first : List ℕ) (trees : List (List MarkedNode)) → opened ≡ old ++ 91 ∷ [] → told ≡ opened ++ first → new ≡ told ++ 93 ∷ []

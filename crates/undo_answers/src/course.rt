@@ -96,9 +96,10 @@ impl Course {
         let (edits, answer) = act(alloc, &mut self.replica, by, action)?;
         let before = self.taken.len();
         self.taken.extend_from_slice(edits.as_slice())?;
-        if is_last(by, author, answer) {
-            self.last = Some(Acted { before, edits });
+        if !is_last(by, author, answer) {
+            return Ok(());
         }
+        self.last = Some(Acted { before, edits });
         Ok(())
     }
 }
