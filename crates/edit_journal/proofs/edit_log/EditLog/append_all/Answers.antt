@@ -27,7 +27,7 @@ invariant_of-self-in-Ok g c =
     let all = c.deref.result.now in
     let piece = take (length all - 1) (drop 1 all) in
     let piece_is : 1 ∷ piece ≡ at_rest (map line_of edits) = ap (λ (l : List ℕ). 1 ∷ l) (take_all (length all - 1) (drop 1 all) (omega (arith, length-drop 1 all)))
-        ∙ ap (λ (l : List ℕ). 1 ∷ drop 1 l) (c.deref.ensures.value ∙ c.in_ok-write_piece.ensures) ∙ behind_first_gate edits some in
+    ∙ ap (λ (l : List ℕ). 1 ∷ drop 1 l) (c.deref.ensures.value ∙ c.in_ok-write_piece.ensures) ∙ behind_first_gate edits some in
     let fits : AllByRecursion Fits (map line_of edits) = fit_in_range (map line_of edits) (omega (arith, c.in_ok-length.ensures.with_all, c.in_ok-length.ensures.in_range)) in
     let lines = map line_of live.edits in
     let group = map line_of edits in
@@ -49,7 +49,7 @@ returns-in-Ok-clause-log g c =
     let all = c.deref.result.now in
     let piece = take (length all - 1) (drop 1 all) in
     let piece_is : 1 ∷ piece ≡ at_rest (map line_of edits) = ap (λ (l : List ℕ). 1 ∷ l) (take_all (length all - 1) (drop 1 all) (omega (arith, length-drop 1 all)))
-        ∙ ap (λ (l : List ℕ). 1 ∷ drop 1 l) (c.deref.ensures.value ∙ c.in_ok-write_piece.ensures) ∙ behind_first_gate edits some in
+    ∙ ap (λ (l : List ℕ). 1 ∷ drop 1 l) (c.deref.ensures.value ∙ c.in_ok-write_piece.ensures) ∙ behind_first_gate edits some in
     let fits : AllByRecursion Fits (map line_of edits) = fit_in_range (map line_of edits) (omega (arith, c.in_ok-length.ensures.with_all, c.in_ok-length.ensures.in_range)) in
     let lines = map line_of live.edits in
     let group = map line_of edits in
@@ -80,7 +80,7 @@ returns-in-Err-clause-log g c =
     let all = c.deref.result.now in
     let piece = take (length all - 1) (drop 1 all) in
     let piece_is : 1 ∷ piece ≡ at_rest (map line_of edits) = ap (λ (l : List ℕ). 1 ∷ l) (take_all (length all - 1) (drop 1 all) (omega (arith, length-drop 1 all)))
-        ∙ ap (λ (l : List ℕ). 1 ∷ drop 1 l) (c.deref.ensures.value ∙ c.in_ok-write_piece.ensures) ∙ behind_first_gate edits some in
+    ∙ ap (λ (l : List ℕ). 1 ∷ drop 1 l) (c.deref.ensures.value ∙ c.in_ok-write_piece.ensures) ∙ behind_first_gate edits some in
     let fits : AllByRecursion Fits (map line_of edits) = fit_in_range (map line_of edits) (omega (arith, c.in_ok-length.ensures.with_all, c.in_ok-length.ensures.in_range)) in
     let lines = map line_of live.edits in
     let group = map line_of edits in
