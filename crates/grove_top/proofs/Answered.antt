@@ -8,7 +8,7 @@ use Rattle.grove_answers.proofs.SameGraph.{canonical_along, printed_along, check
 use Rattle.grove_top.specs.declared.command.Question.{Question}
 use Rattle.grove_top.specs.declared.command.Question.TheVariants.{Merge, Show, Check}
 use Rattle.grove_top.specs.Due.{IsMergeText, IsAnswerOf, IsAnswered}
-use Rattle.grove_top.specs.Spelled.{IsListOf}
+use Rattle.grove_calls.specs.Spelled.{IsListOf}
 
 merged_along : (version : Version) (g h : Graph) (answer : List ℕ) → IsSame g h → IsMergeText version g answer → IsMergeText version h answer
 merged_along version g h answer same m = record { canonical = m.canonical; is_canonical = canonical_along g h m.canonical same m.is_canonical; written = m.written }

@@ -26,19 +26,11 @@ IsWithinLimits (Generate loads) = (1 ≤ loads) × (loads ≤ most_loads)
 abbrev pub AreOf : Command → List (String Global) → Type 0
 AreOf command words = (map string_bytes words ≡ words_of command) × IsWithinLimits command
 
--- the words are those of no command
-abbrev pub AreOfNone : List (String Global) → Type 0
-AreOfNone words = (command : Command) → AreOf command words → ⊥
-
 -- the command reads the input
 abbrev pub Reads : Command → Type 0
 Reads (Ask question) = Unit {0}
 Reads Run = Unit {0}
 Reads (Generate loads) = ⊥
-
--- the words are those of a command that reads
-abbrev pub AskToRead : List (String Global) → Type 0
-AskToRead words = (command : Command) × AreOf command words × Reads command
 
 -- the command starts no threads
 abbrev pub IsPlain : Command → Type 0

@@ -8,20 +8,21 @@ ghost use Rattle.replica_core.specs.Content.{Content};
 ghost use Rattle.session_report.specs.Taken.{Journals};
 ghost use Rattle.grove_top.specs.declared.command.Question.{Question};
 ghost use Rattle.grove_top.specs.declared.command.Question.TheVariants.{Merge};
-ghost use Rattle.grove_top.specs.declared.outcome.Status.{Status};
+ghost use Rattle.grove_calls.specs.declared.ending.Ending.{Ending};
 ghost use Rattle.grove_top.specs.declared.command.Command.TheVariants.{Generate};
 ghost use Rattle.grove_top.specs.Words.{AreOf};
-ghost use Rattle.grove_top.specs.Due.{IsDue, IsAnswered};
+ghost use Rattle.grove_calls.specs.Due.{IsDue};
+ghost use Rattle.grove_top.specs.Due.{IsAnswered, top_rules};
 
-/// Law: for any words and bytes, and any journals handed out, one status and one text are due at most.
+/// Law: for any words and bytes, and any journals handed out, one ending and one text are due at most.
 pub fn one_text_is_due()
-    ensures one { (words : List (String Global)) (text : List ℕ) (journals : Journals Content) (s t : Status) (x y : List ℕ) → IsDue words text journals s x → IsDue words text journals t y → (s ≡ t) × (x ≡ y) }
+    ensures one { (words : List (String Global)) (text : List ℕ) (journals : Journals Content) (s t : Ending) (x y : List ℕ) → IsDue top_rules words text journals s x → IsDue top_rules words text journals t y → (s ≡ t) × (x ≡ y) }
 {}
 
 /// Law: for the words of a generated session one text is due, whatever the bytes and the legal journals are.
 pub fn one_summary_is_due()
-    ensures { (loads : ℕ) (words : List (String Global)) (s t : List ℕ) (journals others : Journals Content) (status other : Status) (x y : List ℕ) → AreOf (Generate loads) words
-        → IsDue words s journals status x → IsDue words t others other y → (status ≡ other) × (x ≡ y) }
+    ensures { (loads : ℕ) (words : List (String Global)) (s t : List ℕ) (journals others : Journals Content) (status other : Ending) (x y : List ℕ) → AreOf (Generate loads) words
+        → IsDue top_rules words s journals status x → IsDue top_rules words t others other y → (status ≡ other) × (x ≡ y) }
 {}
 
 /// Law: texts of one version that spell the same edits, in any order and with any repeats, get the same answer to each question; those of two versions do too, but to `merge`.

@@ -4,17 +4,17 @@
 
 mod command;
 mod commands;
-mod exit;
+mod forms;
 mod laws;
 mod limit;
 mod no_memory;
 mod outcome;
-mod reading;
 mod top;
+mod words;
 
 pub use command::{Command, Question};
-pub use exit::exit_status;
+pub use grove_calls::{Fault, MOST_BYTES};
 pub use laws::{one_summary_is_due, one_text_is_due, same_edits_same_text};
-pub use limit::{MOST_BYTES, MOST_LOADS};
-pub use outcome::{Fault, Outcome, Status};
+pub use limit::MOST_LOADS;
+pub use outcome::{Outcome, Status, exit_status};
 pub use top::{run, run_plain};

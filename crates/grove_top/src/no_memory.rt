@@ -1,7 +1,9 @@
 ghost use Rattle.std.specs.Prelude.{◌≡◌};
-ghost use Rattle.edit_text.specs.declared.text_fault.TextFault.TheVariants.{NoMemory};
+ghost use Rattle.edit_text.specs.declared.text_fault.TextFault.TheVariants as texts;
+ghost use Rattle.grove_calls.specs.declared.refusal.Refusal.TheVariants as refusals;
 
 use edit_text::TextFault;
+use grove_calls::Refusal;
 use std::alloc::{AllocError, AllocFailed};
 use std::error::Error;
 use std::fmt;
@@ -79,9 +81,17 @@ impl From<session_answers::NoMemory> for NoMemory {
 }
 
 impl From<NoMemory> for TextFault {
-    ghost from_gives = { λ _ fault. fault ≡ NoMemory };
+    ghost from_gives = { λ _ fault. fault ≡ texts.NoMemory };
 
     fn from(_error: NoMemory) -> TextFault {
         TextFault::NoMemory
+    }
+}
+
+impl From<NoMemory> for Refusal {
+    ghost from_gives = { λ _ refusal. refusal ≡ refusals.NoMemory };
+
+    fn from(_error: NoMemory) -> Refusal {
+        Refusal::NoMemory
     }
 }

@@ -1,7 +1,10 @@
-use edit_text::LineFault;
+ghost use Rattle.std.specs.Prelude.{◌≡◌, ◌≢◌};
+ghost use Rattle.grove_calls.specs.Exit.{exit_number};
+ghost use Rattle.grove_top.specs.EndingOf.{ending_of};
+
+use grove_calls::{Ending, Fault};
 use replica_core::Replica;
 use session_report::JournalList;
-use session_script::ScriptKind;
 
 /// How a run ended, and the journals of the blocks that it ran. There are none unless a session was run and its report is
 /// written, whole or in part.
@@ -30,67 +33,40 @@ pub enum Status {
     NoMemory,
 }
 
-/// What is wrong with the first line of the input without a reading.
-#[derive(Clone, Copy, Debug, PartialEq, Eq)]
-pub enum Fault {
-    Syntax,
-    BadVertex,
-    NoPosition,
-    WrongSort,
-    /// A line of this form has no place here in a session.
-    OutOfPlace,
-    /// It names a replica that is not declared.
-    UnknownReplica,
-    /// It declares a replica again.
-    RepeatedReplica,
-    /// Its author is not declared.
-    UnknownAuthor,
-    /// It declares an author again.
-    RepeatedAuthor,
-    /// It is one more than a session may have, or sends beyond the limits.
-    TooMany,
-    /// The input ends behind a line that no LF ends.
-    Rest,
-    /// A session ends before a replica is declared, or in a block.
-    Unended,
+/// The exit status with which the program ends.
+pub fn exit_status(status: Status) -> u8
+    ensures { result ≡ exit_number (ending_of status) }
+{
+    grove_calls::exit_status(ending(status))
 }
 
-impl From<LineFault> for Fault {
-    ghost use Rattle.grove_top.specs.FaultOf.{fault_of_line};
-    ghost use Rattle.std.specs.Prelude.{◌≡◌};
-
-    ghost from_gives = { λ line fault. fault ≡ fault_of_line line };
-
-    fn from(fault: LineFault) -> Fault {
-        match fault {
-            LineFault::Syntax => Fault::Syntax,
-            LineFault::BadVertex => Fault::BadVertex,
-            LineFault::NoPosition => Fault::NoPosition,
-            LineFault::WrongSort => Fault::WrongSort,
-        }
+fn ending(status: Status) -> Ending
+    ensures { result ≡ ending_of status }
+{
+    match status {
+        Status::Done => Ending::Done,
+        Status::Usage => Ending::Usage,
+        Status::Malformed { line, fault } => Ending::Malformed { line, fault },
+        Status::TooLong => Ending::TooLong,
+        Status::ReadFault => Ending::ReadFault,
+        Status::WriteFault => Ending::WriteFault,
+        Status::NoMemory => Ending::NoMemory,
     }
 }
 
-impl From<ScriptKind> for Fault {
-    ghost use Rattle.grove_top.specs.FaultOf.{fault_of_kind};
-    ghost use Rattle.std.specs.Prelude.{◌≡◌};
-
-    ghost from_gives = { λ kind fault. fault ≡ fault_of_kind kind };
-
-    fn from(kind: ScriptKind) -> Fault {
-        match kind {
-            ScriptKind::Syntax => Fault::Syntax,
-            ScriptKind::BadVertex => Fault::BadVertex,
-            ScriptKind::NoPosition => Fault::NoPosition,
-            ScriptKind::WrongSort => Fault::WrongSort,
-            ScriptKind::OutOfPlace => Fault::OutOfPlace,
-            ScriptKind::UnknownReplica => Fault::UnknownReplica,
-            ScriptKind::RepeatedReplica => Fault::RepeatedReplica,
-            ScriptKind::UnknownAuthor => Fault::UnknownAuthor,
-            ScriptKind::RepeatedAuthor => Fault::RepeatedAuthor,
-            ScriptKind::TooMany => Fault::TooMany,
-            ScriptKind::Rest => Fault::Rest,
-            ScriptKind::Unended => Fault::Unended,
-        }
+/// The status of a run that ended so. Every input with a reading is fit for each command.
+pub(crate) fn status_of(ending: Ending) -> Status
+    requires { ending ≢ Ending.Unfit }
+    ensures { ending_of result ≡ ending }
+{
+    match ending {
+        Ending::Done => Status::Done,
+        Ending::Usage => Status::Usage,
+        Ending::Malformed { line, fault } => Status::Malformed { line, fault },
+        Ending::TooLong => Status::TooLong,
+        Ending::Unfit => unreachable!(),
+        Ending::ReadFault => Status::ReadFault,
+        Ending::WriteFault => Status::WriteFault,
+        Ending::NoMemory => Status::NoMemory,
     }
 }

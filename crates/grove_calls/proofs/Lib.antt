@@ -1,0 +1,7 @@
+pub mod Counting
+pub mod Endings
+pub mod Faults
+pub mod OneDue
+pub mod WordsAre
+pub mod Numbers
+pub mod Asked

@@ -1,0 +1,52 @@
+-- What each form answers.
+use Rattle.std.specs.Prelude.{ℕ, List, ◌++◌, ◌∷◌, [], codes, None}
+use Rattle.grove_edits.specs.declared.edit.Edit.{Edit}
+use Rattle.grove_sorts.specs.declared.version.Version.{Version}
+use Rattle.edit_text.specs.Whole.{IsTextOf}
+use Rattle.grove_calls.specs.declared.fault.Fault.{Fault}
+use Rattle.grove_calls.specs.FirstFault.{IsFirstFaultOfEdits}
+use Rattle.grove_calls.specs.Rules.{Rules}
+use Rattle.grove_tools.specs.declared.outcome.Handed.{Handed}
+use Rattle.grove_tools.specs.declared.tool.Tool.{Tool}
+use Rattle.grove_tools.specs.declared.tool.Tool.TheVariants.{Relay}
+use Rattle.grove_tools.specs.Words.{AreOf}
+use Rattle.grove_tools.specs.Relay.{IsRelayed}
+
+-- what is written where the words are those of no form
+abbrev pub usage_text : List ℕ
+usage_text = codes "usage: grove_tools relay N | infer | keep | undo N | json" ++ 10 ∷ []
+
+-- the form reads the input
+abbrev pub Reads : Tool → Type 0
+Reads (Relay senders) = Unit {0}
+
+-- the text has a reading for the form, which makes something of it
+abbrev pub HasReading : Tool → List ℕ → Type 0
+HasReading (Relay senders) text = (version : Version) × (edits : List Edit) × IsTextOf text version edits
+
+-- the answer of the form to a text, where this is handed out
+abbrev pub IsAnswer : Tool → List ℕ → Handed → List ℕ → Type 0
+IsAnswer (Relay senders) text handed answer = IsRelayed senders text handed answer
+
+-- the first line of a text without a reading for the form, and its first fault
+abbrev pub IsFirstFault : Tool → List ℕ → ℕ → Fault → Type 0
+IsFirstFault (Relay senders) text line fault = IsFirstFaultOfEdits text line fault
+
+-- the text has a reading, of which the form makes nothing
+abbrev pub IsUnfit : Tool → List ℕ → Type 0
+IsUnfit (Relay senders) text = ⊥
+
+abbrev pub nothing_handed : Handed
+nothing_handed = record { relayed = None }
+
+abbrev pub tool_rules : Rules Tool Handed
+tool_rules = record {
+  are_of = AreOf;
+  reads = Reads;
+  has_reading = HasReading;
+  is_answer = IsAnswer;
+  is_first_fault = IsFirstFault;
+  is_unfit = IsUnfit;
+  nothing = nothing_handed;
+  usage = usage_text;
+}

@@ -1,0 +1,52 @@
+-- What `relay` makes of a text.
+use Rattle.std.specs.Prelude.{◌≡◌, ℕ, ◌+◌, ◌%◌, ◌==◌, List, [], ◌∷◌, ◌++◌, length, codes, decimal, slice_get, Some, if◌then◌else◌}
+use Rattle.grove_edits.specs.declared.answer.Answer.{Answer}
+use Rattle.grove_edits.specs.declared.command.Command.{Command}
+use Rattle.grove_edits.specs.declared.edit.Edit.{Edit}
+use Rattle.grove_edits.specs.Graph.{graph}
+use Rattle.grove_sorts.specs.declared.version.Version.{Version}
+use Rattle.edit_text.specs.Whole.{IsTextOf}
+use Rattle.grove_answers.specs.Texts.{IsCanonicalText}
+use Rattle.shared_replica.specs.declared.journal.Entry.{Entry}
+use Rattle.shared_replica.specs.Solos.{Replays}
+use Rattle.replica_core.specs.Content.{Content, no_edits}
+use Rattle.replica_core.specs.Step.{after, effect, reply}
+use Rattle.live_relay.specs.Flow.{AreEntriesOf}
+use Rattle.grove_tools.specs.declared.outcome.Handed.{Handed}
+
+-- of edits that are dealt to so many senders in turn, those of one, counted from 0: the first edit here has this number, from 0
+abbrev pub dealt_to : (senders sender number : ℕ) → List Edit → List Edit
+dealt_to senders sender number [] = []
+dealt_to senders sender number (e ∷ es) =
+    if number % senders == sender then e ∷ dealt_to senders sender (number + 1) es else dealt_to senders sender (number + 1) es
+
+-- the lists are those of so many senders, to whom the edits were dealt
+pub record AreDealt (senders : ℕ) (edits : List Edit) (lists : List (List Edit)) : Type 0 where
+  pub many : length lists ≡ senders
+  pub each : (sender : ℕ) (list : List Edit) → slice_get lists sender ≡ Some list → list ≡ dealt_to senders sender 0 edits
+
+-- the line that tells how many edits a sender has
+abbrev pub sender_line : ℕ → List Edit → List ℕ
+sender_line number edits = codes "sender " ++ (decimal number ++ (codes " edits " ++ (decimal (length edits) ++ 10 ∷ [])))
+
+-- those of the senders from this number on
+abbrev pub sender_lines : ℕ → List (List Edit) → List ℕ
+sender_lines number [] = []
+sender_lines number (list ∷ lists) = sender_line number list ++ sender_lines (number + 1) lists
+
+-- The edits that the text spells were dealt to the senders; the journal handed out, of a replica that began empty, has each sender's edits
+-- once and in order, and no other entries; and what is written is how many edits each has, and the canonical text of the replica.
+pub record IsRelayed (senders : ℕ) (text : List ℕ) (handed : Handed) (answer : List ℕ) : Type 0 where
+  pub version : Version
+  pub edits : List Edit
+  pub spelled : IsTextOf text version edits
+  pub lists : List (List Edit)
+  pub dealt : AreDealt senders edits lists
+  pub journal : List (Entry Content Command (List Edit) Answer)
+  pub is_handed : handed.relayed ≡ Some journal
+  pub entries : AreEntriesOf lists journal
+  pub replica : Content
+  pub replays : Replays after effect reply no_edits journal replica
+  pub canonical : List ℕ
+  pub is_canonical : IsCanonicalText (graph replica.edits) canonical
+  pub written : answer ≡ sender_lines 1 lists ++ canonical

@@ -1,0 +1,17 @@
+use grove_calls::Ending;
+use replica_core::Replica;
+use shared_replica::Journal;
+
+/// How a call ended, and what it hands out beside what it wrote.
+#[derive(Drop)]
+pub struct ToolOutcome {
+    pub status: Ending,
+    /// The journal of the replica to which edits flowed, where the text of `relay` is written, whole or in part.
+    pub relayed: Option<Journal<Replica>>,
+}
+
+/// What forms hand out.
+#[derive(Drop)]
+pub(crate) struct Handed {
+    pub(crate) relayed: Option<Journal<Replica>>,
+}

@@ -1,0 +1,10 @@
+/// How many senders a relay may have.
+pub const MOST_SENDERS: u32 = 8;
+
+/// What the words ask for.
+#[derive(Clone, Copy, Debug, PartialEq, Eq)]
+pub enum Tool {
+    /// Lets the edits of the input flow from so many senders, from 1 to `MOST_SENDERS`, to a replica, and writes how many each sent and the
+    /// canonical text of the replica.
+    Relay { senders: u32 },
+}

@@ -1,0 +1,6 @@
+use Rattle.std.proofs.Common.{◌≡◌}
+use Rattle.live_relay.specs.Passed.{IsTaking}
+use Rattle.live_relay.proofs.taking.send_taking.Given as goal
+
+abbrev pub invariant-loop : goal.invariant-loop
+invariant-loop g l = (l.sender ≡ l.fn.sender) × IsTaking l.relay l.shared l.lists l.taking.receiver l.taking.taken l.taking.passes.items l.taking.done
