@@ -1,5 +1,5 @@
 -- How long a file is that keeps lines.
-use Rattle.std.proofs.Common.{◌≡◌, ℕ, ◌+◌, ◌*◌, ◌≤◌, ◌<◌, List, [], ◌∷◌, ◌++◌, length, map, decimal, sym, ap, subst, ◌∙◌, arith, append_assoc, length-append}
+use Rattle.std.proofs.Common.{◌≡◌, ℕ, ◌*◌, ◌≤◌, List, [], ◌∷◌, ◌++◌, length, map, decimal, sym, ap, subst, ◌∙◌, arith, append_assoc, length-append}
 use Rattle.grove_names.specs.declared.name.Name.{Name}
 use Rattle.grove_names.specs.Name.{name_text}
 use Rattle.grove_sorts.specs.Ctor.{ctor_text}
@@ -9,8 +9,8 @@ use Rattle.grove_edits.specs.declared.edit.Edit.{Edit}
 use Rattle.grove_edits.specs.Edit.{edit_edge, edit_kind}
 use Rattle.edit_text.specs.Line.{spaced, edge_parts, form}
 use Rattle.edit_text.specs.Text.{line_of, text_of}
-use Rattle.edit_journal.specs.LogFile.{longest_file, framed, opened, at_rest, IsLog}
-use Rattle.edit_journal.specs.Fault.{length_with, IsFirstExcess}
+use Rattle.edit_journal.specs.LogFile.{framed, opened, at_rest, IsLog}
+use Rattle.edit_journal.specs.Fault.{IsFirstExcess}
 use Rattle.edit_journal.specs.Keeping.{most_kept}
 use Rattle.edit_journal.proofs.Lines.{length-framed, opened-append, one_log, IsLog-nothing}
 use Rattle.edit_journal.proofs.Logs.{map-line_of-append, IsLog-at_rest}

@@ -1,7 +1,8 @@
 // The edits of a text, kept in a log on a disk in memory.
-ghost use Rattle.std.specs.Prelude.{◌≡◌, ◌≤◌, false, [], length, map, IfOk};
+ghost use Rattle.std.specs.Prelude.{◌≡◌, ◌≤◌, false, List, [], length, map, IfOk};
+ghost use Rattle.grove_edits.specs.declared.edit.Edit.{Edit};
 ghost use Rattle.edit_text.specs.Text.{line_of, text_of};
-ghost use Rattle.edit_journal.specs.LogFile.{IsLog, IsLogFile, at_rest};
+ghost use Rattle.edit_journal.specs.LogFile.{IsLog, IsLogOf, IsLogFile, at_rest};
 ghost use Rattle.edit_journal.specs.Keeping.{most_kept};
 
 use crate::edit_log::EditLog;
@@ -16,7 +17,7 @@ use text_parts::NoMemory;
 pub fn keep(alloc: Global, disk: MemoryDisk, edits: &[Edit]) -> Result<MemoryDisk, NoMemory>
     requires empty { disk ≡ [] }
     requires short { length (text_of edits.now) ≤ most_kept }
-    ensures kept { IfOk result (λ left. IsLog left edits.now) }
+    ensures kept { IfOk result (IsLogOf edits.now) }
 {
     let (mut log, _) = open_in_memory(alloc, disk)?;
     match log.append_all(edits) {
@@ -35,6 +36,8 @@ pub fn open_in_memory(
 ) -> Result<(EditLog<MemoryDisk>, EditList), NoMemory>
     requires { IsLogFile disk }
     ensures edits { IfOk result (λ opened. IsLog disk opened.1) }
+    ensures found { IfOk result (λ opened. (edits : List Edit) → IsLog disk edits → edits ≡ opened.1) }
+    ensures log { IfOk result (λ opened. IsLogOf opened.1 opened.0.disk) }
     ensures ends { IfOk result (λ opened. opened.0.disk ≡ at_rest (map line_of opened.1)) }
     ensures runs { IfOk result (λ opened. opened.0.stopped ≡ false) }
 {

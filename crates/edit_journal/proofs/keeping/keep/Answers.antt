@@ -1,7 +1,7 @@
 -- The log begins without edits, and has room for those of the text.
-use Rattle.std.proofs.Common.{◌∙◌, [], rules, subst, sym, ap, length, map}
-use Rattle.edit_text.specs.Text.{text_of}
-use Rattle.edit_journal.specs.LogFile.{IsLog}
+use Rattle.std.proofs.Common.{[], refl, subst, sym}
+use Rattle.edit_journal.specs.LogFile.{IsLogOf}
+use Rattle.edit_journal.proofs.Logs.{short_either}
 use Rattle.edit_journal.proofs.Kept.{room_to_keep, opened_on_nothing, log_of_none}
 use Rattle.edit_journal.proofs.keeping.keep.Goals as goal
 
@@ -9,7 +9,10 @@ pub returns-in-Ok : goal.returns-in-Ok
 returns-in-Ok c =
     let log = c.in_ok-log.log.disk in
     let empty = opened_on_nothing c.args.disk log c.in_ok-log.field-0-1 c.requires.empty c.in_ok-log.ensures.edits c.in_ok-log.ensures.ends in
-    record { kept = subst (λ f. IsLog f c.args.edits.now) (sym c.close.ensures.disk) (c.in-Ok.ensures.log.added [] (log_of_none log empty)) }
+    let is = log_of_none log empty in
+    let new = c.append_all.new.self.disk in
+    let short = short_either [] c.args.edits.now new (c.in-Ok.ensures.log.crash c.in_ok-log.ensures.runs [] is new refl) in
+    record { kept = subst (IsLogOf c.args.edits.now) (sym c.close.ensures.disk) (c.in-Ok.ensures.log.added [] is, short) }
 
 pub unreachable-requires-in-Err-Full : goal.unreachable-requires-in-Err-Full
 unreachable-requires-in-Err-Full c =

@@ -1,5 +1,5 @@
 -- What the records written say of the edits.
-use Rattle.std.proofs.Common.{rules, refl, true, ◌≡◌, ◌≢◌, ◌==◌, ◌≤◌, ◌∙◌, ℕ, List, [], ◌∷◌, ◌++◌, Ok, Err, ◌-◌, map, take, drop, length, ap, subst, arith}
+use Rattle.std.proofs.Common.{rules, refl, true, ◌≡◌, ◌≢◌, ◌==◌, ◌≤◌, ◌∙◌, ℕ, List, [], ◌∷◌, Ok, Err, ◌-◌, map, take, drop, length, ap, subst, arith}
 use Rattle.std.proofs.lemmas.Bool.{false≢true}
 use Rattle.std.proofs.lemmas.List.{take_all, length-drop}
 use Rattle.std.specs.List.{AllByRecursion}
