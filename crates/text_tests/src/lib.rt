@@ -5,6 +5,8 @@
 #[cfg(test)]
 mod edge_lattice_tests;
 #[cfg(test)]
+mod edit_journal_tests;
+#[cfg(test)]
 mod edit_merge_tests;
 #[cfg(test)]
 mod edit_stream_tests;
