@@ -8,9 +8,10 @@ use Rattle.grove_calls.specs.FirstFault.{IsFirstFaultOfEdits}
 use Rattle.grove_calls.specs.Rules.{Rules}
 use Rattle.grove_tools.specs.declared.outcome.Handed.{Handed}
 use Rattle.grove_tools.specs.declared.tool.Tool.{Tool}
-use Rattle.grove_tools.specs.declared.tool.Tool.TheVariants.{Relay}
+use Rattle.grove_tools.specs.declared.tool.Tool.TheVariants.{Relay, Keep}
 use Rattle.grove_tools.specs.Words.{AreOf}
 use Rattle.grove_tools.specs.Relay.{IsRelayed}
+use Rattle.grove_tools.specs.Keep.{IsKept}
 
 -- what is written where the words are those of no form
 abbrev pub usage_text : List ℕ
@@ -19,25 +20,30 @@ usage_text = codes "usage: grove_tools relay N | infer | keep | undo N | json" +
 -- the form reads the input
 abbrev pub Reads : Tool → Type 0
 Reads (Relay senders) = Unit {0}
+Reads Keep = Unit {0}
 
 -- the text has a reading for the form, which makes something of it
 abbrev pub HasReading : Tool → List ℕ → Type 0
 HasReading (Relay senders) text = (version : Version) × (edits : List Edit) × IsTextOf text version edits
+HasReading Keep text = (version : Version) × (edits : List Edit) × IsTextOf text version edits
 
 -- the answer of the form to a text, where this is handed out
 abbrev pub IsAnswer : Tool → List ℕ → Handed → List ℕ → Type 0
 IsAnswer (Relay senders) text handed answer = IsRelayed senders text handed answer
+IsAnswer Keep text handed answer = IsKept text handed answer
 
 -- the first line of a text without a reading for the form, and its first fault
 abbrev pub IsFirstFault : Tool → List ℕ → ℕ → Fault → Type 0
 IsFirstFault (Relay senders) text line fault = IsFirstFaultOfEdits text line fault
+IsFirstFault Keep text line fault = IsFirstFaultOfEdits text line fault
 
 -- the text has a reading, of which the form makes nothing
 abbrev pub IsUnfit : Tool → List ℕ → Type 0
 IsUnfit (Relay senders) text = ⊥
+IsUnfit Keep text = ⊥
 
 abbrev pub nothing_handed : Handed
-nothing_handed = record { relayed = None }
+nothing_handed = record { relayed = None; kept = None }
 
 abbrev pub tool_rules : Rules Tool Handed
 tool_rules = record {

@@ -1,3 +1,4 @@
 pub mod Words
 pub mod Relay
+pub mod Keep
 pub mod Due

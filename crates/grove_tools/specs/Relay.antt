@@ -1,5 +1,5 @@
 -- What `relay` makes of a text.
-use Rattle.std.specs.Prelude.{◌≡◌, ℕ, ◌+◌, ◌%◌, ◌==◌, List, [], ◌∷◌, ◌++◌, length, codes, decimal, slice_get, Some, if◌then◌else◌}
+use Rattle.std.specs.Prelude.{◌≡◌, ℕ, ◌+◌, ◌%◌, ◌==◌, List, [], ◌∷◌, ◌++◌, length, codes, decimal, slice_get, None, Some, if◌then◌else◌}
 use Rattle.grove_edits.specs.declared.answer.Answer.{Answer}
 use Rattle.grove_edits.specs.declared.command.Command.{Command}
 use Rattle.grove_edits.specs.declared.edit.Edit.{Edit}
@@ -36,6 +36,7 @@ sender_lines number (list ∷ lists) = sender_line number list ++ sender_lines (
 
 -- The edits that the text spells were dealt to the senders; the journal handed out, of a replica that began empty, has each sender's edits
 -- once and in order, and no other entries; and what is written is how many edits each has, and the canonical text of the replica.
+-- No disk is handed out.
 pub record IsRelayed (senders : ℕ) (text : List ℕ) (handed : Handed) (answer : List ℕ) : Type 0 where
   pub version : Version
   pub edits : List Edit
@@ -50,3 +51,4 @@ pub record IsRelayed (senders : ℕ) (text : List ℕ) (handed : Handed) (answer
   pub canonical : List ℕ
   pub is_canonical : IsCanonicalText (graph replica.edits) canonical
   pub written : answer ≡ sender_lines 1 lists ++ canonical
+  pub no_disk : handed.kept ≡ None

@@ -2,10 +2,11 @@
 use Rattle.std.specs.declared.alloc.Global.{Global}
 use Rattle.std.specs.Prelude.{String, ◌≡◌, ℕ, ◌≤◌, List, [], ◌∷◌, map, codes, decimal, string_bytes}
 use Rattle.grove_tools.specs.declared.tool.Tool.{Tool}
-use Rattle.grove_tools.specs.declared.tool.Tool.TheVariants.{Relay}
+use Rattle.grove_tools.specs.declared.tool.Tool.TheVariants.{Relay, Keep}
 
 abbrev pub words_of : Tool → List (List ℕ)
 words_of (Relay senders) = codes "relay" ∷ decimal senders ∷ []
+words_of Keep = codes "keep" ∷ []
 
 -- how many senders a relay may have
 abbrev pub most_senders : ℕ
@@ -14,6 +15,7 @@ most_senders = 8
 -- the numbers of the form are in range
 abbrev pub IsWithinLimits : Tool → Type 0
 IsWithinLimits (Relay senders) = (1 ≤ senders) × (senders ≤ most_senders)
+IsWithinLimits Keep = Unit {0}
 
 -- the words are those of the form
 abbrev pub AreOf : Tool → List (String Global) → Type 0

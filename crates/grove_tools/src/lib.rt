@@ -2,6 +2,7 @@
 //! Each form of words is a variant of `Tool`, with a module that forms its answer and a file of definitions that says what it is.
 #![tactic(auto)]
 
+mod keep;
 mod no_memory;
 mod outcome;
 mod relay;

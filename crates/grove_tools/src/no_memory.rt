@@ -42,6 +42,12 @@ impl From<grove_edits::NoMemory> for NoMemory {
     }
 }
 
+impl From<edit_text::NoMemory> for NoMemory {
+    fn from(_error: edit_text::NoMemory) -> NoMemory {
+        NoMemory
+    }
+}
+
 impl From<replica_core::NoMemory> for NoMemory {
     fn from(_error: replica_core::NoMemory) -> NoMemory {
         NoMemory

@@ -49,6 +49,7 @@ pub(crate) fn form_relay<R: Threads + Wait + Sync>(
         text,
         handed: Handed {
             relayed: Some(journal),
+            kept: None,
         },
     })
 }

@@ -7,4 +7,7 @@ pub enum Tool {
     /// Lets the edits of the input flow from so many senders, from 1 to `MOST_SENDERS`, to a replica, and writes how many each sent and the
     /// canonical text of the replica.
     Relay { senders: u32 },
+    /// Keeps the edits of the input in a log on a disk in memory, opens the log again, and writes the canonical text of the edits found
+    /// in it, behind the line of the input's version.
+    Keep,
 }

@@ -1,4 +1,5 @@
 //! What each form answers.
+use crate::keep::form_keep;
 use crate::outcome::Handed;
 use crate::relay::form_relay;
 use crate::tool::Tool;
@@ -36,11 +37,15 @@ impl<'r, R: Threads + Wait + Sync> Form for ToolForm<'r, R> {
     fn form(&self, alloc: Global, text: &[u8]) -> Result<Formed<Handed>, Refusal> {
         match self.tool {
             Tool::Relay { senders } => form_relay(self.rt, alloc, self.seed, senders, text),
+            Tool::Keep => form_keep(alloc, text),
         }
     }
 
     fn nothing(_alloc: Global) -> Handed {
-        Handed { relayed: None }
+        Handed {
+            relayed: None,
+            kept: None,
+        }
     }
 
     fn usage() -> &'static [u8] {

@@ -27,11 +27,15 @@ pub fn run_tool<R: Threads + Wait + Sync, S: Source, K: Sink>(
     ensures { IsServed tool_rules words.now
         (record { left = S.left source.old; read_faults = S.faults source.old; taken = K.taken sink.old; write_faults = K.faults sink.old })
         (record { left = S.left source.new; read_faults = S.faults source.new; taken = K.taken sink.new; write_faults = K.faults sink.new })
-        (S.never_fails source.old) (source.new ≡ source.old) (K.never_fails sink.old) (record { relayed = result.relayed }) result.status }
+        (S.never_fails source.old) (source.new ≡ source.old) (K.never_fails sink.old) (record { relayed = result.relayed; kept = result.kept }) result.status }
 {
     let form = form_of(rt, seed, words);
-    let (status, Handed { relayed }) = serve(alloc, form, source, sink);
-    ToolOutcome { status, relayed }
+    let (status, Handed { relayed, kept }) = serve(alloc, form, source, sink);
+    ToolOutcome {
+        status,
+        relayed,
+        kept,
+    }
 }
 
 // What the words ask for, with what it takes to answer it.

@@ -5,6 +5,7 @@ ghost use Rattle.grove_tools.specs.Due.{tool_rules};
 ghost use Rattle.grove_tools.specs.Words.{AreOf, most_senders};
 
 use crate::tool::{MOST_SENDERS, Tool};
+use grove_calls::is_word;
 use text_parts::read_number;
 
 /// What the words ask for, if they are of a form that is open.
@@ -12,6 +13,9 @@ pub(crate) fn tool_of(words: &[String]) -> Option<Tool>
     ensures found { IfSome result (λ tool. AreOf tool words.now) }
     ensures none { IfNone result (AreOfNone tool_rules words.now) }
 {
+    if is_word(words, "keep") {
+        return Some(Tool::Keep);
+    }
     let senders = senders_of(words)?;
     Some(Tool::Relay { senders })
 }
