@@ -124,13 +124,15 @@ fn run(alloc: Global, disk: FuseDisk, edits: &[Edit]) -> Stopped {
     };
     let mut random = 7u64;
     let mut done = 0;
-    while done < edits.len() {
-        random = random
-            .wrapping_mul(6364136223846793005)
-            .wrapping_add(1442695040888963407);
-        let group = (random >> 33) as usize % 4 + 1;
-        let end = edits.len().min(done + group);
-        if log.append_all(&edits[done..end]).is_err() {
+    for _ in edits {
+        random = next_random(random);
+        let end = edits
+            .len()
+            .min(done.saturating_add((random >> 33) as usize % 4 + 1));
+        let Some(group) = edits.get(done..end) else {
+            break;
+        };
+        if log.append_all(group).is_err() {
             return Stopped {
                 disk: log.close(),
                 tried: end,
@@ -156,6 +158,12 @@ fn run(alloc: Global, disk: FuseDisk, edits: &[Edit]) -> Stopped {
         tried: done,
         acknowledged: done,
     }
+}
+
+fn next_random(random: u64) -> u64 {
+    random
+        .wrapping_mul(6364136223846793005)
+        .wrapping_add(1442695040888963407)
 }
 
 fn open(alloc: Global, disk: FuseDisk) -> Result<EditLog<FuseDisk>, FuseDisk> {
