@@ -125,6 +125,9 @@ fn run(alloc: Global, disk: FuseDisk, edits: &[Edit]) -> Stopped {
     let mut random = 7u64;
     let mut done = 0;
     for _ in edits {
+        if done == edits.len() {
+            break;
+        }
         random = next_random(random);
         let end = edits
             .len()
