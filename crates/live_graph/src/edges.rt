@@ -1,8 +1,42 @@
 ghost use Rattle.std.specs.Prelude.{◌≡◌, ◌==◌, ◌∷◌, [], length, slice_get, IfSome, IfNone};
 
 use edge_numbers::EdgeNumbers;
-use grove_edits::Edge;
+use grove_edits::{Edge, Vertex};
 use std::marker::Model;
+
+/// A live edge, lent by its graph, which keeps it as a few numbers.
+#[derive(Drop)]
+pub struct LiveEdge<'g> {
+    edges: &'g EdgeNumbers,
+    number: usize,
+}
+
+impl<'g> Model for LiveEdge<'g> {
+    ghost use Rattle.grove_edits.specs.declared.edge.Edge.{Edge};
+    ghost use Rattle.edge_numbers.specs.Numbered.{edge_at, IsEdgeNumber};
+
+    ghost Value = { Edge };
+
+    ghost view = { λ edge. edge_at edge.edges.now edge.number };
+
+    ghost invariant = { λ edge. IsEdgeNumber edge.edges.now edge.number };
+}
+
+impl<'g> LiveEdge<'g> {
+    /// The edge itself, which is wide.
+    pub fn edge(&self) -> Edge
+        ensures { result ≡ self.now }
+    {
+        self.edges.edge(self.number)
+    }
+
+    /// The vertex that it leads to.
+    pub fn target(&self) -> &'g Vertex
+        ensures { result.now ≡ self.now.target }
+    {
+        self.edges.vertex(self.edges.target(self.number))
+    }
+}
 
 /// Some live edges, in edge order, borrowed from their graph.
 #[derive(Drop)]
@@ -64,15 +98,19 @@ impl<'g> Edges<'g> {
     }
 
     /// The first edge and the others, or None where there are none.
-    pub fn split_first(&self) -> Option<(Edge, Edges<'g>)>
+    pub fn split_first(&self) -> Option<(LiveEdge<'g>, Edges<'g>)>
         ensures both { IfSome result (λ found. self.now ≡ found.0 ∷ found.1) }
         ensures none { IfNone result (self.now ≡ []) }
     {
         let (first, others) = self.numbers.split_first()?;
+        let edge = LiveEdge {
+            edges: self.edges,
+            number: *first as usize,
+        };
         let edges = Edges {
             edges: self.edges,
             numbers: others,
         };
-        Some((self.edges.edge(*first as usize), edges))
+        Some((edge, edges))
     }
 }

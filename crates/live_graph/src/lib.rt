@@ -14,7 +14,7 @@ mod uses;
 mod vertices;
 mod whole;
 
-pub use edges::Edges;
+pub use edges::{Edges, LiveEdge};
 pub use graph_words::{Change, Named};
 pub use live_graph::LiveGraph;
 pub use text_parts::NoMemory;

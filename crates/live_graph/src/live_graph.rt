@@ -298,6 +298,16 @@ impl LiveGraph {
         }
     }
 
+    /// No edges, for what reads the live edges around vertices and is at none.
+    pub fn no_edges(&self) -> Edges<'_>
+        ensures none { result ≡ [] }
+    {
+        Edges {
+            edges: &self.edges,
+            numbers: &[],
+        }
+    }
+
     // The live parent edges of a vertex, uncounted.
     fn parents_told(&self, vertex: &Vertex) -> Edges<'_>
         ensures parents { result ≡ parents_of vertex.now (live self.now) }

@@ -2,18 +2,11 @@
 use Rattle.std.proofs.Common.{◌≡◌, ℕ, ◌≤◌, [], ◌∷◌, sym, ap, subst, ◌∙◌}
 use Rattle.std.specs.Prelude.{Result, Ok, Err, IfOk, OnOk, OnErr}
 use Rattle.edge_lattice.specs.State.{state_join}
-use Rattle.grove_sorts.specs.declared.position.Position.{Position}
-use Rattle.grove_edits.specs.declared.vertex.Vertex.{Vertex}
 use Rattle.grove_edits.specs.declared.edit.Edit.{Edit}
 use Rattle.grove_edits.specs.Edit.{edit_edge, edit_kind}
 use Rattle.grove_edits.specs.Graph.{Graph, graph, graph_join, IsSame, state_of}
 use Rattle.graph_words.specs.Change.{IsChange}
 use Rattle.graph_words.specs.States.{Entries, state_in}
-use Rattle.edge_index.specs.Lists.{Indexed}
-use Rattle.child_index.specs.declared.origin.Origin.{Origin}
-use Rattle.child_index.specs.Origin.{room_at_origin}
-use Rattle.parent_index.specs.declared.target.Target.{Target}
-use Rattle.parent_index.specs.Target.{room_at_vertex}
 use Rattle.judging.proofs.Kept.{types-then, contexts-then}
 use Rattle.kept_records.specs.Size.{IsSize}
 use Rattle.kept_records.proofs.OneSize.{size_along}
@@ -67,13 +60,3 @@ applied_over edit applied store same_as after marks grown marks_after same have 
 pub size_over : (edit : Edit) (g same_as : Graph) (n : ℕ) → IsSame same_as g → IsSize (edit_edge edit) g (graph_join g (graph (edit ∷ []))) n → IsSize (edit_edge edit) same_as (graph_join same_as (graph (edit ∷ []))) n
 size_over edit g same_as n same size =
     size_along (edit_edge edit) g (graph_join g (graph (edit ∷ []))) same_as (graph_join same_as (graph (edit ∷ []))) n (λ e. sym (same e)) (λ e. ap (λ s. state_join s (graph (edit ∷ []) e)) (sym (same e))) size
-
--- ---- room
-
-pub room_over : (children more back : Indexed Origin) → ((v : Vertex) (p : Position) → room_at_origin children v p ≤ room_at_origin more v p) → ((v : Vertex) (p : Position) → room_at_origin back v p ≡ room_at_origin more v p)
-    → (v : Vertex) (p : Position) → room_at_origin children v p ≤ room_at_origin back v p
-room_over children more back grows same v p = subst (λ n. room_at_origin children v p ≤ n) (sym (same v p)) (grows v p)
-
-pub room_over_targets : (parents more back : Indexed Target) → ((v : Vertex) → room_at_vertex parents v ≤ room_at_vertex more v) → ((v : Vertex) → room_at_vertex back v ≡ room_at_vertex more v)
-    → (v : Vertex) → room_at_vertex parents v ≤ room_at_vertex back v
-room_over_targets parents more back grows same v = subst (λ n. room_at_vertex parents v ≤ n) (sym (same v)) (grows v)

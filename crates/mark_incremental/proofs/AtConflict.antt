@@ -52,7 +52,7 @@ not_member v is = none_first is.before is.are where
   none_first (x ∷ xs) same = cc
 
 -- what is found for a vertex of which something is demanded tells whether it is left as it is
-some_found : (live : List Edge) (types : List Typ) (ctxs : List Context) (places : Places Record) (judged : Vertex → Bool) (demand : Demand) (e : Edge) (o : Option Given) → IsFound live types ctxs places judged demand e o → is_some o ≡ true
+some_found : (live : List Edge) (types : List Typ) (ctxs : List Context) (places : Places Record) (judged : Vertex → Bool) (demand : Demand) (e : Edge) (o : Option Given) → IsFound live types ctxs places judged demand e.target o → is_some o ≡ true
     → class live e.target ≡ Inner → (records : Records) → ReadsAs types ctxs places records → (d : Demanded) → Agree (sort_of_ctor e.target.ctor) (node.demanded_at types ctxs demand) d → IsLeft judged records e.target d
 some_found live types ctxs places judged demand e None found some inner records reads d agree = absurd cc
 some_found live types ctxs places judged demand e (Some g) (inl found) some inner records reads d agree = absurd (found.0 inner)
@@ -62,7 +62,7 @@ some_found live types ctxs places judged demand e (Some g) (inr (is, left)) some
       ∙ agree_expression (sort_of_ctor e.target.ctor) (node.demanded_at types ctxs demand) d agree exp,
 )
 
-pub none_found : (live : List Edge) (types : List Typ) (ctxs : List Context) (places : Places Record) (judged : Vertex → Bool) (demand : Demand) (e : Edge) (o : Option Given) → IsFound live types ctxs places judged demand e o → is_some o ≡ false
+pub none_found : (live : List Edge) (types : List Typ) (ctxs : List Context) (places : Places Record) (judged : Vertex → Bool) (demand : Demand) (e : Edge) (o : Option Given) → IsFound live types ctxs places judged demand e.target o → is_some o ≡ false
     → (class live e.target ≡ Inner) × HasToBeJudged types ctxs places judged demand e.target
 none_found live types ctxs places judged demand e None found none = found
 none_found live types ctxs places judged demand e (Some g) found none = absurd cc
@@ -70,7 +70,7 @@ none_found live types ctxs places judged demand e (Some g) found none = absurd c
 module _ (e : Edge) (live : List Edge) (types : List Typ) (ctxs : List Context) (places : Places Record) (judged : Vertex → Bool) (demand : Demand) (d : Demanded)
     (place : class live e.target ≡ Inner → IsStartBelow live types ctxs demand e.source e.target d) (records : Records) (reads : ReadsAs types ctxs places records) where
   -- where it does not have to be judged again
-  pub made_alone : (o : Option Given) → IsFound live types ctxs places judged demand e o → is_some o ≡ true → (made : List (Vertex × Kept)) → MakesAlone live judged records e.target e.source made → MakesAtConflict e live judged records d made
+  pub made_alone : (o : Option Given) → IsFound live types ctxs places judged demand e.target o → is_some o ≡ true → (made : List (Vertex × Kept)) → MakesAlone live judged records e.target e.source made → MakesAtConflict e live judged records d made
   made_alone o found some made makes = by_class (class_or (class live e.target) Inner) where
     nothing : class live e.target ≡ Inner → MakesAlone live judged records e.target e.source made → made ≡ []
     nothing inner (inner_there is none) = none

@@ -52,7 +52,7 @@ module _ (live : List Edge) (old new : List Typ) (oldc newc : List Context) (fr 
     clash : (o : Option (Position × Sort)) → o ≡ Some q → o ≡ None → ⊥
     clash o a b = let never : None ≡ Some q = sym b ∙ a in cc
 
-  pub begins_none : slice_get (positions fr.vertex.now.ctor) fr.state.next ≡ None → fr.left.now ≡ [] → IsBegun live old new oldc newc fr
+  pub begins_none : slice_get (positions fr.vertex.now.ctor) fr.state.next ≡ None → fr.left ≡ [] → IsBegun live old new oldc newc fr
   begins_none past left = record {
     there = λ p ps row. absurd (clash p (sym past ∙ here (positions fr.vertex.now.ctor) fr.state.next p ps row));
     none_there = λ empty. left;
@@ -82,7 +82,7 @@ demand_among old new oldc newc d e n b o q found more among rule =
 
 -- the position is begun by its place in the table, its edges, and what is demanded of each of its children
 pub begins_there : (live : List Edge) (old new : List Typ) (oldc newc : List Context) (fr : Frame) (q : Position × Sort) (d : Demand) → slice_get (positions fr.vertex.now.ctor) fr.state.next ≡ Some q → fr.state.ctor.now ≡ fr.vertex.now.ctor
-    → fr.left.now ≡ children_of fr.vertex.now q.0 live → IsTrue fr.several ↔ (1 < length fr.left.now)
+    → fr.left ≡ children_of fr.vertex.now q.0 live → IsTrue fr.several ↔ (1 < length fr.left)
     → demanded_at new newc fr.demand ≡ cond fr.several (synthesised_in (demanded_at new newc d)) (demanded_at new newc d)
     → demanded_at new newc d ≡ machine.demanded_by (opened_at old oldc fr.state) (unwrap_or (sort_at_index fr.state.ctor.now fr.state.next) Top)
     → given_at new fr.given ≡ machine.nothing → IsBegun live old new oldc newc fr

@@ -18,9 +18,6 @@ use Rattle.grove_terms.proofs.OneGrove.{one_live}
 use Rattle.grove_terms.proofs.WellSorted.{live_well_formed}
 use Rattle.type_core.specs.Typ.{Typ}
 use Rattle.graph_words.specs.States.{Entries, state_in}
-use Rattle.edge_index.specs.Lists.{Indexed, live}
-use Rattle.child_index.specs.declared.origin.Origin.{Origin}
-use Rattle.parent_index.specs.declared.target.Target.{Target}
 use Rattle.judging.proofs.Kept.{types-itself, contexts-itself}
 use Rattle.type_core.specs.TypeTable.{KeepsTypes}
 use Rattle.ctx_table.specs.Context.{Context}
@@ -37,7 +34,6 @@ use Rattle.mark_incremental.specs.Reading.{kept_by, IsRecordOf, records_at, AreR
 use Rattle.mark_incremental.specs.Looking.{on, holds, AreRoots}
 use Rattle.mark_incremental.specs.Walking.{meant, HasMadeTrees, LeavesRight}
 use Rattle.mark_incremental.specs.Passing.{AreWalks, HoldsThese}
-use Rattle.mark_incremental.specs.Raising.{AreIndexed}
 use Rattle.mark_incremental.specs.Standing.{KeptMarks, StandFor, records_in, put_in}
 use Rattle.mark_incremental.specs.Applying.{HaveGrown, WasBefore}
 use Rattle.mark_incremental.specs.Rooting.{IsChangedTo, IsOnlyRoot}
@@ -205,11 +201,3 @@ grown_stands g h marks after stands same grown = record {
 
 pub nothing_grown : (marks : KeptMarks) → HaveGrown marks marks
 nothing_grown marks = record { types = types-itself marks.types; contexts = contexts-itself marks.contexts; records = λ v. refl; roots = λ v. refl }
-
--- the indexes of a store whose graph and live edges stay
-pub indexed_still : (store now : Entries) (children then_children : Indexed Origin) (parents then_parents : Indexed Target) → AreIndexed store children parents → IsSame (state_in now) (state_in store)
-    → live then_children ≡ live children → live then_parents ≡ live parents → AreIndexed now then_children then_parents
-indexed_still store now children then_children parents then_parents are same one other = record {
-  live_edges = subst (AreLive (state_in now)) (sym other) (live_along (state_in store) (state_in now) (live parents) (λ e. sym (same e)) are.live_edges);
-  same = one ∙ are.same ∙ sym other;
-}

@@ -66,7 +66,7 @@ among-agrees n TypeSort d e same = tt
 -- ---- the first child that is left is accepted
 
 module _ (live : List Edge) (types : List Typ) (ctxs : List Context) (l : Level) (fr now : Frame) (g : Given) where
-  pub accepted : IsLevel live types ctxs l fr → IsAccepted types fr g now → 0 < length fr.left.now → GivesFirst live types l fr g → IsLevel live types ctxs (record l { left = behind l.left }) now
+  pub accepted : IsLevel live types ctxs l fr → IsAccepted types fr g now → 0 < length fr.left → GivesFirst live types l fr g → IsLevel live types ctxs (record l { left = behind l.left }) now
   accepted is acc some gives = record {
     vertex = acc.vertex ∙ is.vertex;
     stands = is.stands;
@@ -80,8 +80,8 @@ module _ (live : List Edge) (types : List Typ) (ctxs : List Context) (l : Level)
     place = place;
     none_there = λ empty. acc.left ∙ ap (λ (es : List Edge). drop 1 es) (is.none_there (subst (λ (o : OpenVertex). drop o.next (positions l.vertex.ctor) ≡ []) acc.state empty));
   } where
-    cut : (x : Edge) × (ys : List Edge) × (fr.left.now ≡ x ∷ ys)
-    cut = some_first fr.left.now some
+    cut : (x : Edge) × (ys : List Edge) × (fr.left ≡ x ∷ ys)
+    cut = some_first fr.left some
 
     first : Edge
     first = cut.0
@@ -92,18 +92,18 @@ module _ (live : List Edge) (types : List Typ) (ctxs : List Context) (l : Level)
     later : List Edge
     later = edges_from live l.vertex (drop (suc fr.state.next) (positions l.vertex.ctor))
 
-    left_now : now.left.now ≡ rest
+    left_now : now.left ≡ rest
     left_now = acc.left ∙ ap (λ (es : List Edge). drop 1 es) cut.2
 
-    later_same : now.left.now ++ later ≡ now.left.now ++ edges_from live l.vertex (drop (suc now.state.next) (positions l.vertex.ctor))
-    later_same = ap (λ (o : OpenVertex). now.left.now ++ edges_from live l.vertex (drop (suc o.next) (positions l.vertex.ctor))) (sym acc.state)
+    later_same : now.left ++ later ≡ now.left ++ edges_from live l.vertex (drop (suc now.state.next) (positions l.vertex.ctor))
+    later_same = ap (λ (o : OpenVertex). now.left ++ edges_from live l.vertex (drop (suc o.next) (positions l.vertex.ctor))) (sym acc.state)
 
     place : (p : Position × Sort) (ps : List (Position × Sort)) → drop now.state.next (positions l.vertex.ctor) ≡ p ∷ ps → IsAtPlace live types ctxs (record l { left = behind l.left }) now p
     place p ps at_now =
         record {
           demand = subst (λ (d : Demand). Agree p.1 (node.demanded_at types ctxs d) (demands l p.0)) (sym acc.demand) was.demand;
           done = was.done ++ first ∷ [];
-          held = append_assoc was.done (first ∷ []) now.left.now ∙ ap (λ es. was.done ++ (first ∷ es)) left_now ∙ ap (λ es. was.done ++ es) (sym cut.2) ∙ was.held;
+          held = append_assoc was.done (first ∷ []) now.left ∙ ap (λ es. was.done ++ (first ∷ es)) left_now ∙ ap (λ es. was.done ++ es) (sym cut.2) ∙ was.held;
           several = (λ h. was.several.0 (sym acc.several ∙ h), λ h. acc.several ∙ was.several.1 h);
           gives = λ nil. subst (λ (o : OpenVertex). given_at types now.given ≡ given_there l o total p) (sym acc.state) (whole nil);
         }
@@ -131,7 +131,7 @@ module _ (live : List Edge) (types : List Typ) (ctxs : List Context) (l : Level)
             let clash : true ≡ false = sym (was.several.1 some_more) ∙ sev in
             absurd cc
 
-        whole : now.left.now ≡ [] → given_at types now.given ≡ given_there l fr.state total p
+        whole : now.left ≡ [] → given_at types now.given ≡ given_there l fr.state total p
         whole none_now = by_test fr.several refl (length was.done) count where
           none_rest : rest ≡ []
           none_rest = sym left_now ∙ none_now
@@ -166,11 +166,11 @@ module _ (live : List Edge) (old new : List Typ) (oldc newc : List Context) (kee
     row_same : drop fr.state.next (positions fr.vertex.now.ctor) ≡ drop fr.state.next (positions l.vertex.ctor)
     row_same = ap (λ (v : Vertex). drop fr.state.next (positions v.ctor)) vertex
 
-    left_there : (p : Position × Sort) (ps : List (Position × Sort)) → drop fr.state.next (positions l.vertex.ctor) ≡ p ∷ ps → fr.left.now ≡ children_of l.vertex p.0 live
+    left_there : (p : Position × Sort) (ps : List (Position × Sort)) → drop fr.state.next (positions l.vertex.ctor) ≡ p ∷ ps → fr.left ≡ children_of l.vertex p.0 live
     left_there p ps at = (begins.there p ps (row_same ∙ at)).left ∙ ap (λ (v : Vertex). children_of v p.0 live) vertex
 
     edges : (drop fr.state.next (positions l.vertex.ctor) ≡ []) ⊎ ((p : Position × Sort) × (ps : List (Position × Sort)) × (drop fr.state.next (positions l.vertex.ctor) ≡ p ∷ ps))
-        → child_edges l.left ≡ fr.left.now ++ edges_from live l.vertex (drop (suc fr.state.next) (positions l.vertex.ctor))
+        → child_edges l.left ≡ fr.left ++ edges_from live l.vertex (drop (suc fr.state.next) (positions l.vertex.ctor))
     edges (inl empty) =
         between.edges ∙ ap (edges_from live l.vertex) empty
         ∙ sym (ap (λ es. es ++ edges_from live l.vertex (drop (suc fr.state.next) (positions l.vertex.ctor))) (begins.none_there (row_same ∙ empty))
@@ -178,7 +178,7 @@ module _ (live : List Edge) (old new : List Typ) (oldc newc : List Context) (kee
     edges (inr (p, ps, at)) =
         between.edges ∙ ap (edges_from live l.vertex) at
         ∙ ap (λ es. es ++ edges_from live l.vertex ps) (sym (left_there p ps at))
-        ∙ ap (λ qs. fr.left.now ++ edges_from live l.vertex qs) (sym (one_more (positions l.vertex.ctor) fr.state.next p ps at).1)
+        ∙ ap (λ qs. fr.left ++ edges_from live l.vertex qs) (sym (one_more (positions l.vertex.ctor) fr.state.next p ps at).1)
 
     place : (p : Position × Sort) (ps : List (Position × Sort)) → drop fr.state.next (positions l.vertex.ctor) ≡ p ∷ ps → IsAtPlace live new newc l fr p
     place p ps at =
@@ -215,7 +215,7 @@ module _ (live : List Edge) (old new : List Typ) (oldc newc : List Context) (kee
             ap (λ n. demanded_among n (demand x (types_before x (judged_in l.forest) p.0 (positions l.vertex.ctor) []))) count
             ∙ ap (λ (ts : List Typ). demanded_among total (demand x ts)) (types_before_row x (judged_in l.forest) l.vertex.ctor fr.state.next p ps at)
 
-        gives : fr.left.now ≡ [] → given_at new fr.given ≡ given_there l fr.state total p
+        gives : fr.left ≡ [] → given_at new fr.given ≡ given_there l fr.state total p
         gives nil =
             let zero_children : total ≡ 0 = ap length (sym (left_there p ps at) ∙ nil) in
             there.given ∙ sym (running.given-none p.1 l.forest p.0 (asked l fr.state)) ∙ ap (λ n. given_there l fr.state n p) (sym zero_children)
@@ -294,7 +294,7 @@ filled_gave types ctxs l fr p ps is_open ctor at gave gives =
 
 -- a vertex whose children at a position are all taken
 pub filled_between : (live : List Edge) (types : List Typ) (ctxs : List Context) (l : Level) (fr : Frame) (p : Position × Sort) (ps : List (Position × Sort))
-    → IsOpenOf types ctxs fr.state → fr.state.ctor.now ≡ l.vertex.ctor → drop fr.state.next (positions l.vertex.ctor) ≡ p ∷ ps → fr.left.now ≡ [] → IsLevel live types ctxs l fr
+    → IsOpenOf types ctxs fr.state → fr.state.ctor.now ≡ l.vertex.ctor → drop fr.state.next (positions l.vertex.ctor) ≡ p ∷ ps → fr.left ≡ [] → IsLevel live types ctxs l fr
     → IsBetween live types ctxs l (filled_with fr.given fr.state)
 filled_between live types ctxs l fr p ps is_open ctor at none_here is = record {
   stands = is.stands;

@@ -28,7 +28,6 @@ pub mod ApartFrom
 pub mod AppliedOver
 pub mod Edited
 pub mod Empty
-pub mod Room
 pub mod Least
 pub mod Outcomes
 pub mod OneHead

@@ -109,7 +109,7 @@ module _ (live : List Edge) (types : List Typ) (ctxs : List Context) (l : Level)
   so_far = record { vertex = opened.is.vertex; stands = opened.is.stands; agree = opened.is.agree; gave = opened.is.gave }
 
   -- where no child stands
-  pub passed_empty : fr.left.now ≡ [] → IsPassed live types ctxs l fr
+  pub passed_empty : fr.left ≡ [] → IsPassed live types ctxs l fr
   passed_empty nil = record { so_far = so_far; gives = λ p ps at. (opened.is.place p ps at).gives nil }
 
   -- where several stand, of which none is taken
@@ -122,11 +122,11 @@ module _ (live : List Edge) (types : List Typ) (ctxs : List Context) (l : Level)
 
   -- where one stands, which is found as it is
   module _ (well : AllByRecursion IsWellFormed live) (places : Places Record) (judged : Vertex → Bool) (records : Records) (reads : ReadsAs types ctxs places records) (leaves : LeavesRightBelow live judged records l.vertex)
-      (e : Edge) (rest : List Edge) (first : fr.left.now ≡ e ∷ rest) (g : Given) (found : IsFound live types ctxs places judged fr.demand e (Some g)) where
+      (e : Edge) (rest : List Edge) (first : fr.left ≡ e ∷ rest) (g : Given) (found : IsFound live types ctxs places judged fr.demand e.target (Some g)) where
     abbrev k : Level
     k = record l { left = opened.left }
 
-    gives_first : IsFound live types ctxs places judged fr.demand e (Some g) → GivesFirst live types k fr g
+    gives_first : IsFound live types ctxs places judged fr.demand e.target (Some g) → GivesFirst live types k fr g
     gives_first (inl (outer, nothing)) = reference_gives_first live well types ctxs k fr opened.is e rest first outer g nothing
     gives_first (inr (inner, is_left)) =
         let begins : BeginsWithTree k.left e = first_tree live k.left e (rest ++ edges_from live k.vertex (drop (suc fr.state.next) (positions k.vertex.ctor))) (are_left live well types ctxs k fr opened.is e rest first)
@@ -147,13 +147,13 @@ module _ (live : List Edge) (types : List Typ) (ctxs : List Context) (l : Level)
       single_not : fr.several ≡ true → ⊥
       single_not is = let clash : true ≡ false = sym is ∙ single in cc
 
-      none_of : (es : List Edge) → fr.left.now ≡ e ∷ es → (p : Position × Sort) (ps : List (Position × Sort)) → drop fr.state.next (positions l.vertex.ctor) ≡ p ∷ ps → es ≡ []
+      none_of : (es : List Edge) → fr.left ≡ e ∷ es → (p : Position × Sort) (ps : List (Position × Sort)) → drop fr.state.next (positions l.vertex.ctor) ≡ p ∷ ps → es ≡ []
       none_of [] is p ps at = refl
       none_of (x ∷ es) is p ps at =
           let many : length (children_of l.vertex p.0 live) ≡ suc (suc (length es)) = ap length (sym (opened.all_left p ps at) ∙ is) in
           absurd (single_not ((opened.is.place p ps at).several.1 (omega (arith, many))))
 
-      none_behind : (p : Position × Sort) (ps : List (Position × Sort)) → drop fr.state.next (positions l.vertex.ctor) ≡ p ∷ ps → now.left.now ≡ []
+      none_behind : (p : Position × Sort) (ps : List (Position × Sort)) → drop fr.state.next (positions l.vertex.ctor) ≡ p ∷ ps → now.left ≡ []
       none_behind p ps at = acc.left ∙ ap (λ (es : List Edge). drop 1 es) first ∙ none_of rest first p ps at
 
 -- ---- the position of an edge

@@ -204,7 +204,7 @@ module _ (live : List Edge) (types : List Typ) (ctxs : List Context) (places : P
       paid_now (reverse old) way counted (omega (arith, top, more))
 
   -- positions of the first child that is left are begun
-  pub paid_down : AllByRecursion IsWellFormed live → AreRecordsOf types ctxs places → (fr : Frame) (frames : List Frame) (e : Edge) (rest : List Edge) → fr.left.now ≡ e ∷ rest → IsFound live types ctxs places judged fr.demand e None
+  pub paid_down : AllByRecursion IsWellFormed live → AreRecordsOf types ctxs places → (fr : Frame) (frames : List Frame) (e : Edge) (rest : List Edge) → fr.left ≡ e ∷ rest → IsFound live types ctxs places judged fr.demand e.target None
       → IsUnderWay live types ctxs places judged from before (fr ∷ frames) made → AreCounted live start paid count (fr ∷ frames) made → steps ≤ count + 3 + places_cost live e.target (positions e.target.ctor)
       → IsPaidFor live types ctxs places judged from before start paid steps
   paid_down well of_tables fr frames e rest first found way counted more records reads leaves =
@@ -219,7 +219,7 @@ module _ (live : List Edge) (types : List Typ) (ctxs : List Context) (places : P
           let within = counted.within in
           let in_all = end.within in
           let short = row_short e.target.ctor in
-          let len : length fr.left.now ≡ suc (length rest) = ap length first in
+          let len : length fr.left ≡ suc (length rest) = ap length first in
           record { all = end.all; made = end.done; within = omega (arith, same, as_made, within, in_all, more, short, len) }
         where
           is : IsLevel live types ctxs l fr

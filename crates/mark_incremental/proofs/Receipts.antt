@@ -4,7 +4,7 @@ use Rattle.std.specs.Prelude.{reverse}
 use Rattle.std.proofs.lemmas.List.{reverse-append}
 use Rattle.grove_edits.specs.declared.vertex.Vertex.{Vertex}
 use Rattle.grove_edits.specs.declared.edit.Edit.{Edit}
-use Rattle.grove_edits.specs.Edit.{edit_edge, edit_kind}
+use Rattle.grove_edits.specs.Edit.{edit_edge}
 use Rattle.grove_edits.specs.Graph.{IsSame}
 use Rattle.graph_words.specs.States.{state_in, KeepsRoom}
 use Rattle.type_core.specs.Typ.{Typ}
@@ -12,13 +12,13 @@ use Rattle.ctx_table.specs.Context.{Context}
 use Rattle.type_core.specs.TypeTable.{KeepsTypes}
 use Rattle.ctx_table.specs.CtxTable.{KeepsContexts}
 use Rattle.judging.proofs.Kept.{types-then, contexts-then}
+use Rattle.live_graph.specs.NumberOf.{KeepsNumbersOf}
 use Rattle.mark_store.specs.declared.record.Record.{Record}
 use Rattle.mark_store.specs.Places.{HasRoom}
 use Rattle.mark_incremental.specs.declared.applying.Applied.{Applied}
 use Rattle.mark_incremental.specs.declared.applying_all.Receipt.{Receipt}
 use Rattle.mark_incremental.specs.Reading.{IsRecordOf}
 use Rattle.mark_incremental.specs.Looking.{holds}
-use Rattle.mark_incremental.specs.Raising.{MovesRoom, LeavesRoom, brought_by, taken_by}
 use Rattle.mark_incremental.specs.Standing.{KeptMarks, kept_in}
 use Rattle.mark_incremental.specs.Applying.{HaveGrown, KeepMarksRoom, put_back_in, roots_back}
 use Rattle.mark_incremental.specs.Receipts.{Held, IsAsBefore, HasLed, HaveLed}
@@ -57,20 +57,18 @@ pub as_itself : (h : Held) → IsAsBefore h h
 as_itself h = record {
   graph = λ e. refl;
   marks = nothing_grown h.marks;
-  store_room = λ e has. has;
+  room = λ e has. has;
   marks_room = room_itself h.marks;
-  at_origins = λ v p. omega arith;
-  at_targets = λ v. omega arith;
+  numbers = λ e n is. is;
 }
 
 pub as_then : (first second third : Held) → IsAsBefore first second → IsAsBefore second third → IsAsBefore first third
 as_then first second third one other = record {
   graph = λ e. other.graph e ∙ one.graph e;
   marks = grown_then first.marks second.marks third.marks one.marks other.marks;
-  store_room = λ e has. other.store_room e (one.store_room e has);
+  room = λ e has. other.room e (one.room e has);
   marks_room = room_then first.marks second.marks third.marks one.marks_room other.marks_room;
-  at_origins = λ v p. let a = one.at_origins v p in let b = other.at_origins v p in omega (arith, a, b);
-  at_targets = λ v. let a = one.at_targets v in let b = other.at_targets v in omega (arith, a, b);
+  numbers = λ e n is. other.numbers e n (one.numbers e n is);
 }
 
 -- ---- one edit
@@ -97,13 +95,7 @@ led_on edit applied before after later led stays = record {
     };
   };
   can = record {
-    raised = record {
-      in_store = stays.store_room (edit_edge edit) led.can.raised.in_store;
-      state = λ old is. stays.graph (edit_edge edit) ∙ led.can.raised.state old is;
-      from_less = led.can.raised.from_less;
-      in_children = λ is lives. let has = led.can.raised.in_children is lives in let more = stays.at_origins (edit_edge edit).source (edit_edge edit).position in omega (arith, has, more);
-      in_parents = λ is lives. let has = led.can.raised.in_parents is lives in let more = stays.at_targets (edit_edge edit).target in omega (arith, has, more);
-    };
+    room = stays.room (edit_edge edit) led.can.room;
     renewed = record {
       records =
           all_gives (λ m. HasRoom after.marks.records m.0) (λ m. HasRoom later.marks.records m.0) applied.old.records.items (λ m. stays.marks_room.records m.0) led.can.renewed.records;
@@ -113,25 +105,20 @@ led_on edit applied before after later led stays = record {
       root = root_along after.marks later.marks stays.marks_room applied.old.root led.can.renewed.root;
     };
   };
-  store_room = λ e has. stays.store_room e (led.store_room e has);
+  room = λ e has. stays.room e (led.room e has);
   marks_room = room_then before.marks after.marks later.marks led.marks_room stays.marks_room;
-  index_room = record {
-    at_origins = λ v p. let a = led.index_room.at_origins v p in let b = stays.at_origins v p in omega (arith, a, b);
-    at_targets = λ v. let a = led.index_room.at_targets v in let b = stays.at_targets v in omega (arith, a, b);
-  };
+  numbers = λ e n is. stays.numbers e n (led.numbers e n is);
 }
 
 -- an edit that is taken back leaves all as before
-pub taken_back : (edit : Edit) (applied : Applied) (before after later : Held) → HasLed edit applied before after → IsSame (state_in later.store) (state_in before.store) → HaveGrown before.marks later.marks → KeepsRoom after.store later.store
-    → KeepMarksRoom after.marks later.marks
-    → MovesRoom (edit_edge edit) (taken_by (edit_kind edit) applied.change) (brought_by (edit_kind edit) applied.change) after.children later.children after.parents later.parents → IsAsBefore before later
-taken_back edit applied before after later led same grown keeps keeps_marks moves = record {
+pub taken_back : (edit : Edit) (applied : Applied) (before after later : Held) → HasLed edit applied before after → IsSame (state_in later.entries) (state_in before.entries) → HaveGrown before.marks later.marks → KeepsRoom after.entries later.entries
+    → KeepMarksRoom after.marks later.marks → KeepsNumbersOf after.entries later.entries → IsAsBefore before later
+taken_back edit applied before after later led same grown keeps keeps_marks numbers = record {
   graph = same;
   marks = grown;
-  store_room = λ e has. keeps e (led.store_room e has);
+  room = λ e has. keeps e (led.room e has);
   marks_room = room_then before.marks after.marks later.marks led.marks_room keeps_marks;
-  at_origins = λ v p. let a = led.index_room.at_origins v p in let b = moves.at_origins v p in omega (arith, a, b);
-  at_targets = λ v. let a = led.index_room.at_targets v in let b = moves.at_targets v in omega (arith, a, b);
+  numbers = λ e n is. numbers e n (led.numbers e n is);
 }
 
 -- ---- edits one after the other
@@ -140,14 +127,18 @@ pub have_led_on : (rs : List Receipt) (before after later : Held) → HaveLed rs
 have_led_on [] before after later led stays = as_then before after later led stays
 have_led_on (r ∷ rs) before after later led stays = (led.0, led.1, led_on r.edit.now r.applied led.0 after later led.2 stays)
 
--- the room in the store and in the maps stays
-pub store_room : (rs : List Receipt) (before after : Held) → HaveLed rs before after → KeepsRoom before.store after.store
-store_room [] before after led = led.store_room
-store_room (r ∷ rs) before after led = λ e has. led.2.store_room e (store_room rs before led.0 led.1 e has)
+-- the room in the graph and in the maps stays, and so do numbers
+pub entries_room : (rs : List Receipt) (before after : Held) → HaveLed rs before after → KeepsRoom before.entries after.entries
+entries_room [] before after led = led.room
+entries_room (r ∷ rs) before after led = λ e has. led.2.room e (entries_room rs before led.0 led.1 e has)
 
 pub marks_room : (rs : List Receipt) (before after : Held) → HaveLed rs before after → KeepMarksRoom before.marks after.marks
 marks_room [] before after led = led.marks_room
 marks_room (r ∷ rs) before after led = room_then before.marks led.0.marks after.marks (marks_room rs before led.0 led.1) led.2.marks_room
+
+pub numbers_stay : (rs : List Receipt) (before after : Held) → HaveLed rs before after → KeepsNumbersOf before.entries after.entries
+numbers_stay [] before after led = led.numbers
+numbers_stay (r ∷ rs) before after led = λ e n is. led.2.numbers e n (numbers_stay rs before led.0 led.1 e n is)
 
 -- one more edit stands first
 pub last_first : (all left : List Receipt) (last : Receipt) → all ≡ left ++ last ∷ [] → reverse all ≡ last ∷ reverse left
@@ -163,13 +154,12 @@ pub none_led : (rs : List Receipt) → rs ≡ [] → (held : Held) → HaveLed (
 none_led rs none held = subst (λ (rs : List Receipt). HaveLed (reverse rs) held held) (sym none) (as_itself held)
 
 -- an edit that was not applied left all as before
-pub as_failed : (edit : Edit) (before after : Held) → IsSame (state_in after.store) (state_in before.store) → HaveGrown before.marks after.marks → KeepsRoom before.store after.store → KeepMarksRoom before.marks after.marks
-    → LeavesRoom (edit_edge edit) 0 0 before.children after.children before.parents after.parents → IsAsBefore before after
-as_failed edit before after same grown keeps keeps_marks leaves = record {
+pub as_failed : (before after : Held) → IsSame (state_in after.entries) (state_in before.entries) → HaveGrown before.marks after.marks → KeepsRoom before.entries after.entries → KeepMarksRoom before.marks after.marks
+    → KeepsNumbersOf before.entries after.entries → IsAsBefore before after
+as_failed before after same grown keeps keeps_marks numbers = record {
   graph = same;
   marks = grown;
-  store_room = keeps;
+  room = keeps;
   marks_room = keeps_marks;
-  at_origins = λ v p. let a = leaves.at_origins v p in omega (arith, a);
-  at_targets = λ v. let a = leaves.at_targets v in omega (arith, a);
+  numbers = numbers;
 }

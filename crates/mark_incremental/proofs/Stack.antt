@@ -53,7 +53,7 @@ handed_none types g old new is none =
 
 -- ---- the innermost is taken off, and put on again
 
-pub handed_one : (types : List Typ) (g : Given) (old off new : List Frame) (fr taken : Frame) → old ≡ off ++ fr ∷ [] → new ≡ off ++ taken ∷ [] → (0 < length fr.left.now → IsAccepted types fr g taken)
+pub handed_one : (types : List Typ) (g : Given) (old off new : List Frame) (fr taken : Frame) → old ≡ off ++ fr ∷ [] → new ≡ off ++ taken ∷ [] → (0 < length fr.left → IsAccepted types fr g taken)
     → IsHanded types g (reverse old) (reverse new)
 handed_one types g old off new fr taken was is accepts =
     subst (λ (frs : List Frame). IsHanded types g frs (reverse new)) (sym (on_top off old fr was)) (taken, on_top off new taken is, accepts)

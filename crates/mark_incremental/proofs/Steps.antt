@@ -136,7 +136,7 @@ record_gives Top v f d = refl
 
 -- ---- the first child that is left
 
-module _ (live : List Edge) (well : AllByRecursion IsWellFormed live) (types : List Typ) (ctxs : List Context) (l : Level) (fr : Frame) (is : IsLevel live types ctxs l fr) (e : Edge) (rest : List Edge) (first : fr.left.now ≡ e ∷ rest) where
+module _ (live : List Edge) (well : AllByRecursion IsWellFormed live) (types : List Typ) (ctxs : List Context) (l : Level) (fr : Frame) (is : IsLevel live types ctxs l fr) (e : Edge) (rest : List Edge) (first : fr.left ≡ e ∷ rest) where
   under : StandsUnder live l.vertex l.forest
   under = stands_under live l.above l.vertex l.forest l.demanded is.stands
 
@@ -146,8 +146,8 @@ module _ (live : List Edge) (well : AllByRecursion IsWellFormed live) (types : L
   pub edges_left : child_edges l.left ≡ e ∷ (rest ++ edges_from live l.vertex (drop (suc fr.state.next) (positions l.vertex.ctor)))
   edges_left = is.edges ∙ ap (λ es. es ++ edges_from live l.vertex (drop (suc fr.state.next) (positions l.vertex.ctor))) first
 
-  pub some_left : 0 < length fr.left.now
-  some_left = let len : length fr.left.now ≡ suc (length rest) = ap length first in omega (arith, len)
+  pub some_left : 0 < length fr.left
+  some_left = let len : length fr.left ≡ suc (length rest) = ap length first in omega (arith, len)
 
   module _ (p : Position × Sort) (ps : List (Position × Sort)) (at : drop fr.state.next (positions l.vertex.ctor) ≡ p ∷ ps) where
     was : IsAtPlace live types ctxs l fr p
@@ -258,7 +258,7 @@ kept_demand_of types ctxs records v r is =
 -- ---- a child that is left as it is, or a reference
 
 module _ (live : List Edge) (well : AllByRecursion IsWellFormed live) (types : List Typ) (ctxs : List Context) (places : Places Record) (judged : Vertex → Bool) (records : Records) (reads : ReadsAs types ctxs places records)
-    (l : Level) (fr : Frame) (is : IsLevel live types ctxs l fr) (e : Edge) (rest : List Edge) (first : fr.left.now ≡ e ∷ rest) (b after_it : Forest) (begins : l.left ≡ tree e b after_it)
+    (l : Level) (fr : Frame) (is : IsLevel live types ctxs l fr) (e : Edge) (rest : List Edge) (first : fr.left ≡ e ∷ rest) (b after_it : Forest) (begins : l.left ≡ tree e b after_it)
     (g : Given) (left : IsLeftAs types ctxs places judged fr.demand e.target g) where
   read : records e.target ≡ Some (kept_by types ctxs left.kept)
   read = reads e.target ∙ ap (option_map (kept_by types ctxs)) left.found
@@ -281,8 +281,8 @@ module _ (live : List Edge) (well : AllByRecursion IsWellFormed live) (types : L
       (left.gives ∙ ap (given_by_kept e.target) kept ∙ record_gives (sort_of_ctor e.target.ctor) e.target b (demands l e.position))
 
 module _ (live : List Edge) (well : AllByRecursion IsWellFormed live) (types : List Typ) (ctxs : List Context) (places : Places Record) (judged : Vertex → Bool) (from : Start) (before : List (Vertex × Kept)) where
-  pub passed : (fr now : Frame) (frames : List Frame) (made : List (Vertex × Record)) (e : Edge) (rest : List Edge) (g : Given) → fr.left.now ≡ e ∷ rest
-      → IsFound live types ctxs places judged fr.demand e (Some g) → IsAccepted types fr g now
+  pub passed : (fr now : Frame) (frames : List Frame) (made : List (Vertex × Record)) (e : Edge) (rest : List Edge) (g : Given) → fr.left ≡ e ∷ rest
+      → IsFound live types ctxs places judged fr.demand e.target (Some g) → IsAccepted types fr g now
       → IsUnderWay live types ctxs places judged from before (fr ∷ frames) made → IsUnderWay live types ctxs places judged from before (now ∷ frames) made
   passed fr now frames made e rest g first found acc way records reads leaves =
       let w = way records reads leaves in by w.levels w.are w.waiting w.linked w.below w.goes_on
@@ -308,7 +308,7 @@ module _ (live : List Edge) (well : AllByRecursion IsWellFormed live) (types : L
           goes_on = goes_then;
         }
 
-        by_found : IsFound live types ctxs places judged fr.demand e (Some g) → IsOnWay live types ctxs judged records from before (now ∷ frames) made
+        by_found : IsFound live types ctxs places judged fr.demand e.target (Some g) → IsOnWay live types ctxs judged records from before (now ∷ frames) made
         by_found (inl (outer, nothing)) =
             made_so (reference_gives_first live well types ctxs l fr is e rest first outer g nothing)
             (past judged records (HasMade live judged records from before) l ls (meant types ctxs made)
@@ -364,8 +364,8 @@ module _ (live : List Edge) (well : AllByRecursion IsWellFormed live) (old new :
       by_sort TypeSort sort = absurd (not_left (off, λ h. absurd (no_sort TypeSort sort h (λ same. cc))))
 
   -- a child is opened
-  pub descended : (fr child : Frame) (frames : List Frame) (made : List (Vertex × Record)) (e : Edge) (rest : List Edge) → fr.left.now ≡ e ∷ rest → AreFramesOf old oldc (fr ∷ frames) → AreMadeOf old oldc made
-      → IsFound live old oldc places judged fr.demand e None → IsOpenOf old oldc child.state → child.vertex.now ≡ e.target
+  pub descended : (fr child : Frame) (frames : List Frame) (made : List (Vertex × Record)) (e : Edge) (rest : List Edge) → fr.left ≡ e ∷ rest → AreFramesOf old oldc (fr ∷ frames) → AreMadeOf old oldc made
+      → IsFound live old oldc places judged fr.demand e.target None → IsOpenOf old oldc child.state → child.vertex.now ≡ e.target
       → opened_at old oldc child.state ≡ machine.fresh e.target.ctor (node.demanded_at old oldc fr.demand) → left_of child.state ≡ positions e.target.ctor → IsBegun live old new oldc newc child
       → Was (fr ∷ frames) made → Is (child ∷ fr ∷ frames) made
   descended fr child frames made e rest first of of_made found is_open vertex opened all begins way records reads leaves =
@@ -406,7 +406,7 @@ module _ (live : List Edge) (well : AllByRecursion IsWellFormed live) (old new :
         agrees = child_agrees live well old oldc l fr is e rest first tree_is.below tree_is.rest tree_is.is
 
   -- the next position is begun
-  pub went_on : (fr now : Frame) (frames : List Frame) (made : List (Vertex × Record)) → fr.left.now ≡ [] → fr.state.next < length (positions fr.vertex.now.ctor) → AreFramesOf old oldc (fr ∷ frames) → AreMadeOf old oldc made
+  pub went_on : (fr now : Frame) (frames : List Frame) (made : List (Vertex × Record)) → fr.left ≡ [] → fr.state.next < length (positions fr.vertex.now.ctor) → AreFramesOf old oldc (fr ∷ frames) → AreMadeOf old oldc made
       → IsOpenOf old oldc now.state → now.vertex.now ≡ fr.vertex.now → now.state ≡ filled_with fr.given fr.state → IsBegun live old new oldc newc now → Was (fr ∷ frames) made → Is (now ∷ frames) made
   went_on fr now frames made none_here some of of_made is_open vertex filled begins way records reads leaves =
       let w = way records (reads_as-kept old new oldc newc keeps keepsc places records of_tables reads) leaves in by w.levels w.are w.waiting w.linked w.below w.goes_on
@@ -456,7 +456,7 @@ module _ (live : List Edge) (well : AllByRecursion IsWellFormed live) (old new :
   dropped_all (p ∷ row) zero less = absurd (omega (arith, less))
   dropped_all (p ∷ row) (suc n) less = dropped_all row n (omega (arith, less))
 
-  pub settled_up : (fr : Frame) (frames left_over : List Frame) (made after_it : List (Vertex × Record)) (g : Given) → fr.left.now ≡ [] → fr.state.next ≡ length (positions fr.state.ctor.now) → AreFramesOf old oldc (fr ∷ frames) → AreMadeOf old oldc made
+  pub settled_up : (fr : Frame) (frames left_over : List Frame) (made after_it : List (Vertex × Record)) (g : Given) → fr.left ≡ [] → fr.state.next ≡ length (positions fr.state.ctor.now) → AreFramesOf old oldc (fr ∷ frames) → AreMadeOf old oldc made
       → IsSettled new newc fr.vertex.now (opened_at old oldc fr.state) made after_it → given_at new g ≡ machine.given_of (opened_at old oldc fr.state) → IsHanded new g frames left_over
       → Was (fr ∷ frames) made → Is left_over after_it
   settled_up fr frames left_over made after_it g none_here whole of of_made settles gives handed way records reads leaves =
@@ -523,8 +523,8 @@ module _ (live : List Edge) (well : AllByRecursion IsWellFormed live) (old new :
               goes_on = awaited;
             }
           where
-            gives_below : (k : Level) (m : Frame) → IsLevel live new newc k m → IsBelow l k → 0 < length m.left.now → GivesFirst live new k m g
-            gives_below k m is_k below some = by_first (some_cases m.left.now some) where
+            gives_below : (k : Level) (m : Frame) → IsLevel live new newc k m → IsBelow l k → 0 < length m.left → GivesFirst live new k m g
+            gives_below k m is_k below some = by_first (some_cases m.left some) where
               some_cases : (xs : List Edge) → 0 < length xs → (x : Edge) × (ys : List Edge) × (xs ≡ x ∷ ys)
               some_cases [] some_there = absurd (omega (arith, some_there))
               some_cases (x ∷ xs) one = (x, xs, refl)
@@ -532,7 +532,7 @@ module _ (live : List Edge) (well : AllByRecursion IsWellFormed live) (old new :
               first_same : (x y : Edge) (xs ys : List Edge) → x ∷ xs ≡ y ∷ ys → x ≡ y
               first_same x y xs ys h = cc
 
-              by_first : ((x : Edge) × (ys : List Edge) × (m.left.now ≡ x ∷ ys)) → GivesFirst live new k m g
+              by_first : ((x : Edge) × (ys : List Edge) × (m.left ≡ x ∷ ys)) → GivesFirst live new k m g
               by_first (x, ys, first) =
                   let edges = edges_left live well new newc k m is_k x ys first in
                   let same : x ≡ below.edge = first_same x below.edge (ys ++ edges_from live k.vertex (drop (suc m.state.next) (positions k.vertex.ctor))) (child_edges below.rest) (sym edges ∙ ap child_edges below.first) in
@@ -605,20 +605,20 @@ pub two_on_top : (frames one two : List Frame) (fr child : Frame) → one ≡ fr
 two_on_top frames one two fr child first second = on_top one two child second ∙ ap (λ frs. child ∷ frs) (on_top frames one fr first)
 
 -- what hands something on, where a frame is the innermost
-pub handed_top : (types : List Typ) (g : Given) (fr : Frame) (frames before now : List Frame) → before ≡ fr ∷ frames → IsHanded types g before now → (taken : Frame) × (now ≡ taken ∷ frames) × (0 < length fr.left.now → IsAccepted types fr g taken)
+pub handed_top : (types : List Typ) (g : Given) (fr : Frame) (frames before now : List Frame) → before ≡ fr ∷ frames → IsHanded types g before now → (taken : Frame) × (now ≡ taken ∷ frames) × (0 < length fr.left → IsAccepted types fr g taken)
 handed_top types g fr frames before now is handed = subst (λ (frs : List Frame). IsHanded types g frs now) is handed
 
 module _ (live : List Edge) (well : AllByRecursion IsWellFormed live) (types : List Typ) (ctxs : List Context) (places : Places Record) (judged : Vertex → Bool) (from : Start) (before : List (Vertex × Kept)) where
   -- what a child that is not judged again gives is handed on
-  pub handed_passes : (fr : Frame) (frames pushed now : List Frame) (made : List (Vertex × Record)) (e : Edge) (rest : List Edge) (g : Given) → fr.left.now ≡ e ∷ rest
-      → IsFound live types ctxs places judged fr.demand e (Some g) → pushed ≡ fr ∷ frames → IsHanded types g pushed now
+  pub handed_passes : (fr : Frame) (frames pushed now : List Frame) (made : List (Vertex × Record)) (e : Edge) (rest : List Edge) (g : Given) → fr.left ≡ e ∷ rest
+      → IsFound live types ctxs places judged fr.demand e.target (Some g) → pushed ≡ fr ∷ frames → IsHanded types g pushed now
       → IsUnderWay live types ctxs places judged from before (fr ∷ frames) made → IsUnderWay live types ctxs places judged from before now made
   handed_passes fr frames pushed now made e rest g first found top handed way =
       by (handed_top types g fr frames pushed now top handed) where
-        some : 0 < length fr.left.now
-        some = let len : length fr.left.now ≡ suc (length rest) = ap length first in omega (arith, len)
+        some : 0 < length fr.left
+        some = let len : length fr.left ≡ suc (length rest) = ap length first in omega (arith, len)
 
-        by : (taken : Frame) × (now ≡ taken ∷ frames) × (0 < length fr.left.now → IsAccepted types fr g taken) → IsUnderWay live types ctxs places judged from before now made
+        by : (taken : Frame) × (now ≡ taken ∷ frames) × (0 < length fr.left → IsAccepted types fr g taken) → IsUnderWay live types ctxs places judged from before now made
         by (taken, is, accepts) =
             subst (λ (frs : List Frame). IsUnderWay live types ctxs places judged from before frs made) (sym is)
             (passed live well types ctxs places judged from before fr taken frames made e rest g first found (accepts some) way)

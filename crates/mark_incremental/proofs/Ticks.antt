@@ -52,13 +52,13 @@ some_left (d ∷ es) e is = omega arith
 
 -- ---- a position is begun
 
-pub begun_there : (fr : Frame) (p : Position × Sort) (before after : ℕ) → slice_get (positions fr.vertex.now.ctor) fr.state.next ≡ Some p → after ≡ before + 1 + length fr.left.now → after ≡ before + begun_cost fr
+pub begun_there : (fr : Frame) (p : Position × Sort) (before after : ℕ) → slice_get (positions fr.vertex.now.ctor) fr.state.next ≡ Some p → after ≡ before + 1 + length fr.left → after ≡ before + begun_cost fr
 begun_there fr p before after found ticked = let one = one_next (positions fr.vertex.now.ctor) fr.state.next p found in omega (arith, one, ticked)
 
-pub begun_nowhere : (fr : Frame) (steps : ℕ) → slice_get (positions fr.vertex.now.ctor) fr.state.next ≡ None → fr.left.now ≡ [] → steps ≡ steps + begun_cost fr
+pub begun_nowhere : (fr : Frame) (steps : ℕ) → slice_get (positions fr.vertex.now.ctor) fr.state.next ≡ None → fr.left ≡ [] → steps ≡ steps + begun_cost fr
 begun_nowhere fr steps past left =
     let none_there = none_next (positions fr.vertex.now.ctor) fr.state.next past in
-    let none_left : length fr.left.now ≡ 0 = ap length left in
+    let none_left : length fr.left ≡ 0 = ap length left in
     omega (arith, none_there, none_left)
 
 -- a position, among those that are left
@@ -86,20 +86,20 @@ fresh_row fr v vertex ctor all = ap (λ c. drop fr.state.next (positions c)) (sy
 
 module _ (live : List Edge) (old new : List Typ) (oldc newc : List Context) (fr : Frame) (is : IsBegun live old new oldc newc fr) where
   -- beginning a position, with all that is still counted there and behind it
-  pub begun_costs : begun_cost fr + still_costs live fr fr.left.now ≤ length (from_next fr) + 4 * length (edges_from live fr.vertex.now (from_next fr))
+  pub begun_costs : begun_cost fr + still_costs live fr fr.left ≤ length (from_next fr) + 4 * length (edges_from live fr.vertex.now (from_next fr))
   begun_costs = by (drop_cases fr.state.next (positions fr.vertex.now.ctor)) where
     by : (from_next fr ≡ []) ⊎ ((p : Position × Sort) × (ps : List (Position × Sort)) × (from_next fr ≡ p ∷ ps))
-        → begun_cost fr + still_costs live fr fr.left.now ≤ length (from_next fr) + 4 * length (edges_from live fr.vertex.now (from_next fr))
+        → begun_cost fr + still_costs live fr fr.left ≤ length (from_next fr) + 4 * length (edges_from live fr.vertex.now (from_next fr))
     by (inl empty) =
         let past : after_next fr ≡ [] = drop_past fr.state.next (positions fr.vertex.now.ctor) empty in
-        let a : length fr.left.now ≡ 0 = ap length (is.none_there empty) in
+        let a : length fr.left ≡ 0 = ap length (is.none_there empty) in
         let b : length (take 1 (from_next fr)) ≡ 0 = ap (λ (row : List (Position × Sort)). length (take 1 row)) empty in
         let c : length (after_next fr) ≡ 0 = ap length past in
         let d : length (edges_from live fr.vertex.now (after_next fr)) ≡ 0 = ap (λ row. length (edges_from live fr.vertex.now row)) past in
         omega (arith, a, b, c, d)
     by (inr (p, ps, at)) =
         let later : after_next fr ≡ ps = drop_next fr.state.next (positions fr.vertex.now.ctor) p ps at in
-        let a : length fr.left.now ≡ length (children_of fr.vertex.now p.0 live) = ap length (is.there p ps at).left in
+        let a : length fr.left ≡ length (children_of fr.vertex.now p.0 live) = ap length (is.there p ps at).left in
         let b : length (take 1 (from_next fr)) ≡ 1 = ap (λ (row : List (Position × Sort)). length (take 1 row)) at in
         let c : length (from_next fr) ≡ suc (length ps) = ap length at in
         let d : length (edges_from live fr.vertex.now (from_next fr)) ≡ length (children_of fr.vertex.now p.0 live) + length (edges_from live fr.vertex.now ps) =
@@ -109,7 +109,7 @@ module _ (live : List Edge) (old new : List Typ) (oldc newc : List Context) (fr 
         omega (arith, a, b, c, d, e, f)
 
   -- a vertex none of whose positions is judged
-  pub first_costs : from_next fr ≡ positions fr.vertex.now.ctor → begun_cost fr + still_costs live fr fr.left.now ≤ 5 + 4 * length (edges_under live fr.vertex.now)
+  pub first_costs : from_next fr ≡ positions fr.vertex.now.ctor → begun_cost fr + still_costs live fr fr.left ≤ 5 + 4 * length (edges_under live fr.vertex.now)
   first_costs all =
       let costs = begun_costs in
       let short = row_short fr.vertex.now.ctor in
@@ -117,11 +117,11 @@ module _ (live : List Edge) (old new : List Typ) (oldc newc : List Context) (fr 
       let edges : length (edges_from live fr.vertex.now (from_next fr)) ≡ length (edges_under live fr.vertex.now) = ap (λ qs. length (edges_from live fr.vertex.now qs)) all in
       omega (arith, costs, short, row, edges)
 
-  pub fresh_costs : from_next fr ≡ positions fr.vertex.now.ctor → begun_cost fr + still_costs live fr fr.left.now ≤ 5 * weight live fr.vertex.now
+  pub fresh_costs : from_next fr ≡ positions fr.vertex.now.ctor → begun_cost fr + still_costs live fr fr.left ≤ 5 * weight live fr.vertex.now
   fresh_costs all = let costs = first_costs all in omega (arith, costs)
 
   -- a vertex at the position behind that of another frame
-  pub next_costs : (before : Frame) → fr.vertex.now ≡ before.vertex.now → fr.state.next ≡ before.state.next + 1 → begun_cost fr + still_costs live fr fr.left.now ≤ still_costs live before before.left.now
+  pub next_costs : (before : Frame) → fr.vertex.now ≡ before.vertex.now → fr.state.next ≡ before.state.next + 1 → begun_cost fr + still_costs live fr fr.left ≤ still_costs live before before.left
   next_costs before vertex next =
       let costs = begun_costs in
       let suc_next : fr.state.next ≡ suc before.state.next = omega (arith, next) in
@@ -139,15 +139,15 @@ some_dropped (e ∷ es) some = refl
 
 module _ (live : List Edge) (start paid : ℕ) where
   -- a child that was looked at is opened
-  pub counted_down : (fr child : Frame) (frames : List Frame) (made : List (Vertex × Record)) (before after : ℕ) → 0 < length fr.left.now → begun_cost child + still_costs live child child.left.now ≤ 5 * weight live child.vertex.now
+  pub counted_down : (fr child : Frame) (frames : List Frame) (made : List (Vertex × Record)) (before after : ℕ) → 0 < length fr.left → begun_cost child + still_costs live child child.left ≤ 5 * weight live child.vertex.now
       → after ≤ before + 3 + begun_cost child → AreCounted live start paid before (fr ∷ frames) made → AreCounted live start paid after (child ∷ fr ∷ frames) made
   counted_down fr child frames made before after some fresh more counted =
-      let one = some_dropped fr.left.now some in
+      let one = some_dropped fr.left some in
       let within = counted.within in
       record { within = omega (arith, one, within, fresh, more) }
 
   -- the next position of a vertex is begun
-  pub counted_on : (fr now : Frame) (frames : List Frame) (made : List (Vertex × Record)) (before after : ℕ) → now.vertex.now ≡ fr.vertex.now → begun_cost now + still_costs live now now.left.now ≤ still_costs live fr fr.left.now
+  pub counted_on : (fr now : Frame) (frames : List Frame) (made : List (Vertex × Record)) (before after : ℕ) → now.vertex.now ≡ fr.vertex.now → begun_cost now + still_costs live now now.left ≤ still_costs live fr fr.left
       → after ≤ before + begun_cost now → AreCounted live start paid before (fr ∷ frames) made → AreCounted live start paid after (now ∷ frames) made
   counted_on fr now frames made before after vertex next more counted =
       let same : weight live now.vertex.now ≡ weight live fr.vertex.now = ap (weight live) vertex in
@@ -155,10 +155,10 @@ module _ (live : List Edge) (start paid : ℕ) where
       record { within = omega (arith, same, within, next, more) }
 
   -- the first child that is left gave something
-  pub counted_past : (fr : Frame) (frames now : List Frame) (made : List (Vertex × Record)) (before after : ℕ) → 0 < length fr.left.now → open_cost live now ≡ waiting_cost live (fr ∷ frames) → weight_open live now ≡ weight_open live (fr ∷ frames)
+  pub counted_past : (fr : Frame) (frames now : List Frame) (made : List (Vertex × Record)) (before after : ℕ) → 0 < length fr.left → open_cost live now ≡ waiting_cost live (fr ∷ frames) → weight_open live now ≡ weight_open live (fr ∷ frames)
       → after ≤ before + 3 → AreCounted live start paid before (fr ∷ frames) made → AreCounted live start paid after now made
   counted_past fr frames now made before after some costs weighs more counted =
-      let one = some_dropped fr.left.now some in
+      let one = some_dropped fr.left some in
       let within = counted.within in
       record { within = omega (arith, one, within, costs, weighs, more) }
 
@@ -172,7 +172,7 @@ module _ (live : List Edge) (start paid : ℕ) where
       record { within = omega (arith, weights, within, costs, weighs) }
 
   -- the head of a tree is opened, and in the end nothing is open
-  pub counted_head : (fr : Frame) (made : List (Vertex × Record)) (before after : ℕ) → begun_cost fr + still_costs live fr fr.left.now ≤ 5 * weight live fr.vertex.now → after ≡ before + begun_cost fr
+  pub counted_head : (fr : Frame) (made : List (Vertex × Record)) (before after : ℕ) → begun_cost fr + still_costs live fr fr.left ≤ 5 * weight live fr.vertex.now → after ≡ before + begun_cost fr
       → before + paid ≤ start + 5 * weight_of live made → AreCounted live start paid after (fr ∷ []) made
   counted_head fr made before after fresh more within = record { within = omega (arith, fresh, more, within) }
 
@@ -182,13 +182,13 @@ module _ (live : List Edge) (start paid : ℕ) where
 -- ---- the innermost is at its next child
 
 module _ (live : List Edge) where
-  moved_costs : (fr taken : Frame) → IsMoved fr taken → still_costs live taken taken.left.now ≡ still_costs live fr (drop 1 fr.left.now)
+  moved_costs : (fr taken : Frame) → IsMoved fr taken → still_costs live taken taken.left ≡ still_costs live fr (drop 1 fr.left)
   moved_costs fr taken is =
       ap
-      (λ (n : ℕ). 3 * length taken.left.now + (length (drop (suc n) (positions taken.vertex.now.ctor)) + 4 * length (edges_from live taken.vertex.now (drop (suc n) (positions taken.vertex.now.ctor)))))
+      (λ (n : ℕ). 3 * length taken.left + (length (drop (suc n) (positions taken.vertex.now.ctor)) + 4 * length (edges_from live taken.vertex.now (drop (suc n) (positions taken.vertex.now.ctor)))))
       (ap (λ (o : OpenVertex). o.next) is.state)
       ∙ ap
-      (λ (v : Vertex). 3 * length taken.left.now + (length (drop (suc fr.state.next) (positions v.ctor)) + 4 * length (edges_from live v (drop (suc fr.state.next) (positions v.ctor)))))
+      (λ (v : Vertex). 3 * length taken.left + (length (drop (suc fr.state.next) (positions v.ctor)) + 4 * length (edges_from live v (drop (suc fr.state.next) (positions v.ctor)))))
       is.vertex
       ∙ ap (λ (es : List Edge). still_costs live fr es) is.left
 

@@ -8,13 +8,7 @@ use Rattle.grove_edits.specs.Edit.{edit_edge}
 use Rattle.grove_edits.specs.Vertex.{is_same_vertex}
 use Rattle.grove_edits.specs.Graph.{Graph, graph, IsSame}
 use Rattle.graph_words.specs.Whole.{AreLive}
-use Rattle.graph_words.specs.States.{Entries, state_in}
-use Rattle.edge_index.specs.Lists.{Indexed}
-use Rattle.grove_sorts.specs.declared.position.Position.{Position}
-use Rattle.child_index.specs.declared.origin.Origin.{Origin}
-use Rattle.child_index.specs.Origin.{room_at_origin}
-use Rattle.parent_index.specs.Target.{room_at_vertex}
-use Rattle.parent_index.specs.declared.target.Target.{Target}
+use Rattle.graph_words.specs.States.{Entries, state_in, HasRoom as HasRoomFor}
 use Rattle.type_core.specs.Typ.{Typ}
 use Rattle.type_core.specs.TypeTable.{KeepsTypes}
 use Rattle.ctx_table.specs.Context.{Context}
@@ -28,7 +22,7 @@ use Rattle.mark_incremental.specs.declared.passing.Ends.{Ends}
 use Rattle.mark_incremental.specs.Reading.{IsRecordOf}
 use Rattle.mark_incremental.specs.Looking.{holds, AreRoots}
 use Rattle.mark_incremental.specs.Passing.{AreWalks}
-use Rattle.mark_incremental.specs.Raising.{CanPutBack, WasRaised}
+use Rattle.mark_incremental.specs.Raising.{WasRaised}
 use Rattle.mark_incremental.specs.Standing.{KeptMarks, StandFor, kept_in, records_in}
 
 -- the tables have grown, and nothing else changed
@@ -85,24 +79,22 @@ pub record CanRenewBack (old : OldRecords) (marks : KeptMarks) : Type 0 where
   pub root : IfSome old.root (λ m. HasRoom marks.roots m.0)
 
 -- applying the edit, of which this is the receipt, led from the one graph with its marks to the other
-pub record WasApplied (edit : Edit) (applied : Applied) (store : Entries) (marks : KeptMarks) (store_after : Entries) (marks_after : KeptMarks) : Type 0 where
-  pub raised : WasRaised edit applied.change store store_after
-  pub stood : StandFor (state_in store) marks
+pub record WasApplied (edit : Edit) (applied : Applied) (entries : Entries) (marks : KeptMarks) (entries_after : Entries) (marks_after : KeptMarks) : Type 0 where
+  pub raised : WasRaised edit applied.change entries entries_after
+  pub stood : StandFor (state_in entries) marks
   pub renewed : WasRenewed applied.old marks marks_after
 
 -- and the marks stand for it
-pub record IsApplied (edit : Edit) (applied : Applied) (store : Entries) (marks : KeptMarks) (store_after : Entries) (marks_after : KeptMarks) : Type 0 where
-  pub was : WasApplied edit applied store marks store_after marks_after
-  pub stand : StandFor (state_in store_after) marks_after
+pub record IsApplied (edit : Edit) (applied : Applied) (entries : Entries) (marks : KeptMarks) (entries_after : Entries) (marks_after : KeptMarks) : Type 0 where
+  pub was : WasApplied edit applied entries marks entries_after marks_after
+  pub stand : StandFor (state_in entries_after) marks_after
 
--- all is as before, with as much room in the indexes, but that the tables may have grown
-pub record IsBack (store : Entries) (children : Indexed Origin) (parents : Indexed Target) (marks : KeptMarks) (store_after : Entries) (children_after : Indexed Origin) (parents_after : Indexed Target) (marks_after : KeptMarks) : Type 0 where
-  pub same : IsSame (state_in store_after) (state_in store)
+-- all is as before, but that the tables may have grown
+pub record IsBack (entries : Entries) (marks : KeptMarks) (entries_after : Entries) (marks_after : KeptMarks) : Type 0 where
+  pub same : IsSame (state_in entries_after) (state_in entries)
   pub grown : HaveGrown marks marks_after
-  pub at_origins : (v : Vertex) (p : Position) → room_at_origin children_after v p ≡ room_at_origin children v p
-  pub at_targets : (v : Vertex) → room_at_vertex parents_after v ≡ room_at_vertex parents v
 
 -- it can be taken back without memory
-pub record CanTakeBack (edit : Edit) (applied : Applied) (store : Entries) (children : Indexed Origin) (parents : Indexed Target) (marks : KeptMarks) : Type 0 where
-  pub raised : CanPutBack edit applied.change store children parents
+pub record CanTakeBack (edit : Edit) (applied : Applied) (entries : Entries) (marks : KeptMarks) : Type 0 where
+  pub room : HasRoomFor entries (edit_edge edit)
   pub renewed : CanRenewBack applied.old marks

@@ -55,7 +55,7 @@ pub record GaveSoFar (live : List Edge) (types : List Typ) (ctxs : List Context)
 pub record IsOpened (live : List Edge) (types : List Typ) (ctxs : List Context) (l : Level) (fr : Frame) : Type 0 where
   pub left : Forest
   pub is : IsLevel live types ctxs (record l { left = left }) fr
-  pub all_left : (p : Position × Sort) (ps : List (Position × Sort)) → drop fr.state.next (positions l.vertex.ctor) ≡ p ∷ ps → fr.left.now ≡ children_of l.vertex p.0 live
+  pub all_left : (p : Position × Sort) (ps : List (Position × Sort)) → drop fr.state.next (positions l.vertex.ctor) ≡ p ∷ ps → fr.left ≡ children_of l.vertex p.0 live
   pub nothing : (p : Position × Sort) (ps : List (Position × Sort)) → drop fr.state.next (positions l.vertex.ctor) ≡ p ∷ ps → given_at types fr.given ≡ machine.nothing
 
 -- and it keeps what its position gives

@@ -62,8 +62,8 @@ pub data HasToBeJudged (types : List Typ) (ctxs : List Context) (places : Places
   demanded : (r : Record) → value_at places v ≡ Some r → sort_of_ctor v.ctor ≡ Exp → (demanded_at types ctxs (demand_of r) ≡ demanded_at types ctxs d → ⊥)
       → HasToBeJudged types ctxs places judged d v
 
--- what is found of the child at the end of an edge: what it gives, or none where it has to be judged again
-abbrev pub IsFound : List Edge → List Typ → List Context → Places Record → (Vertex → Bool) → Demand → Edge → Option Given → Type 0
-IsFound live types ctxs places judged d e None = (class live e.target ≡ Inner) × HasToBeJudged types ctxs places judged d e.target
-IsFound live types ctxs places judged d e (Some g) =
-    ((class live e.target ≡ Inner → ⊥) × (given_at types g ≡ machine.nothing)) ⊎ ((class live e.target ≡ Inner) × IsLeftAs types ctxs places judged d e.target g)
+-- what is found of a child: what it gives, or none where it has to be judged again
+abbrev pub IsFound : List Edge → List Typ → List Context → Places Record → (Vertex → Bool) → Demand → Vertex → Option Given → Type 0
+IsFound live types ctxs places judged d v None = (class live v ≡ Inner) × HasToBeJudged types ctxs places judged d v
+IsFound live types ctxs places judged d v (Some g) =
+    ((class live v ≡ Inner → ⊥) × (given_at types g ≡ machine.nothing)) ⊎ ((class live v ≡ Inner) × IsLeftAs types ctxs places judged d v g)

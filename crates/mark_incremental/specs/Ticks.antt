@@ -45,7 +45,7 @@ after_next fr = drop (suc fr.state.next) (positions fr.vertex.now.ctor)
 
 -- what it counts to begin the next position: one for the position, if there is one, and one for each edge there
 abbrev pub begun_cost : Frame → ℕ
-begun_cost fr = length (take 1 (from_next fr)) + length fr.left.now
+begun_cost fr = length (take 1 (from_next fr)) + length fr.left
 
 -- the most that is still counted for a vertex, with these edges left at its position: three for each of them, and what the positions
 -- behind it take
@@ -55,12 +55,12 @@ still_costs live fr left = 3 * length left + (length (after_next fr) + 4 * lengt
 -- for some vertices whose first children that are left were looked at
 abbrev pub waiting_cost : List Edge → List Frame → ℕ
 waiting_cost live [] = 0
-waiting_cost live (fr ∷ frames) = still_costs live fr (drop 1 fr.left.now) + waiting_cost live frames
+waiting_cost live (fr ∷ frames) = still_costs live fr (drop 1 fr.left) + waiting_cost live frames
 
 -- for the vertices that are open, innermost first
 abbrev pub open_cost : List Edge → List Frame → ℕ
 open_cost live [] = 0
-open_cost live (fr ∷ frames) = still_costs live fr fr.left.now + waiting_cost live frames
+open_cost live (fr ∷ frames) = still_costs live fr fr.left + waiting_cost live frames
 
 -- What was counted since a start, with what may still be counted for open vertices, is at most five for each vertex and each edge under it
 -- that is open or of which a record is made. Some records were paid for before the start.
@@ -71,7 +71,7 @@ pub record AreCounted (live : List Edge) (start paid steps : ℕ) (frames : List
 pub record IsMoved (before now : Frame) : Type 0 where
   pub vertex : now.vertex.now ≡ before.vertex.now
   pub state : now.state ≡ before.state
-  pub left : now.left.now ≡ drop 1 before.left.now
+  pub left : now.left ≡ drop 1 before.left
 
 -- the innermost of some vertices, whose first child that is left was looked at, is at its next child
 pub record AreMoved (live : List Edge) (before now : List Frame) : Type 0 where

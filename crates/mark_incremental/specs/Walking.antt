@@ -105,9 +105,9 @@ given_there l o n p = running.given_at p.1 n l.forest p.0 (asked l o)
 pub record IsAtPlace (live : List Edge) (types : List Typ) (ctxs : List Context) (l : Level) (fr : Frame) (p : Position × Sort) : Type 0 where
   pub demand : Agree p.1 (node.demanded_at types ctxs fr.demand) (demands l p.0)
   pub done : List Edge
-  pub held : done ++ fr.left.now ≡ children_of l.vertex p.0 live
+  pub held : done ++ fr.left ≡ children_of l.vertex p.0 live
   pub several : IsTrue fr.several ↔ (1 < length (children_of l.vertex p.0 live))
-  pub gives : fr.left.now ≡ [] → given_at types fr.given ≡ given_there l fr.state (length (children_of l.vertex p.0 live)) p
+  pub gives : fr.left ≡ [] → given_at types fr.given ≡ given_there l fr.state (length (children_of l.vertex p.0 live)) p
 
 -- what the first child that is left gives, where it is the only one at its position
 abbrev pub GivesFirst : List Edge → List Typ → Level → Frame → Given → Type 0
@@ -134,14 +134,14 @@ pub record IsLevel (live : List Edge) (types : List Typ) (ctxs : List Context) (
   pub gave : opened_at types ctxs fr.state
       ≡ after l.vertex.ctor (node.demanded_at types ctxs fr.state.demand) (expression_of l.vertex l.forest l.demanded) l.forest (take fr.state.next (positions l.vertex.ctor))
   pub tail : IsTail l.left l.forest
-  pub edges : child_edges l.left ≡ fr.left.now ++ edges_from live l.vertex (drop (suc fr.state.next) (positions l.vertex.ctor))
+  pub edges : child_edges l.left ≡ fr.left ++ edges_from live l.vertex (drop (suc fr.state.next) (positions l.vertex.ctor))
   pub place : (p : Position × Sort) (ps : List (Position × Sort)) → drop fr.state.next (positions l.vertex.ctor) ≡ p ∷ ps → IsAtPlace live types ctxs l fr p
-  pub none_there : drop fr.state.next (positions l.vertex.ctor) ≡ [] → fr.left.now ≡ []
+  pub none_there : drop fr.state.next (positions l.vertex.ctor) ≡ [] → fr.left ≡ []
 
 -- a child of each is open
 abbrev pub AreWaiting : List Frame → Type 0
 AreWaiting [] = Unit {0}
-AreWaiting (fr ∷ frs) = (0 < length fr.left.now) × AreWaiting frs
+AreWaiting (fr ∷ frs) = (0 < length fr.left) × AreWaiting frs
 
 abbrev pub AreLevels : List Edge → List Typ → List Context → List Level → List Frame → Type 0
 AreLevels live types ctxs [] [] = Unit {0}
@@ -157,7 +157,7 @@ pub record IsAccepted (types : List Typ) (before : Frame) (g : Given) (now : Fra
   pub state : now.state ≡ before.state
   pub several : now.several ≡ before.several
   pub demand : now.demand ≡ before.demand
-  pub left : now.left.now ≡ drop 1 before.left.now
+  pub left : now.left ≡ drop 1 before.left
   pub given : given_at types now.given ≡ (if before.several then machine.nothing else given_at types g)
 
 -- an open vertex before its next position is begun
@@ -170,19 +170,19 @@ pub record IsBetween (live : List Edge) (types : List Typ) (ctxs : List Context)
 
 -- the position that comes next is begun; what is demanded there was found with the old tables
 pub record IsBegunAt (live : List Edge) (old new : List Typ) (oldc newc : List Context) (fr : Frame) (p : Position × Sort) : Type 0 where
-  pub left : fr.left.now ≡ children_of fr.vertex.now p.0 live
+  pub left : fr.left ≡ children_of fr.vertex.now p.0 live
   pub several : IsTrue fr.several ↔ (1 < length (children_of fr.vertex.now p.0 live))
   pub demand : node.demanded_at new newc fr.demand ≡ demanded_among (length (children_of fr.vertex.now p.0 live)) (machine.demanded_by (opened_at old oldc fr.state) p.1)
   pub given : given_at new fr.given ≡ machine.nothing
 
 pub record IsBegun (live : List Edge) (old new : List Typ) (oldc newc : List Context) (fr : Frame) : Type 0 where
   pub there : (p : Position × Sort) (ps : List (Position × Sort)) → drop fr.state.next (positions fr.vertex.now.ctor) ≡ p ∷ ps → IsBegunAt live old new oldc newc fr p
-  pub none_there : drop fr.state.next (positions fr.vertex.now.ctor) ≡ [] → fr.left.now ≡ []
+  pub none_there : drop fr.state.next (positions fr.vertex.now.ctor) ≡ [] → fr.left ≡ []
 
 -- the child of the innermost of some vertices, if there is one, has given this
 abbrev pub IsHanded : List Typ → Given → List Frame → List Frame → Type 0
 IsHanded types g [] now = now ≡ []
-IsHanded types g (fr ∷ frs) now = (taken : Frame) × (now ≡ taken ∷ frs) × (0 < length fr.left.now → IsAccepted types fr g taken)
+IsHanded types g (fr ∷ frs) now = (taken : Frame) × (now ≡ taken ∷ frs) × (0 < length fr.left → IsAccepted types fr g taken)
 
 -- what is kept of an open vertex whose positions are judged
 abbrev pub kept_closed : machine.Opened → Kept

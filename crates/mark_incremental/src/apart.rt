@@ -3,7 +3,7 @@ ghost use Rattle.grove_edits.specs.declared.vertex.Vertex.{Vertex};
 ghost use Rattle.grove_edits.specs.declared.edge.Edge.{Edge};
 ghost use Rattle.graph_words.specs.Few.{first_two};
 ghost use Rattle.graph_words.specs.Live.{parents_of};
-ghost use Rattle.edge_index.specs.Lists.{live};
+ghost use Rattle.live_graph.specs.Live.{live};
 ghost use Rattle.kept_records.specs.Short.{LeadsUp};
 ghost use Rattle.mark_incremental.specs.Looking.{AreRoots};
 ghost use Rattle.mark_incremental.specs.ShortWalks.{IsLeaf, IsNotPassed, IsApart, IsLedFrom, IsHeadAlike, MayBeShort};
@@ -14,10 +14,10 @@ use graph_words::{Few, Steps};
 use grove_edits::{Edge, Vertex, is_same_vertex};
 use grove_sorts::position_count;
 use mark_store::{MarkStore, VertexMap};
-use parent_index::ParentIndex;
+use live_graph::LiveGraph;
 use std::sync::ledger::Ledger;
 
-// Whether a vertex has no children, since it has no positions or is no vertex of the graph.
+// Whether a vertex has no graph, since it has no positions or is no vertex of the graph.
 fn is_leaf(vertex: &Vertex, records: &MarkStore) -> bool
     ensures { IsTrue result → IsLeaf records.now vertex.now }
 {
@@ -29,18 +29,18 @@ fn is_leaf(vertex: &Vertex, records: &MarkStore) -> bool
 fn passes_by<L: Ledger>(
     target: &Vertex,
     source: &Vertex,
-    parents: &ParentIndex,
+    graph: &LiveGraph,
     roots: &VertexMap<bool>,
     steps: &mut Steps<L>,
 ) -> bool
-    requires rooted { AreRoots (live parents.now) roots.now }
+    requires rooted { AreRoots (live graph.now) roots.now }
     requires other { target.now ≡ source.now → ⊥ }
-    ensures passes { IsTrue result → IsNotPassed (live parents.now) target.now source.now }
-    ensures ticks { (longest : ℕ) → ((ws : List Vertex) (top : Vertex) → LeadsUp (live parents.now) source.now ws top → length ws ≤ longest) → steps.new ≤ steps.old + 3 * longest + 3 }
+    ensures passes { IsTrue result → IsNotPassed (live graph.now) target.now source.now }
+    ensures ticks { (longest : ℕ) → ((ws : List Vertex) (top : Vertex) → LeadsUp (live graph.now) source.now ws top → length ws ≤ longest) → steps.new ≤ steps.old + 3 * longest + 3 }
 {
     let mut at = *source;
     for _ in 0..u64::MAX {
-        let Some(next) = above_inner(&at, parents, roots, steps) else {
+        let Some(next) = above_inner(&at, graph, roots, steps) else {
             return !holds(roots, &at);
         };
         if is_same_vertex(&next, target) {
@@ -51,19 +51,19 @@ fn passes_by<L: Ledger>(
     false
 }
 
-/// Whether a target is not above a source, as far as that is found out: it has no children, or the way up from the source passes it
+/// Whether a target is not above a source, as far as that is found out: it has no graph, or the way up from the source passes it
 /// nowhere. It ticks at most three times for each vertex of the way, and three times more.
 pub(crate) fn is_apart<L: Ledger>(
     target: &Vertex,
     source: &Vertex,
     records: &MarkStore,
-    parents: &ParentIndex,
+    graph: &LiveGraph,
     roots: &VertexMap<bool>,
     steps: &mut Steps<L>,
 ) -> bool
-    requires { AreRoots (live parents.now) roots.now }
-    ensures apart { IsTrue result → IsApart (live parents.now) records.now target.now source.now }
-    ensures ticks { (longest : ℕ) → ((ws : List Vertex) (top : Vertex) → LeadsUp (live parents.now) source.now ws top → length ws ≤ longest) → steps.new ≤ steps.old + 3 * longest + 3 }
+    requires { AreRoots (live graph.now) roots.now }
+    ensures apart { IsTrue result → IsApart (live graph.now) records.now target.now source.now }
+    ensures ticks { (longest : ℕ) → ((ws : List Vertex) (top : Vertex) → LeadsUp (live graph.now) source.now ws top → length ws ≤ longest) → steps.new ≤ steps.old + 3 * longest + 3 }
 {
     if is_same_vertex(target, source) {
         return false;
@@ -71,7 +71,7 @@ pub(crate) fn is_apart<L: Ledger>(
     if is_leaf(target, records) {
         return true;
     }
-    passes_by(target, source, parents, roots, steps)
+    passes_by(target, source, graph, roots, steps)
 }
 
 // Whether there is no other parent.

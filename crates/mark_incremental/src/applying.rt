@@ -1,18 +1,16 @@
 ghost use Rattle.std.specs.Prelude.{◌≡◌, ◌↔◌, IsTrue, ◌+◌, ◌*◌, ◌≤◌, ◌∷◌, [], ℕ, None, IfOk, IfSome, OnOk, OnErr};
 ghost use Rattle.edge_lattice.specs.State.{IsAtMost};
-ghost use Rattle.grove_sorts.specs.declared.position.Position.{Position};
 ghost use Rattle.grove_edits.specs.declared.vertex.Vertex.{Vertex};
 ghost use Rattle.grove_edits.specs.declared.edge.Edge.{Edge};
 ghost use Rattle.grove_edits.specs.declared.edit.Edit.{Edit};
 ghost use Rattle.grove_edits.specs.Edit.{edit_edge, edit_kind};
-ghost use Rattle.grove_edits.specs.Graph.{IsSame, graph, graph_join, state_of};
-ghost use Rattle.edge_index.specs.Lists.{live};
-ghost use Rattle.child_index.specs.Origin.{room_at_origin};
-ghost use Rattle.parent_index.specs.Target.{room_at_vertex};
-ghost use Rattle.graph_words.specs.States.{state_in, Entries, KeepsRoom};
+ghost use Rattle.grove_edits.specs.Graph.{IsSame, graph as graph_of, graph_join, state_of};
+ghost use Rattle.live_graph.specs.Live.{live};
+ghost use Rattle.live_graph.specs.NumberOf.{KeepsNumbersOf};
+ghost use Rattle.graph_words.specs.Whole.{AreLive};
+ghost use Rattle.graph_words.specs.States.{state_in, Entries, HasRoom, KeepsRoom};
 ghost use Rattle.kept_records.specs.Size.{IsSize};
 ghost use Rattle.mark_incremental.specs.Looking.{holds};
-ghost use Rattle.mark_incremental.specs.Raising.{AreIndexed, HaveRoom, LeavesRoom, MovesRoom, brought_by, taken_by};
 ghost use Rattle.mark_incremental.specs.Standing.{StandFor, KeptMarks, kept_in};
 ghost use Rattle.mark_incremental.specs.Applying.{HaveGrown, KeepMarksRoom, put_back_in, roots_back, CanRenewBack, WasApplied, IsApplied, IsBack, CanTakeBack};
 
@@ -22,13 +20,11 @@ use crate::passing::walk_from_ends;
 use crate::putting::restore;
 use crate::raising::{put_back, raise};
 use crate::rooting::set_root;
-use child_index::ChildIndex;
 use edge_lattice::{State, leq};
-use graph_store::{Change, GraphStore};
 use graph_words::{ParentOf, Steps};
 use grove_edits::{Edge, Edit, EditKind, Vertex};
 use mark_store::Record;
-use parent_index::ParentIndex;
+use live_graph::{Change, LiveGraph};
 use std::sync::ledger::Ledger;
 use text_parts::NoMemory;
 
@@ -49,68 +45,41 @@ pub struct Applied {
     pub old: OldRecords,
 }
 
-// Room for one more edge in the store and both indexes.
-fn reserve(
-    edge: &Edge,
-    store: &mut GraphStore,
-    children: &mut ChildIndex,
-    parents: &mut ParentIndex,
-) -> Result<(), NoMemory>
-    ensures room { OnOk result (HaveRoom edge.now store.new children.new parents.new) }
-    ensures graph { IsSame (state_in store.new) (state_in store.old) }
-    ensures children { live children.new ≡ live children.old }
-    ensures parents { live parents.new ≡ live parents.old }
-    ensures room_stays { KeepsRoom store.old store.new }
-    ensures children_room { (v : Vertex) (p : Position) → room_at_origin children.old v p ≤ room_at_origin children.new v p }
-    ensures parents_room { (v : Vertex) → room_at_vertex parents.old v ≤ room_at_vertex parents.new v }
-{
-    store.reserve_for(&[*edge])?;
-    children.reserve_for(&[*edge])?;
-    parents.reserve_for(&[*edge])?;
-    Ok(())
-}
-
 /// Whether the edge of an edit has at least the state that is asked of it, so that nothing changes where it is taken.
-pub fn is_raised(edit: &Edit, store: &GraphStore) -> bool
-    ensures { IsTrue result ↔ IsAtMost (state_of (edit_kind edit.now)) (state_in store.now (edit_edge edit.now)) }
+pub fn is_raised(edit: &Edit, graph: &LiveGraph) -> bool
+    ensures { IsTrue result ↔ IsAtMost (state_of (edit_kind edit.now)) (state_in graph.now (edit_edge edit.now)) }
 {
     let asked = match edit.kind() {
         EditKind::Insert => State::Live,
         EditKind::Delete => State::Deleted,
     };
-    leq(asked, store.state(&edit.edge()))
+    leq(asked, graph.state(&edit.edge()))
 }
 
 impl Marks {
-    /// Raises an edit in the store of the graph and in its indexes, and renews the records. Where memory runs out, the graph, the
+    /// Raises an edit in the graph, and renews the records. Where memory runs out, the graph, the
     /// records and the roots of cycles stay; the tables may have grown, and what room was made stays. It ticks at most 64 times for each
     /// unit of the size of the edit, and 64 times more. It does not tick where the edge has its state already.
     pub fn apply<L: Ledger>(
         &mut self,
         edit: &Edit,
-        store: &mut GraphStore,
-        children: &mut ChildIndex,
-        parents: &mut ParentIndex,
+        graph: &mut LiveGraph,
         steps: &mut Steps<L>,
     ) -> Result<Applied, NoMemory>
-        requires indexed { AreIndexed store.old children.old parents.old }
-        requires stand { StandFor (state_in store.old) self.old }
-        ensures joined { OnOk result (IsSame (state_in store.new) (graph_join (state_in store.old) (graph (edit.now ∷ [])))) }
-        ensures unchanged { OnErr result (IsSame (state_in store.new) (state_in store.old)) }
-        ensures indexed { AreIndexed store.new children.new parents.new }
-        ensures stand { StandFor (state_in store.new) self.new }
+        requires stand { StandFor (state_in graph.old) self.old }
+        ensures joined { OnOk result (IsSame (state_in graph.new) (graph_join (state_in graph.old) (graph_of (edit.now ∷ [])))) }
+        ensures unchanged { OnErr result (IsSame (state_in graph.new) (state_in graph.old)) }
+        ensures stand { StandFor (state_in graph.new) self.new }
         ensures kept { OnErr result (HaveGrown self.old self.new) }
-        ensures applied { IfOk result (λ applied. WasApplied edit.now applied store.old self.old store.new self.new) }
-        ensures can_take_back { IfOk result (λ applied. CanTakeBack edit.now applied store.new children.new parents.new self.new) }
-        ensures room_stays { KeepsRoom store.old store.new }
+        ensures applied { IfOk result (λ applied. WasApplied edit.now applied graph.old self.old graph.new self.new) }
+        ensures can_take_back { IfOk result (λ applied. CanTakeBack edit.now applied graph.new self.new) }
+        ensures room_stays { KeepsRoom graph.old graph.new }
+        ensures numbers_stay { KeepsNumbersOf graph.old graph.new }
         ensures marks_room_stays { KeepMarksRoom self.old self.new }
-        ensures index_room { IfOk result (λ applied. LeavesRoom (edit_edge edit.now) (brought_by (edit_kind edit.now) applied.change) (taken_by (edit_kind edit.now) applied.change)
-            children.old children.new parents.old parents.new) }
-        ensures index_room_stays { OnErr result (LeavesRoom (edit_edge edit.now) 0 0 children.old children.new parents.old parents.new) }
-        ensures ticks { (size : ℕ) → IsSize (edit_edge edit.now) (state_in store.old) (graph_join (state_in store.old) (graph (edit.now ∷ []))) size → steps.new ≤ steps.old + 64 * size + 64 }
-        ensures idle { IsAtMost (state_of (edit_kind edit.now)) (state_in store.old (edit_edge edit.now)) → steps.new ≡ steps.old }
+        ensures ticks { (size : ℕ) → IsSize (edit_edge edit.now) (state_in graph.old) (graph_join (state_in graph.old) (graph_of (edit.now ∷ []))) size → steps.new ≤ steps.old + 64 * size + 64 }
+        ensures idle { IsAtMost (state_of (edit_kind edit.now)) (state_in graph.old (edit_edge edit.now)) → steps.new ≡ steps.old }
     {
-        if is_raised(edit, store) {
+        if is_raised(edit, graph) {
             return Ok(Applied {
                 change: Change::Same,
                 old: OldRecords {
@@ -120,11 +89,13 @@ impl Marks {
             });
         }
         let edge = edit.edge();
-        reserve(&edge, store, children, parents)?;
-        if let Some(applied) = self.apply_short(edit, &edge, store, children, parents, steps)? {
+        graph.make_room(&edge)?;
+        // The live edges are those whose state is Live.
+        let _edges = graph.edge_count();
+        if let Some(applied) = self.apply_short(edit, &edge, graph, steps)? {
             return Ok(applied);
         }
-        self.apply_whole(edit, &edge, store, children, parents, steps)
+        self.apply_whole(edit, &edge, graph, steps)
     }
 
     // Applies an edit of an edge, for which there is room, by a short walk. None where that is not enough; then all is as before, but that
@@ -133,44 +104,40 @@ impl Marks {
         &mut self,
         edit: &Edit,
         edge: &Edge,
-        store: &mut GraphStore,
-        children: &mut ChildIndex,
-        parents: &mut ParentIndex,
+        graph: &mut LiveGraph,
         steps: &mut Steps<L>,
     ) -> Result<Option<Applied>, NoMemory>
         requires edge { edit_edge edit.now ≡ edge.now }
-        requires indexed { AreIndexed store.old children.old parents.old }
-        requires stand { StandFor (state_in store.old) self.old }
-        requires room { HaveRoom (edit_edge edit.now) store.old children.old parents.old }
-        ensures indexed { AreIndexed store.new children.new parents.new }
-        ensures applied { IfOk result (λ r. IfSome r (λ applied. IsApplied edit.now applied store.old self.old store.new self.new)) }
-        ensures can_take_back { IfOk result (λ r. IfSome r (λ applied. CanTakeBack edit.now applied store.new children.new parents.new self.new)) }
-        ensures index_room { IfOk result (λ r. IfSome r (λ applied. MovesRoom (edit_edge edit.now) (brought_by (edit_kind edit.now) applied.change) (taken_by (edit_kind edit.now) applied.change)
-            children.old children.new parents.old parents.new)) }
-        ensures back { IfOk result (λ r. r ≡ None → IsBack store.old children.old parents.old self.old store.new children.new parents.new self.new) }
-        ensures unchanged { OnErr result (IsBack store.old children.old parents.old self.old store.new children.new parents.new self.new) }
-        ensures room_stays { KeepsRoom store.old store.new }
+        requires live { AreLive (state_in graph.old) (live graph.old) }
+        requires stand { StandFor (state_in graph.old) self.old }
+        requires room { HasRoom graph.old (edit_edge edit.now) }
+        ensures applied { IfOk result (λ r. IfSome r (λ applied. IsApplied edit.now applied graph.old self.old graph.new self.new)) }
+        ensures can_take_back { IfOk result (λ r. IfSome r (λ applied. CanTakeBack edit.now applied graph.new self.new)) }
+        ensures back { IfOk result (λ r. r ≡ None → IsBack graph.old self.old graph.new self.new) }
+        ensures unchanged { OnErr result (IsBack graph.old self.old graph.new self.new) }
+        ensures room_stays { KeepsRoom graph.old graph.new }
+        ensures numbers_stay { KeepsNumbersOf graph.old graph.new }
         ensures marks_room_stays { KeepMarksRoom self.old self.new }
-        ensures ticks { (size : ℕ) → IsSize (edit_edge edit.now) (state_in store.old) (graph_join (state_in store.old) (graph (edit.now ∷ []))) size → steps.new ≤ steps.old + 23 * size + 31 }
+        ensures ticks { (size : ℕ) → IsSize (edit_edge edit.now) (state_in graph.old) (graph_join (state_in graph.old) (graph_of (edit.now ∷ []))) size → steps.new ≤ steps.old + 23 * size + 31 }
     {
-        let before = parents.few(&edge.target, steps);
+        let before = graph.few(&edge.target, steps);
         let apart = is_apart(
             &edge.target,
             &edge.source,
             &self.records,
-            parents,
+            graph,
             &self.roots,
             steps,
         );
-        let change = raise(edit, store, children, parents);
-        match self.renew_if_short(edge, apart, &before, store, children, parents, steps) {
+        let change = raise(edit, graph);
+        match self.renew_if_short(edge, apart, &before, graph, steps) {
             Ok(Some(old)) => Ok(Some(Applied { change, old })),
             Ok(None) => {
-                put_back(edit, change, store, children, parents);
+                put_back(edit, change, graph);
                 Ok(None)
             }
             Err(no_memory) => {
-                put_back(edit, change, store, children, parents);
+                put_back(edit, change, graph);
                 Err(no_memory)
             }
         }
@@ -181,31 +148,27 @@ impl Marks {
         &mut self,
         edit: &Edit,
         edge: &Edge,
-        store: &mut GraphStore,
-        children: &mut ChildIndex,
-        parents: &mut ParentIndex,
+        graph: &mut LiveGraph,
         steps: &mut Steps<L>,
     ) -> Result<Applied, NoMemory>
         requires edge { edit_edge edit.now ≡ edge.now }
-        requires indexed { AreIndexed store.old children.old parents.old }
-        requires stand { StandFor (state_in store.old) self.old }
-        requires room { HaveRoom (edit_edge edit.now) store.old children.old parents.old }
-        ensures indexed { AreIndexed store.new children.new parents.new }
-        ensures applied { IfOk result (λ applied. IsApplied edit.now applied store.old self.old store.new self.new) }
-        ensures can_take_back { IfOk result (λ applied. CanTakeBack edit.now applied store.new children.new parents.new self.new) }
-        ensures index_room { IfOk result (λ applied. MovesRoom (edit_edge edit.now) (brought_by (edit_kind edit.now) applied.change) (taken_by (edit_kind edit.now) applied.change)
-            children.old children.new parents.old parents.new) }
-        ensures unchanged { OnErr result (IsBack store.old children.old parents.old self.old store.new children.new parents.new self.new) }
-        ensures room_stays { KeepsRoom store.old store.new }
+        requires live { AreLive (state_in graph.old) (live graph.old) }
+        requires stand { StandFor (state_in graph.old) self.old }
+        requires room { HasRoom graph.old (edit_edge edit.now) }
+        ensures applied { IfOk result (λ applied. IsApplied edit.now applied graph.old self.old graph.new self.new) }
+        ensures can_take_back { IfOk result (λ applied. CanTakeBack edit.now applied graph.new self.new) }
+        ensures unchanged { OnErr result (IsBack graph.old self.old graph.new self.new) }
+        ensures room_stays { KeepsRoom graph.old graph.new }
+        ensures numbers_stay { KeepsNumbersOf graph.old graph.new }
         ensures marks_room_stays { KeepMarksRoom self.old self.new }
-        ensures ticks { (size : ℕ) → IsSize (edit_edge edit.now) (state_in store.old) (graph_join (state_in store.old) (graph (edit.now ∷ []))) size → steps.new ≤ steps.old + 40 * size + 21 }
+        ensures ticks { (size : ℕ) → IsSize (edit_edge edit.now) (state_in graph.old) (graph_join (state_in graph.old) (graph_of (edit.now ∷ []))) size → steps.new ≤ steps.old + 40 * size + 21 }
     {
-        let before = walk_from_ends(self.alloc, self.seed, edge, parents, steps)?;
-        let change = raise(edit, store, children, parents);
-        match self.renew(edge, &before, store, children, parents, steps) {
+        let before = walk_from_ends(self.alloc, self.seed, edge, graph, steps)?;
+        let change = raise(edit, graph);
+        match self.renew(edge, &before, graph, steps) {
             Ok(old) => Ok(Applied { change, old }),
             Err(no_memory) => {
-                put_back(edit, change, store, children, parents);
+                put_back(edit, change, graph);
                 Err(no_memory)
             }
         }
@@ -231,22 +194,17 @@ impl Marks {
         &mut self,
         edit: &Edit,
         applied: &Applied,
-        store: &mut GraphStore,
-        children: &mut ChildIndex,
-        parents: &mut ParentIndex,
+        graph: &mut LiveGraph,
     )
-        requires indexed { AreIndexed store.old children.old parents.old }
-        requires can { CanTakeBack edit.now applied.now store.old children.old parents.old self.old }
-        ensures graph { (before : Entries) (marks : KeptMarks) → WasApplied edit.now applied.now before marks store.old self.old → IsSame (state_in store.new) (state_in before) }
-        ensures stand { (before : Entries) (marks : KeptMarks) → WasApplied edit.now applied.now before marks store.old self.old → StandFor (state_in store.new) self.new }
-        ensures kept { (before : Entries) (marks : KeptMarks) → WasApplied edit.now applied.now before marks store.old self.old → HaveGrown marks self.new }
-        ensures indexed { AreIndexed store.new children.new parents.new }
-        ensures room_stays { KeepsRoom store.old store.new }
+        requires can { CanTakeBack edit.now applied.now graph.old self.old }
+        ensures graph { (before : Entries) (marks : KeptMarks) → WasApplied edit.now applied.now before marks graph.old self.old → IsSame (state_in graph.new) (state_in before) }
+        ensures stand { (before : Entries) (marks : KeptMarks) → WasApplied edit.now applied.now before marks graph.old self.old → StandFor (state_in graph.new) self.new }
+        ensures kept { (before : Entries) (marks : KeptMarks) → WasApplied edit.now applied.now before marks graph.old self.old → HaveGrown marks self.new }
+        ensures room_stays { KeepsRoom graph.old graph.new }
+        ensures numbers_stay { KeepsNumbersOf graph.old graph.new }
         ensures marks_room_stays { KeepMarksRoom self.old self.new }
-        ensures index_room { MovesRoom (edit_edge edit.now) (taken_by (edit_kind edit.now) applied.now.change) (brought_by (edit_kind edit.now) applied.now.change)
-            children.old children.new parents.old parents.new }
     {
-        put_back(edit, applied.change, store, children, parents);
+        put_back(edit, applied.change, graph);
         self.put_back(&applied.old);
     }
 }

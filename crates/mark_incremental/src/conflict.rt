@@ -3,13 +3,13 @@ ghost use Rattle.std.specs.List.{AllByRecursion};
 ghost use Rattle.grove_edits.specs.declared.edge.Edge.{Edge};
 ghost use Rattle.grove_edits.specs.declared.vertex.Vertex.{Vertex};
 ghost use Rattle.grove_edits.specs.Edge.{IsWellFormed};
-ghost use Rattle.grove_edits.specs.Graph.{graph};
+ghost use Rattle.grove_edits.specs.Graph.{graph as graph_of};
 ghost use Rattle.grove_terms.specs.Forest.{edges_under};
 ghost use Rattle.graph_words.specs.declared.class.Class.TheVariants.{Inner};
 ghost use Rattle.graph_words.specs.Class.{class};
 ghost use Rattle.graph_words.specs.Few.{first_two};
 ghost use Rattle.graph_words.specs.Live.{holds_edge, parents_of, children_of};
-ghost use Rattle.edge_index.specs.Lists.{live};
+ghost use Rattle.live_graph.specs.Live.{live};
 ghost use Rattle.type_core.specs.TypeTable.{KeepsTypes};
 ghost use Rattle.ctx_table.specs.CtxTable.{KeepsContexts};
 ghost use Rattle.mark_step.specs.Expression.{Demanded};
@@ -32,14 +32,13 @@ use crate::looking::Walk;
 use crate::marks::Marks;
 use crate::short::{came_or_source, kept_demand};
 use crate::way::judged_with;
-use child_index::ChildIndex;
 use ctx_table::CtxTable;
 use graph_words::{Few, Steps};
 use grove_edits::{Edge, Vertex, is_same_vertex};
 use grove_sorts::place_at;
 use mark_step::Demand;
 use mark_store::{MarkStore, Record, VertexMap};
-use parent_index::ParentIndex;
+use live_graph::{Edges, LiveGraph};
 use std::alloc::Global;
 use std::sync::ledger::Ledger;
 use text_parts::NoMemory;
@@ -69,11 +68,11 @@ fn sees_alone(edge: &Edge, before: &Few, after: &Few) -> bool
 }
 
 // Whether an edge is not among several.
-fn is_absent(edge: &Edge, children: &[Edge]) -> bool
+fn is_absent(edge: &Edge, children: &Edges<'_>) -> bool
     ensures { IsTrue result → holds_edge edge.now children.now ≡ false }
 {
-    for child in children {
-        if child == edge {
+    for index in 0..children.len() {
+        if children.get(index) == Some(*edge) {
             return false;
         }
     }
@@ -81,7 +80,7 @@ fn is_absent(edge: &Edge, children: &[Edge]) -> bool
 }
 
 // Whether several children stand at the position of an edge, these, and stood there before an edit of the edge.
-fn were_several(edge: &Edge, children: &[Edge]) -> bool
+fn were_several(edge: &Edge, children: &Edges<'_>) -> bool
     ensures { IsTrue result → StoodSeveral edge.now children.now }
 {
     if children.len() > 2 {
@@ -97,19 +96,19 @@ pub(crate) fn demand_at_conflict<L: Ledger>(
     edge: &Edge,
     before: &Few,
     after: &Few,
-    children: &ChildIndex,
+    graph: &LiveGraph,
     steps: &mut Steps<L>,
 ) -> Option<Demand>
     ensures demand { IfSome result (IsDemandThere records.now edge.now.source) }
-    ensures several { IfSome result (λ d. StoodSeveral edge.now (children_of edge.now.source edge.now.position (live children.now))) }
+    ensures several { IfSome result (λ d. StoodSeveral edge.now (children_of edge.now.source edge.now.position (live graph.now))) }
     ensures sees { (old new : List Edge) → before.now ≡ first_two (parents_of edge.now.target old) → after.now ≡ first_two (parents_of edge.now.target new) → IfSome result (λ d. MaySeeAlone edge.now old new) }
-    ensures ticks { steps.new ≤ steps.old + 1 + length (children_of edge.now.source edge.now.position (live children.now)) }
+    ensures ticks { steps.new ≤ steps.old + 1 + length (children_of edge.now.source edge.now.position (live graph.now)) }
 {
     if !sees_alone(edge, before, after) {
         return None;
     }
-    let there = children.children(&edge.source, edge.position, steps);
-    if !were_several(edge, there) {
+    let there = graph.children(&edge.source, edge.position, steps);
+    if !were_several(edge, &there) {
         return None;
     }
     kept_demand(records, &edge.source)
@@ -121,27 +120,27 @@ impl<'t> Walk<'t> {
         &self,
         types: &TypeTable,
         ctxs: &CtxTable,
-        frame: &Frame<'t>,
+        frame: Frame<'t>,
         steps: &mut Steps<L>,
     ) -> Option<Frame<'t>>
         requires records { AreRecordsOf types.now ctxs.now self.now.records.now }
-        requires frame { IsFrameOf types.now ctxs.now frame.now }
-        ensures passed { (l : Level) → IsOpenedFor (live self.now.parents.now) types.now ctxs.now self.now.records.now (on self.now.whole self.now.passed.now) l frame.now
-            → IfSome result (IsPassedFor (live self.now.parents.now) types.now ctxs.now self.now.records.now (on self.now.whole self.now.passed.now) l) }
-        ensures vertex { IfSome result (λ fr. fr.vertex.now ≡ frame.now.vertex.now) }
-        ensures state { IfSome result (λ fr. fr.state ≡ frame.now.state) }
+        requires frame { IsFrameOf types.now ctxs.now frame }
+        ensures passed { (l : Level) → IsOpenedFor (live self.now.graph.now) types.now ctxs.now self.now.records.now (on self.now.whole self.now.passed.now) l frame.entry
+            → IfSome result (IsPassedFor (live self.now.graph.now) types.now ctxs.now self.now.records.now (on self.now.whole self.now.passed.now) l) }
+        ensures vertex { IfSome result (λ fr. fr.vertex.now ≡ frame.entry.vertex.now) }
+        ensures state { IfSome result (λ fr. fr.state ≡ frame.entry.state) }
         ensures numbers { IfSome result (IsFrameOf types.now ctxs.now) }
-        ensures costs { IfSome result (λ fr. steps.new + still_costs (live self.now.parents.now) fr fr.left.now ≤ steps.old + still_costs (live self.now.parents.now) frame.now frame.now.left.now) }
-        ensures at_most { steps.new ≤ steps.old + 3 * length frame.now.left.now }
+        ensures costs { IfSome result (λ fr. steps.new + still_costs (live self.now.graph.now) fr fr.left ≤ steps.old + still_costs (live self.now.graph.now) frame.entry frame.entry.left) }
+        ensures at_most { steps.new ≤ steps.old + 3 * length frame.entry.left }
     {
-        let Some(edge) = frame.left.first() else {
-            return Some(*frame);
+        let Some((edge, _)) = frame.left.split_first() else {
+            return Some(frame);
         };
         if frame.several {
-            return Some(*frame);
+            return Some(frame);
         }
-        let given = self.look(types, ctxs, &frame.demand, edge, steps)?;
-        let mut passed = *frame;
+        let given = self.look(types, ctxs, &frame.demand, edge.target(), steps)?;
+        let mut passed = frame;
         accept(types, &mut passed, given);
         Some(passed)
     }
@@ -159,10 +158,10 @@ impl<'t> Walk<'t> {
     ) -> Result<Option<Demand>, NoMemory>
         requires records { AreRecordsOf types.old ctxs.old self.now.records.now }
         requires demand { IsDemandOf types.old ctxs.old demand }
-        ensures below { (d : Demanded) (place : IsStart (live self.now.parents.now) types.old ctxs.old demand (start_at edge.now.source d))
-            → IfOk result (λ r. IfSome r (IsDemandBelow (live self.now.parents.now) types.new ctxs.new self.now.records.now (on self.now.whole self.now.passed.now) (level_at edge.now.source place.above place.forest d) edge.now.position)) }
+        ensures below { (d : Demanded) (place : IsStart (live self.now.graph.now) types.old ctxs.old demand (start_at edge.now.source d))
+            → IfOk result (λ r. IfSome r (IsDemandBelow (live self.now.graph.now) types.new ctxs.new self.now.records.now (on self.now.whole self.now.passed.now) (level_at edge.now.source place.above place.forest d) edge.now.position)) }
         ensures number { IfOk result (λ r. IfSome r (IsDemandOf types.new ctxs.new)) }
-        ensures ticks { steps.new ≤ steps.old + 5 + 4 * length (edges_under (live self.now.parents.now) edge.now.source) }
+        ensures ticks { steps.new ≤ steps.old + 5 + 4 * length (edges_under (live self.now.graph.now) edge.now.source) }
         ensures types { KeepsTypes types.old types.new }
         ensures contexts { KeepsContexts ctxs.old ctxs.new }
     {
@@ -174,7 +173,7 @@ impl<'t> Walk<'t> {
             if position == edge.position {
                 return Ok(Some(frame.demand));
             }
-            let Some(passed) = self.pass(types, ctxs, &frame, steps) else {
+            let Some(passed) = self.pass(types, ctxs, frame, steps) else {
                 return Ok(None);
             };
             frame = self.go_on(alloc, types, ctxs, &passed, steps)?;
@@ -194,15 +193,15 @@ impl<'t> Walk<'t> {
     ) -> Result<Vec<(Vertex, Record)>, NoMemory>
         requires records { AreRecordsOf types.old ctxs.old self.now.records.now }
         requires demand { IsDemandOf types.old ctxs.old demand }
-        ensures target { (d : Demanded) → (class (live self.now.parents.now) edge.now.target ≡ Inner → IsStartBelow (live self.now.parents.now) types.old ctxs.old demand edge.now.source edge.now.target d)
-            → IfOk result (λ made. HasMadeAtConflict edge.now (live self.now.parents.now) types.new ctxs.new self.now.records.now (on self.now.whole self.now.passed.now) d made.items) }
+        ensures target { (d : Demanded) → (class (live self.now.graph.now) edge.now.target ≡ Inner → IsStartBelow (live self.now.graph.now) types.old ctxs.old demand edge.now.source edge.now.target d)
+            → IfOk result (λ made. HasMadeAtConflict edge.now (live self.now.graph.now) types.new ctxs.new self.now.records.now (on self.now.whole self.now.passed.now) d made.items) }
         ensures made { IfOk result (λ made. AreMadeOf types.new ctxs.new made.items) }
-        ensures paid { (d : Demanded) → (class (live self.now.parents.now) edge.now.target ≡ Inner → IsStartBelow (live self.now.parents.now) types.old ctxs.old demand edge.now.source edge.now.target d)
-            → IsConflictPaidFor edge.now (live self.now.parents.now) types.old ctxs.old self.now.records.now (on self.now.whole self.now.passed.now) d steps.old steps.new }
+        ensures paid { (d : Demanded) → (class (live self.now.graph.now) edge.now.target ≡ Inner → IsStartBelow (live self.now.graph.now) types.old ctxs.old demand edge.now.source edge.now.target d)
+            → IsConflictPaidFor edge.now (live self.now.graph.now) types.old ctxs.old self.now.records.now (on self.now.whole self.now.passed.now) d steps.old steps.new }
         ensures types { KeepsTypes types.old types.new }
         ensures contexts { KeepsContexts ctxs.old ctxs.new }
     {
-        if self.look(types, ctxs, &demand, edge, steps).is_some() {
+        if self.look(types, ctxs, &demand, &edge.target, steps).is_some() {
             return self.renew_alone(alloc, types, ctxs, &edge.target, &edge.source, steps);
         }
         let mut made = Vec::new(alloc);
@@ -223,16 +222,16 @@ impl<'t> Walk<'t> {
     ) -> Result<Option<Vec<(Vertex, Record)>>, NoMemory>
         requires records { AreRecordsOf types.old ctxs.old self.now.records.now }
         requires demand { IsDemandOf types.old ctxs.old demand }
-        ensures target { (d : Demanded) (place : IsStart (live self.now.parents.now) types.old ctxs.old demand (start_at edge.now.source d))
-            → (class (live self.now.parents.now) edge.now.target ≡ Inner → StandsAtEdge edge.now (level_at edge.now.source place.above place.forest d))
-            → IfOk result (λ r. IfSome r (λ made. HasMadeAtConflict edge.now (live self.now.parents.now) types.new ctxs.new self.now.records.now (on self.now.whole self.now.passed.now)
+        ensures target { (d : Demanded) (place : IsStart (live self.now.graph.now) types.old ctxs.old demand (start_at edge.now.source d))
+            → (class (live self.now.graph.now) edge.now.target ≡ Inner → StandsAtEdge edge.now (level_at edge.now.source place.above place.forest d))
+            → IfOk result (λ r. IfSome r (λ made. HasMadeAtConflict edge.now (live self.now.graph.now) types.new ctxs.new self.now.records.now (on self.now.whole self.now.passed.now)
             (demands (level_at edge.now.source place.above place.forest d) edge.now.position) made.items)) }
         ensures made { IfOk result (λ r. IfSome r (λ made. AreMadeOf types.new ctxs.new made.items)) }
-        ensures paid { (d : Demanded) (place : IsStart (live self.now.parents.now) types.old ctxs.old demand (start_at edge.now.source d))
-            → (class (live self.now.parents.now) edge.now.target ≡ Inner → StandsAtEdge edge.now (level_at edge.now.source place.above place.forest d))
-            → (most : ℕ) → ((before after : ℕ) → IsConflictPaidFor edge.now (live self.now.parents.now) types.old ctxs.old self.now.records.now (on self.now.whole self.now.passed.now)
+        ensures paid { (d : Demanded) (place : IsStart (live self.now.graph.now) types.old ctxs.old demand (start_at edge.now.source d))
+            → (class (live self.now.graph.now) edge.now.target ≡ Inner → StandsAtEdge edge.now (level_at edge.now.source place.above place.forest d))
+            → (most : ℕ) → ((before after : ℕ) → IsConflictPaidFor edge.now (live self.now.graph.now) types.old ctxs.old self.now.records.now (on self.now.whole self.now.passed.now)
             (demands (level_at edge.now.source place.above place.forest d) edge.now.position) before after → after ≤ before + most)
-            → steps.new ≤ steps.old + 5 + 4 * length (edges_under (live self.now.parents.now) edge.now.source) + most }
+            → steps.new ≤ steps.old + 5 + 4 * length (edges_under (live self.now.graph.now) edge.now.source) + most }
         ensures types { KeepsTypes types.old types.new }
         ensures contexts { KeepsContexts ctxs.old ctxs.new }
     {
@@ -251,32 +250,29 @@ impl Marks {
         judged: &VertexMap<bool>,
         edge: &Edge,
         demand: Demand,
-        children: &ChildIndex,
-        parents: &ParentIndex,
+        graph: &LiveGraph,
         steps: &mut Steps<L>,
     ) -> Result<Option<Vec<(Vertex, Record)>>, NoMemory>
-        requires same { live children.now ≡ live parents.now }
-        requires rooted { AreRoots (live parents.now) self.old.roots }
-        requires well_formed { AllByRecursion IsWellFormed (live parents.now) }
+                requires rooted { AreRoots (live graph.now) self.old.roots }
+        requires well_formed { AllByRecursion IsWellFormed (live graph.now) }
         requires demand { IsDemandOf self.old.types self.old.contexts demand }
-        ensures target { (d : Demanded) (place : IsStart (live parents.now) self.old.types self.old.contexts demand (start_at edge.now.source d))
-            → (class (live parents.now) edge.now.target ≡ Inner → StandsAtEdge edge.now (level_at edge.now.source place.above place.forest d))
-            → IfOk result (λ r. IfSome r (λ made. HasMadeAtConflict edge.now (live parents.now) self.new.types self.new.contexts self.old.records (on false judged.now)
+        ensures target { (d : Demanded) (place : IsStart (live graph.now) self.old.types self.old.contexts demand (start_at edge.now.source d))
+            → (class (live graph.now) edge.now.target ≡ Inner → StandsAtEdge edge.now (level_at edge.now.source place.above place.forest d))
+            → IfOk result (λ r. IfSome r (λ made. HasMadeAtConflict edge.now (live graph.now) self.new.types self.new.contexts self.old.records (on false judged.now)
             (demands (level_at edge.now.source place.above place.forest d) edge.now.position) made.items)) }
         ensures numbers { IfOk result (λ r. IfSome r (λ made. AreMadeOf self.new.types self.new.contexts made.items)) }
-        ensures paid { (d : Demanded) (place : IsStart (live parents.now) self.old.types self.old.contexts demand (start_at edge.now.source d))
-            → (class (live parents.now) edge.now.target ≡ Inner → StandsAtEdge edge.now (level_at edge.now.source place.above place.forest d))
-            → (most : ℕ) → ((before after : ℕ) → IsConflictPaidFor edge.now (live parents.now) self.old.types self.old.contexts self.old.records (on false judged.now)
+        ensures paid { (d : Demanded) (place : IsStart (live graph.now) self.old.types self.old.contexts demand (start_at edge.now.source d))
+            → (class (live graph.now) edge.now.target ≡ Inner → StandsAtEdge edge.now (level_at edge.now.source place.above place.forest d))
+            → (most : ℕ) → ((before after : ℕ) → IsConflictPaidFor edge.now (live graph.now) self.old.types self.old.contexts self.old.records (on false judged.now)
             (demands (level_at edge.now.source place.above place.forest d) edge.now.position) before after → after ≤ before + most)
-            → steps.new ≤ steps.old + 5 + 4 * length (edges_under (live parents.now) edge.now.source) + most }
+            → steps.new ≤ steps.old + 5 + 4 * length (edges_under (live graph.now) edge.now.source) + most }
         ensures types { KeepsTypes self.old.types self.new.types }
         ensures contexts { KeepsContexts self.old.contexts self.new.contexts }
         ensures records { self.new.records ≡ self.old.records }
         ensures roots { self.new.roots ≡ self.old.roots }
     {
         let walk = Walk {
-            children,
-            parents,
+            graph,
             roots: &self.roots,
             records: &self.records,
             whole: false,
@@ -299,19 +295,17 @@ impl Marks {
         &mut self,
         edge: &Edge,
         demand: Demand,
-        children: &ChildIndex,
-        parents: &ParentIndex,
+        graph: &LiveGraph,
         steps: &mut Steps<L>,
     ) -> Result<Option<OldRecords>, NoMemory>
-        requires same { live children.now ≡ live parents.now }
-        requires rooted { AreRoots (live parents.now) self.old.roots }
-        requires well_formed { AllByRecursion IsWellFormed (live parents.now) }
+                requires rooted { AreRoots (live graph.now) self.old.roots }
+        requires well_formed { AllByRecursion IsWellFormed (live graph.now) }
         requires demand { IsDemandThere self.old.records edge.now.source demand }
-        requires several { StoodSeveral edge.now (children_of edge.now.source edge.now.position (live parents.now)) }
-        ensures renewed { (seen : IsSeenByOne edge.now (live parents.now) self.old) → MaySeeAlone edge.now seen.old (live parents.now)
-            → IfOk result (λ r. IfSome r (λ old. AreKept (graph (seen.edit ∷ seen.edits)) (live parents.now) (records_in self.new))) }
-        ensures ticks { (seen : IsSeenByOne edge.now (live parents.now) self.old) → MaySeeAlone edge.now seen.old (live parents.now)
-            → (near : List Vertex) → AreNear edge.now seen.old (live parents.now) near → steps.new ≤ steps.old + 9 * near_size seen.old (live parents.now) near + 11 }
+        requires several { StoodSeveral edge.now (children_of edge.now.source edge.now.position (live graph.now)) }
+        ensures renewed { (seen : IsSeenByOne edge.now (live graph.now) self.old) → MaySeeAlone edge.now seen.old (live graph.now)
+            → IfOk result (λ r. IfSome r (λ old. AreKept (graph_of (seen.edit ∷ seen.edits)) (live graph.now) (records_in self.new))) }
+        ensures ticks { (seen : IsSeenByOne edge.now (live graph.now) self.old) → MaySeeAlone edge.now seen.old (live graph.now)
+            → (near : List Vertex) → AreNear edge.now seen.old (live graph.now) near → steps.new ≤ steps.old + 9 * near_size seen.old (live graph.now) near + 11 }
         ensures old { IfOk result (λ r. IfSome r (λ old. WasRenewed old self.old self.new)) }
         ensures can_put_back { IfOk result (λ r. IfSome r (λ old. CanRenewBack old self.new)) }
         ensures numbers { OnOk result (AreRecordsOf self.new.types self.new.contexts self.new.records) }
@@ -322,7 +316,7 @@ impl Marks {
     {
         let further = came_or_source(&self.records, edge);
         let judged = judged_with(self.alloc, self.seed, &edge.source, &[], &further)?;
-        let Some(made) = self.make_below_conflict(&judged, edge, demand, children, parents, steps)?
+        let Some(made) = self.make_below_conflict(&judged, edge, demand, graph, steps)?
         else {
             return Ok(None);
         };

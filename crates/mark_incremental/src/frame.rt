@@ -1,6 +1,6 @@
 ghost use Rattle.std.specs.Prelude.{◌≡◌, ◌+◌, ◌<◌, ◌≤◌, List, drop, length, IfOk, if◌then◌else◌};
 ghost use Rattle.grove_sorts.specs.Ctor.{positions};
-ghost use Rattle.edge_index.specs.Lists.{live};
+ghost use Rattle.live_graph.specs.Live.{live};
 ghost use Rattle.type_core.specs.Typ.{Typ};
 ghost use Rattle.type_core.specs.TypeTable.{KeepsTypes};
 ghost use Rattle.ctx_table.specs.Context.{Context};
@@ -15,9 +15,10 @@ ghost use Rattle.mark_incremental.specs.Ticks.{begun_cost, places_cost, after_ne
 use crate::looking::Walk;
 use ctx_table::CtxTable;
 use graph_words::Steps;
-use grove_edits::{Edge, Vertex};
+use grove_edits::Vertex;
 use grove_sorts::place_at;
 use judging::{Given, OpenVertex, demand_at, fill, fresh, nothing};
+use live_graph::Edges;
 use mark_step::{Demand, Mode};
 use std::alloc::Global;
 use std::sync::ledger::Ledger;
@@ -25,12 +26,12 @@ use text_parts::NoMemory;
 use type_core::TypeTable;
 
 /// A vertex of which some positions are judged, at the position that comes next.
-#[derive(Clone, Copy, Debug)]
+#[derive(Drop)]
 pub(crate) struct Frame<'t> {
     pub(crate) vertex: &'t Vertex,
     pub(crate) state: OpenVertex<'t>,
     /// The edges at the position whose targets are not judged yet.
-    pub(crate) left: &'t [Edge],
+    pub(crate) left: Edges<'t>,
     /// Whether several edges lead from the position.
     pub(crate) several: bool,
     /// What is demanded of each child at the position.
@@ -52,7 +53,7 @@ fn given_of_one<'t>(types: &TypeTable, several: bool, given: Given<'t>) -> Given
 pub(crate) fn accept<'t>(types: &TypeTable, frame: &mut Frame<'t>, given: Given<'t>)
     requires given { IsGivenOf types.now given }
     ensures moved { IsMoved frame.old frame.new }
-    ensures accepted { 0 < length frame.old.left.now → IsAccepted types.now frame.old given.entry frame.new }
+    ensures accepted { 0 < length frame.old.left → IsAccepted types.now frame.old given.entry frame.new }
     ensures numbers { (ctxs : List Context) → IsFrameOf types.now ctxs frame.old → IsFrameOf types.now ctxs frame.new }
 {
     if let Some((_, rest)) = frame.left.split_first() {
@@ -92,10 +93,10 @@ impl<'t> Walk<'t> {
         requires ctor { state.ctor.now ≡ vertex.now.ctor }
         ensures vertex { IfOk result (λ fr. fr.vertex.now ≡ vertex.now) }
         ensures state { IfOk result (λ fr. fr.state ≡ state.entry) }
-        ensures begun { IfOk result (IsBegun (live self.now.parents.now) types.old types.new ctxs.old ctxs.new) }
+        ensures begun { IfOk result (IsBegun (live self.now.graph.now) types.old types.new ctxs.old ctxs.new) }
         ensures numbers { IfOk result (IsFrameOf types.new ctxs.new) }
         ensures ticks { IfOk result (λ fr. steps.new ≡ steps.old + begun_cost fr) }
-        ensures at_most { steps.new ≤ steps.old + places_cost (live self.now.parents.now) vertex.now (drop state.entry.next (positions vertex.now.ctor)) }
+        ensures at_most { steps.new ≤ steps.old + places_cost (live self.now.graph.now) vertex.now (drop state.entry.next (positions vertex.now.ctor)) }
         ensures types { KeepsTypes types.old types.new }
         ensures contexts { KeepsContexts ctxs.old ctxs.new }
     {
@@ -103,13 +104,13 @@ impl<'t> Walk<'t> {
             return Ok(Frame {
                 vertex,
                 state,
-                left: &[],
+                left: self.graph.no_edges(),
                 several: false,
                 demand: state.demand,
                 given: nothing(types),
             });
         };
-        let left = self.children.children(vertex, position, steps);
+        let left = self.graph.children(vertex, position, steps);
         let demand = demand_at(alloc, types, ctxs, &state)?;
         let several = left.len() > 1;
         Ok(Frame {
@@ -137,10 +138,10 @@ impl<'t> Walk<'t> {
         ensures fresh { IfOk result (λ fr. opened_at types.old ctxs.old fr.state ≡ machine.fresh vertex.now.ctor (demanded_at types.old ctxs.old demand)) }
         ensures all_left { IfOk result (λ fr. left_of fr.state ≡ positions vertex.now.ctor) }
         ensures was { IfOk result (λ fr. IsOpenOf types.old ctxs.old fr.state) }
-        ensures begun { IfOk result (IsBegun (live self.now.parents.now) types.old types.new ctxs.old ctxs.new) }
+        ensures begun { IfOk result (IsBegun (live self.now.graph.now) types.old types.new ctxs.old ctxs.new) }
         ensures numbers { IfOk result (IsFrameOf types.new ctxs.new) }
         ensures ticks { IfOk result (λ fr. steps.new ≡ steps.old + begun_cost fr) }
-        ensures at_most { steps.new ≤ steps.old + places_cost (live self.now.parents.now) vertex.now (positions vertex.now.ctor) }
+        ensures at_most { steps.new ≤ steps.old + places_cost (live self.now.graph.now) vertex.now (positions vertex.now.ctor) }
         ensures types { KeepsTypes types.old types.new }
         ensures contexts { KeepsContexts ctxs.old ctxs.new }
     {
@@ -162,10 +163,10 @@ impl<'t> Walk<'t> {
         ensures vertex { IfOk result (λ fr. fr.vertex.now ≡ frame.now.vertex.now) }
         ensures filled { IfOk result (λ fr. fr.state ≡ filled_with frame.now.given frame.now.state) }
         ensures was { IfOk result (λ fr. IsOpenOf types.old ctxs.old fr.state) }
-        ensures begun { IfOk result (IsBegun (live self.now.parents.now) types.old types.new ctxs.old ctxs.new) }
+        ensures begun { IfOk result (IsBegun (live self.now.graph.now) types.old types.new ctxs.old ctxs.new) }
         ensures numbers { IfOk result (IsFrameOf types.new ctxs.new) }
         ensures ticks { IfOk result (λ fr. steps.new ≡ steps.old + begun_cost fr) }
-        ensures at_most { steps.new ≤ steps.old + places_cost (live self.now.parents.now) frame.now.vertex.now (after_next frame.now) }
+        ensures at_most { steps.new ≤ steps.old + places_cost (live self.now.graph.now) frame.now.vertex.now (after_next frame.now) }
         ensures types { KeepsTypes types.old types.new }
         ensures contexts { KeepsContexts ctxs.old ctxs.new }
     {

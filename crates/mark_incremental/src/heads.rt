@@ -2,7 +2,7 @@ ghost use Rattle.std.specs.Prelude.{◌≡◌, ◌+◌, ◌*◌, ◌≤◌, leng
 ghost use Rattle.std.specs.List.{AllByRecursion};
 ghost use Rattle.graph_words.specs.declared.class.Class.TheVariants.{Inner};
 ghost use Rattle.graph_words.specs.Class.{class};
-ghost use Rattle.edge_index.specs.Lists.{live};
+ghost use Rattle.live_graph.specs.Live.{live};
 ghost use Rattle.type_core.specs.TypeTable.{KeepsTypes};
 ghost use Rattle.ctx_table.specs.CtxTable.{KeepsContexts};
 ghost use Rattle.kept_records.specs.Local.{is_inner};
@@ -16,7 +16,7 @@ use ctx_table::CtxTable;
 use graph_words::Steps;
 use grove_edits::Vertex;
 use mark_store::{Record, VertexMap};
-use parent_index::ParentIndex;
+use live_graph::LiveGraph;
 use std::alloc::Global;
 use std::sync::ledger::Ledger;
 use text_parts::NoMemory;
@@ -26,17 +26,17 @@ use type_core::TypeTable;
 pub(crate) fn heads_among<L: Ledger>(
     alloc: Global,
     vertices: &[Vertex],
-    parents: &ParentIndex,
+    graph: &LiveGraph,
     roots: &VertexMap<bool>,
     steps: &mut Steps<L>,
 ) -> Result<Vec<Vertex>, NoMemory>
-    requires { AreRoots (live parents.now) roots.now }
-    ensures heads { IfOk result (λ heads. heads.items ≡ filter (λ v. not (is_inner (live parents.now) v)) vertices.now) }
+    requires { AreRoots (live graph.now) roots.now }
+    ensures heads { IfOk result (λ heads. heads.items ≡ filter (λ v. not (is_inner (live graph.now) v)) vertices.now) }
     ensures ticks { steps.new ≤ steps.old + 3 * length vertices.now }
 {
     let mut heads = Vec::new(alloc);
     for vertex in vertices {
-        if !is_inner(vertex, parents, roots, steps) {
+        if !is_inner(vertex, graph, roots, steps) {
             heads.push(*vertex)?;
         }
     }
@@ -55,11 +55,11 @@ impl<'t> Walk<'t> {
         steps: &mut Steps<L>,
     ) -> Result<Vec<(Vertex, Record)>, NoMemory>
         requires records { AreRecordsOf types.old ctxs.old self.now.records.now }
-        requires heads { AllByRecursion (λ v. class (live self.now.parents.now) v ≡ Inner → ⊥) heads.now }
-        ensures trees { IfOk result (λ made. HasMadeTrees (live self.now.parents.now) types.new ctxs.new self.now.records.now (on self.now.whole self.now.passed.now) heads.now made.items) }
+        requires heads { AllByRecursion (λ v. class (live self.now.graph.now) v ≡ Inner → ⊥) heads.now }
+        ensures trees { IfOk result (λ made. HasMadeTrees (live self.now.graph.now) types.new ctxs.new self.now.records.now (on self.now.whole self.now.passed.now) heads.now made.items) }
         ensures made { IfOk result (λ made. AreMadeOf types.new ctxs.new made.items) }
-        ensures ticks { IfOk result (λ made. steps.new ≤ steps.old + 5 * weight_of (live self.now.parents.now) made.items) }
-        ensures paid { AreTreesPaidFor (live self.now.parents.now) types.old ctxs.old self.now.records.now (on self.now.whole self.now.passed.now) heads.now steps.old steps.new }
+        ensures ticks { IfOk result (λ made. steps.new ≤ steps.old + 5 * weight_of (live self.now.graph.now) made.items) }
+        ensures paid { AreTreesPaidFor (live self.now.graph.now) types.old ctxs.old self.now.records.now (on self.now.whole self.now.passed.now) heads.now steps.old steps.new }
         ensures types { KeepsTypes types.old types.new }
         ensures contexts { KeepsContexts ctxs.old ctxs.new }
     {

@@ -4,7 +4,7 @@ ghost use Rattle.std.proofs.Props.{props};
 ghost use Rattle.grove_edits.specs.Edge.{IsWellFormed};
 ghost use Rattle.graph_words.specs.declared.class.Class.TheVariants.{Inner};
 ghost use Rattle.graph_words.specs.Class.{class};
-ghost use Rattle.edge_index.specs.Lists.{live};
+ghost use Rattle.live_graph.specs.Live.{live};
 ghost use Rattle.mark_step.specs.Node.{IsDemandOf};
 ghost use Rattle.judging.specs.Frames.{IsGivenOf};
 ghost use Rattle.kept_records.specs.Local.{is_inner};
@@ -13,15 +13,14 @@ ghost use Rattle.mark_incremental.specs.Looking.{on, AreRoots, IsFound};
 
 use crate::given::given_by;
 use crate::walks_up::holds;
-use child_index::ChildIndex;
 use ctx_table::CtxTable;
 use graph_words::{Few, ParentOf, Steps};
-use grove_edits::{Edge, Vertex};
+use grove_edits::Vertex;
 use grove_sorts::{Sort, sort_of};
 use judging::{Given, nothing};
 use mark_step::{Demand, Mode};
 use mark_store::{MarkStore, Record, VertexMap};
-use parent_index::ParentIndex;
+use live_graph::LiveGraph;
 use std::sync::ledger::Ledger;
 use type_core::TypeTable;
 
@@ -29,17 +28,15 @@ use type_core::TypeTable;
 /// whatever is demanded of them.
 #[derive(Drop)]
 pub(crate) struct Walk<'t> {
-    pub(crate) children: &'t ChildIndex,
-    pub(crate) parents: &'t ParentIndex,
+    pub(crate) graph: &'t LiveGraph,
     pub(crate) roots: &'t VertexMap<bool>,
     pub(crate) records: &'t MarkStore,
     /// All vertices are judged again.
     pub(crate) whole: bool,
     /// These are, where not all are.
     pub(crate) passed: &'t VertexMap<bool>,
-    ghost same: { live children.now ≡ live parents.now },
-    ghost rooted: { AreRoots (live parents.now) roots.now },
-    ghost well_formed: { AllByRecursion IsWellFormed (live parents.now) } by { Prim.hlevel props },
+        ghost rooted: { AreRoots (live graph.now) roots.now },
+    ghost well_formed: { AllByRecursion IsWellFormed (live graph.now) } by { Prim.hlevel props },
 }
 
 /// Whether what is demanded of a vertex is what its record says.
@@ -52,15 +49,15 @@ pub(crate) fn is_demanded(kept: &Record, demand: &Demand) -> bool
 /// Whether a vertex stands in the tree of another one. It ticks at most three times.
 pub(crate) fn is_inner<L: Ledger>(
     vertex: &Vertex,
-    parents: &ParentIndex,
+    graph: &LiveGraph,
     roots: &VertexMap<bool>,
     steps: &mut Steps<L>,
 ) -> bool
-    requires { AreRoots (live parents.now) roots.now }
-    ensures inner { result ≡ is_inner (live parents.now) vertex.now }
+    requires { AreRoots (live graph.now) roots.now }
+    ensures inner { result ≡ is_inner (live graph.now) vertex.now }
     ensures ticks { steps.new ≤ steps.old + 3 }
 {
-    match parents.few(vertex, steps) {
+    match graph.few(vertex, steps) {
         Few::Zero | Few::More(_, _) => false,
         Few::One(_) => !holds(roots, vertex),
     }
@@ -80,15 +77,14 @@ impl<'t> Walk<'t> {
         types: &TypeTable,
         _ctxs: &CtxTable,
         demand: &Demand,
-        edge: &'t Edge,
+        vertex: &'t Vertex,
     ) -> Option<Given<'t>>
         requires records { AreRecordsOf types.now _ctxs.now self.now.records.now }
         requires demand { IsDemandOf types.now _ctxs.now demand.now }
-        requires inner { class (live self.now.parents.now) edge.now.target ≡ Inner }
-        ensures found { IsFound (live self.now.parents.now) types.now _ctxs.now self.now.records.now (on self.now.whole self.now.passed.now) demand.now edge.now result }
+        requires inner { class (live self.now.graph.now) vertex.now ≡ Inner }
+        ensures found { IsFound (live self.now.graph.now) types.now _ctxs.now self.now.records.now (on self.now.whole self.now.passed.now) demand.now vertex.now result }
         ensures number { IfSome result (IsGivenOf types.now) }
     {
-        let vertex = &edge.target;
         if self.is_judged(vertex) {
             return None;
         }
@@ -101,25 +97,25 @@ impl<'t> Walk<'t> {
         Some(given_by(types, &vertex.ctor, &record))
     }
 
-    /// What the child at the end of a live edge gives, of which this is demanded, if it does not have to be judged again. It ticks at
+    /// What a child gives, of which this is demanded, if it does not have to be judged again. It ticks at
     /// most three times.
     pub(crate) fn look<L: Ledger>(
         &self,
         types: &TypeTable,
         ctxs: &CtxTable,
         demand: &Demand,
-        edge: &'t Edge,
+        vertex: &'t Vertex,
         steps: &mut Steps<L>,
     ) -> Option<Given<'t>>
         requires records { AreRecordsOf types.now ctxs.now self.now.records.now }
         requires demand { IsDemandOf types.now ctxs.now demand.now }
-        ensures found { IsFound (live self.now.parents.now) types.now ctxs.now self.now.records.now (on self.now.whole self.now.passed.now) demand.now edge.now result }
+        ensures found { IsFound (live self.now.graph.now) types.now ctxs.now self.now.records.now (on self.now.whole self.now.passed.now) demand.now vertex.now result }
         ensures number { IfSome result (IsGivenOf types.now) }
         ensures ticks { steps.new ≤ steps.old + 3 }
     {
-        if !is_inner(&edge.target, self.parents, self.roots, steps) {
+        if !is_inner(vertex, self.graph, self.roots, steps) {
             return Some(nothing(types));
         }
-        self.left(types, ctxs, demand, edge)
+        self.left(types, ctxs, demand, vertex)
     }
 }

@@ -4,7 +4,7 @@ ghost use Rattle.grove_edits.specs.declared.vertex.Vertex.{Vertex};
 ghost use Rattle.grove_edits.specs.declared.edge.Edge.{Edge};
 ghost use Rattle.graph_words.specs.declared.class.Class.TheVariants.{Inner};
 ghost use Rattle.graph_words.specs.Class.{class};
-ghost use Rattle.edge_index.specs.Lists.{live};
+ghost use Rattle.live_graph.specs.Live.{live};
 ghost use Rattle.type_core.specs.TypeTable.{KeepsTypes};
 ghost use Rattle.ctx_table.specs.Context.{Context};
 ghost use Rattle.ctx_table.specs.CtxTable.{KeepsContexts};
@@ -23,9 +23,10 @@ use crate::looking::Walk;
 use crate::settling::settle;
 use ctx_table::CtxTable;
 use graph_words::Steps;
-use grove_edits::{Edge, Vertex};
+use grove_edits::Vertex;
 use grove_sorts::position_count;
 use judging::{Given, demand_next};
+use live_graph::LiveEdge;
 use mark_step::Demand;
 use mark_store::Record;
 use std::alloc::Global;
@@ -60,29 +61,30 @@ impl<'t> Walk<'t> {
         types: &mut TypeTable,
         ctxs: &mut CtxTable,
         stack: &mut Vec<Frame<'t>>,
-        frame: &Frame<'t>,
-        edge: &'t Edge,
+        frame: Frame<'t>,
+        edge: &LiveEdge<'t>,
         steps: &mut Steps<L>,
     ) -> Result<(), NoMemory>
         requires records { AreRecordsOf types.old ctxs.old self.now.records.now }
-        requires frames { AreFramesOf types.old ctxs.old (frame.now ∷ reverse stack.old.items) }
-        requires first { slice_get frame.now.left.now 0 ≡ Some edge.now }
-        requires found { IsFound (live self.now.parents.now) types.old ctxs.old self.now.records.now (on self.now.whole self.now.passed.now) frame.now.demand edge.now None }
+        requires frames { AreFramesOf types.old ctxs.old (frame ∷ reverse stack.old.items) }
+        requires first { slice_get frame.left 0 ≡ Some edge.now }
+        requires found { IsFound (live self.now.graph.now) types.old ctxs.old self.now.records.now (on self.now.whole self.now.passed.now) frame.demand edge.now.target None }
         ensures way { (from : Start) (before : List (Vertex × Kept)) (made : List (Vertex × Record)) → AreMadeOf types.old ctxs.old made
-            → IsUnderWay (live self.now.parents.now) types.old ctxs.old self.now.records.now (on self.now.whole self.now.passed.now) from before (frame.now ∷ reverse stack.old.items) made
-            → OnOk result (IsUnderWay (live self.now.parents.now) types.new ctxs.new self.now.records.now (on self.now.whole self.now.passed.now) from before (reverse stack.new.items) made) }
+            → IsUnderWay (live self.now.graph.now) types.old ctxs.old self.now.records.now (on self.now.whole self.now.passed.now) from before (frame.entry ∷ reverse stack.old.items) made
+            → OnOk result (IsUnderWay (live self.now.graph.now) types.new ctxs.new self.now.records.now (on self.now.whole self.now.passed.now) from before (reverse stack.new.items) made) }
         ensures frames { OnOk result (AreFramesOf types.new ctxs.new (reverse stack.new.items)) }
-        ensures counted { (start paid count : ℕ) (made : List (Vertex × Record)) → steps.old ≤ count + 3 → AreCounted (live self.now.parents.now) start paid count (frame.now ∷ reverse stack.old.items) made
-            → OnOk result (AreCounted (live self.now.parents.now) start paid steps.new (reverse stack.new.items) made) }
+        ensures counted { (start paid count : ℕ) (made : List (Vertex × Record)) → steps.old ≤ count + 3 → AreCounted (live self.now.graph.now) start paid count (frame.entry ∷ reverse stack.old.items) made
+            → OnOk result (AreCounted (live self.now.graph.now) start paid steps.new (reverse stack.new.items) made) }
         ensures paid { (from : Start) (before : List (Vertex × Kept)) (made : List (Vertex × Record)) (start paid count : ℕ) → steps.old ≤ count + 3
-            → IsUnderWay (live self.now.parents.now) types.old ctxs.old self.now.records.now (on self.now.whole self.now.passed.now) from before (frame.now ∷ reverse stack.old.items) made
-            → AreCounted (live self.now.parents.now) start paid count (frame.now ∷ reverse stack.old.items) made
-            → IsPaidFor (live self.now.parents.now) types.old ctxs.old self.now.records.now (on self.now.whole self.now.passed.now) from before start paid steps.new }
+            → IsUnderWay (live self.now.graph.now) types.old ctxs.old self.now.records.now (on self.now.whole self.now.passed.now) from before (frame.entry ∷ reverse stack.old.items) made
+            → AreCounted (live self.now.graph.now) start paid count (frame.entry ∷ reverse stack.old.items) made
+            → IsPaidFor (live self.now.graph.now) types.old ctxs.old self.now.records.now (on self.now.whole self.now.passed.now) from before start paid steps.new }
         ensures types { KeepsTypes types.old types.new }
         ensures contexts { KeepsContexts ctxs.old ctxs.new }
     {
-        stack.push(*frame)?;
-        let child = self.begin(alloc, types, ctxs, &edge.target, frame.demand, steps)?;
+        let demand = frame.demand;
+        stack.push(frame)?;
+        let child = self.begin(alloc, types, ctxs, edge.target(), demand, steps)?;
         stack.push(child)?;
         Ok(())
     }
@@ -94,29 +96,29 @@ impl<'t> Walk<'t> {
         types: &mut TypeTable,
         ctxs: &mut CtxTable,
         stack: &mut Vec<Frame<'t>>,
-        frame: &Frame<'t>,
-        edge: &'t Edge,
+        frame: Frame<'t>,
+        edge: &LiveEdge<'t>,
         steps: &mut Steps<L>,
     ) -> Result<(), NoMemory>
         requires records { AreRecordsOf types.old ctxs.old self.now.records.now }
-        requires frames { AreFramesOf types.old ctxs.old (frame.now ∷ reverse stack.old.items) }
-        requires first { slice_get frame.now.left.now 0 ≡ Some edge.now }
+        requires frames { AreFramesOf types.old ctxs.old (frame ∷ reverse stack.old.items) }
+        requires first { slice_get frame.left 0 ≡ Some edge.now }
         ensures way { (from : Start) (before : List (Vertex × Kept)) (made : List (Vertex × Record)) → AreMadeOf types.old ctxs.old made
-            → IsUnderWay (live self.now.parents.now) types.old ctxs.old self.now.records.now (on self.now.whole self.now.passed.now) from before (frame.now ∷ reverse stack.old.items) made
-            → OnOk result (IsUnderWay (live self.now.parents.now) types.new ctxs.new self.now.records.now (on self.now.whole self.now.passed.now) from before (reverse stack.new.items) made) }
+            → IsUnderWay (live self.now.graph.now) types.old ctxs.old self.now.records.now (on self.now.whole self.now.passed.now) from before (frame.entry ∷ reverse stack.old.items) made
+            → OnOk result (IsUnderWay (live self.now.graph.now) types.new ctxs.new self.now.records.now (on self.now.whole self.now.passed.now) from before (reverse stack.new.items) made) }
         ensures frames { OnOk result (AreFramesOf types.new ctxs.new (reverse stack.new.items)) }
-        ensures counted { (start paid : ℕ) (made : List (Vertex × Record)) → AreCounted (live self.now.parents.now) start paid steps.old (frame.now ∷ reverse stack.old.items) made
-            → OnOk result (AreCounted (live self.now.parents.now) start paid steps.new (reverse stack.new.items) made) }
+        ensures counted { (start paid : ℕ) (made : List (Vertex × Record)) → AreCounted (live self.now.graph.now) start paid steps.old (frame.entry ∷ reverse stack.old.items) made
+            → OnOk result (AreCounted (live self.now.graph.now) start paid steps.new (reverse stack.new.items) made) }
         ensures paid { (from : Start) (before : List (Vertex × Kept)) (made : List (Vertex × Record)) (start paid : ℕ)
-            → IsUnderWay (live self.now.parents.now) types.old ctxs.old self.now.records.now (on self.now.whole self.now.passed.now) from before (frame.now ∷ reverse stack.old.items) made
-            → AreCounted (live self.now.parents.now) start paid steps.old (frame.now ∷ reverse stack.old.items) made
-            → IsPaidFor (live self.now.parents.now) types.old ctxs.old self.now.records.now (on self.now.whole self.now.passed.now) from before start paid steps.new }
+            → IsUnderWay (live self.now.graph.now) types.old ctxs.old self.now.records.now (on self.now.whole self.now.passed.now) from before (frame.entry ∷ reverse stack.old.items) made
+            → AreCounted (live self.now.graph.now) start paid steps.old (frame.entry ∷ reverse stack.old.items) made
+            → IsPaidFor (live self.now.graph.now) types.old ctxs.old self.now.records.now (on self.now.whole self.now.passed.now) from before start paid steps.new }
         ensures types { KeepsTypes types.old types.new }
         ensures contexts { KeepsContexts ctxs.old ctxs.new }
     {
-        match self.look(types, ctxs, &frame.demand, edge, steps) {
+        match self.look(types, ctxs, &frame.demand, edge.target(), steps) {
             Some(given) => {
-                stack.push(*frame)?;
+                stack.push(frame)?;
                 hand_on(types, stack, given)
             }
             None => self.descend(alloc, types, ctxs, stack, frame, edge, steps),
@@ -137,24 +139,24 @@ impl<'t> Walk<'t> {
         requires frames { AreFramesOf types.old ctxs.old (reverse stack.old.items) }
         requires made { AreMadeOf types.old ctxs.old made.old.items }
         ensures way { (from : Start) (before : List (Vertex × Kept))
-            → IsUnderWay (live self.now.parents.now) types.old ctxs.old self.now.records.now (on self.now.whole self.now.passed.now) from before (reverse stack.old.items) made.old.items
-            → OnOk result (IsUnderWay (live self.now.parents.now) types.new ctxs.new self.now.records.now (on self.now.whole self.now.passed.now) from before (reverse stack.new.items) made.new.items) }
+            → IsUnderWay (live self.now.graph.now) types.old ctxs.old self.now.records.now (on self.now.whole self.now.passed.now) from before (reverse stack.old.items) made.old.items
+            → OnOk result (IsUnderWay (live self.now.graph.now) types.new ctxs.new self.now.records.now (on self.now.whole self.now.passed.now) from before (reverse stack.new.items) made.new.items) }
         ensures made { OnOk result (AreMadeOf types.new ctxs.new made.new.items) }
         ensures frames { OnOk result (AreFramesOf types.new ctxs.new (reverse stack.new.items)) }
-        ensures counted { (start paid : ℕ) → AreCounted (live self.now.parents.now) start paid steps.old (reverse stack.old.items) made.old.items
-            → OnOk result (AreCounted (live self.now.parents.now) start paid steps.new (reverse stack.new.items) made.new.items) }
+        ensures counted { (start paid : ℕ) → AreCounted (live self.now.graph.now) start paid steps.old (reverse stack.old.items) made.old.items
+            → OnOk result (AreCounted (live self.now.graph.now) start paid steps.new (reverse stack.new.items) made.new.items) }
         ensures paid { (from : Start) (before : List (Vertex × Kept)) (start paid : ℕ)
-            → IsUnderWay (live self.now.parents.now) types.old ctxs.old self.now.records.now (on self.now.whole self.now.passed.now) from before (reverse stack.old.items) made.old.items
-            → AreCounted (live self.now.parents.now) start paid steps.old (reverse stack.old.items) made.old.items
-            → IsPaidFor (live self.now.parents.now) types.old ctxs.old self.now.records.now (on self.now.whole self.now.passed.now) from before start paid steps.new }
+            → IsUnderWay (live self.now.graph.now) types.old ctxs.old self.now.records.now (on self.now.whole self.now.passed.now) from before (reverse stack.old.items) made.old.items
+            → AreCounted (live self.now.graph.now) start paid steps.old (reverse stack.old.items) made.old.items
+            → IsPaidFor (live self.now.graph.now) types.old ctxs.old self.now.records.now (on self.now.whole self.now.passed.now) from before start paid steps.new }
         ensures types { KeepsTypes types.old types.new }
         ensures contexts { KeepsContexts ctxs.old ctxs.new }
     {
         let Some(frame) = stack.pop() else {
             return Ok(());
         };
-        if let Some(edge) = frame.left.first() {
-            return self.take(alloc, types, ctxs, stack, &frame, edge, steps);
+        if let Some((edge, _)) = frame.left.split_first() {
+            return self.take(alloc, types, ctxs, stack, frame, &edge, steps);
         }
         if frame.state.next < position_count(frame.state.ctor) {
             stack.push(self.go_on(alloc, types, ctxs, &frame, steps)?)?;
@@ -180,12 +182,12 @@ impl<'t> Walk<'t> {
         requires records { AreRecordsOf types.old ctxs.old self.now.records.now }
         requires made { AreMadeOf types.old ctxs.old made.old.items }
         requires demand { IsDemandOf types.old ctxs.old demand }
-        ensures from { (d : Demanded) → IsStart (live self.now.parents.now) types.old ctxs.old demand (start_at start.now d)
-            → OnOk result (HasMadeFrom (live self.now.parents.now) types.new ctxs.new self.now.records.now (on self.now.whole self.now.passed.now) (start_at start.now d) made.old.items made.new.items) }
+        ensures from { (d : Demanded) → IsStart (live self.now.graph.now) types.old ctxs.old demand (start_at start.now d)
+            → OnOk result (HasMadeFrom (live self.now.graph.now) types.new ctxs.new self.now.records.now (on self.now.whole self.now.passed.now) (start_at start.now d) made.old.items made.new.items) }
         ensures made { OnOk result (AreMadeOf types.new ctxs.new made.new.items) }
-        ensures ticks { OnOk result (steps.new + 5 * weight_of (live self.now.parents.now) made.old.items ≤ steps.old + 5 * weight_of (live self.now.parents.now) made.new.items) }
-        ensures paid { (d : Demanded) → IsStart (live self.now.parents.now) types.old ctxs.old demand (start_at start.now d)
-            → IsWalkPaidFor (live self.now.parents.now) types.old ctxs.old self.now.records.now (on self.now.whole self.now.passed.now) (start_at start.now d) steps.old steps.new }
+        ensures ticks { OnOk result (steps.new + 5 * weight_of (live self.now.graph.now) made.old.items ≤ steps.old + 5 * weight_of (live self.now.graph.now) made.new.items) }
+        ensures paid { (d : Demanded) → IsStart (live self.now.graph.now) types.old ctxs.old demand (start_at start.now d)
+            → IsWalkPaidFor (live self.now.graph.now) types.old ctxs.old self.now.records.now (on self.now.whole self.now.passed.now) (start_at start.now d) steps.old steps.new }
         ensures types { KeepsTypes types.old types.new }
         ensures contexts { KeepsContexts ctxs.old ctxs.new }
     {
@@ -213,11 +215,11 @@ impl<'t> Walk<'t> {
     ) -> Result<(), NoMemory>
         requires records { AreRecordsOf types.old ctxs.old self.now.records.now }
         requires made { AreMadeOf types.old ctxs.old made.old.items }
-        requires heads { class (live self.now.parents.now) head.now ≡ Inner → ⊥ }
-        ensures tree { OnOk result (HasMadeTree (live self.now.parents.now) types.new ctxs.new self.now.records.now (on self.now.whole self.now.passed.now) head.now made.old.items made.new.items) }
+        requires heads { class (live self.now.graph.now) head.now ≡ Inner → ⊥ }
+        ensures tree { OnOk result (HasMadeTree (live self.now.graph.now) types.new ctxs.new self.now.records.now (on self.now.whole self.now.passed.now) head.now made.old.items made.new.items) }
         ensures made { OnOk result (AreMadeOf types.new ctxs.new made.new.items) }
-        ensures ticks { OnOk result (steps.new + 5 * weight_of (live self.now.parents.now) made.old.items ≤ steps.old + 5 * weight_of (live self.now.parents.now) made.new.items) }
-        ensures paid { IsTreePaidFor (live self.now.parents.now) types.old ctxs.old self.now.records.now (on self.now.whole self.now.passed.now) head.now steps.old steps.new }
+        ensures ticks { OnOk result (steps.new + 5 * weight_of (live self.now.graph.now) made.old.items ≤ steps.old + 5 * weight_of (live self.now.graph.now) made.new.items) }
+        ensures paid { IsTreePaidFor (live self.now.graph.now) types.old ctxs.old self.now.records.now (on self.now.whole self.now.passed.now) head.now steps.old steps.new }
         ensures types { KeepsTypes types.old types.new }
         ensures contexts { KeepsContexts ctxs.old ctxs.new }
     {

@@ -5,12 +5,12 @@ ghost use Rattle.grove_edits.specs.declared.edge.Edge.{Edge};
 ghost use Rattle.grove_edits.specs.declared.edit.Edit.{Edit};
 ghost use Rattle.grove_edits.specs.Edge.{IsWellFormed};
 ghost use Rattle.grove_edits.specs.Edit.{edit_edge};
-ghost use Rattle.grove_edits.specs.Graph.{graph};
+ghost use Rattle.grove_edits.specs.Graph.{graph as graph_of};
 ghost use Rattle.grove_edits.specs.Vertex.{is_same_vertex};
 ghost use Rattle.graph_words.specs.Walk.{walk};
 ghost use Rattle.graph_words.specs.Class.{is_cycle_root};
 ghost use Rattle.graph_words.specs.Whole.{AreLive};
-ghost use Rattle.edge_index.specs.Lists.{live};
+ghost use Rattle.live_graph.specs.Live.{live};
 ghost use Rattle.graph_words.specs.States.{state_in};
 ghost use Rattle.type_core.specs.TypeTable.{KeepsTypes};
 ghost use Rattle.ctx_table.specs.CtxTable.{KeepsContexts};
@@ -24,7 +24,6 @@ ghost use Rattle.mark_incremental.specs.Looking.{holds, on, AreRoots};
 ghost use Rattle.mark_incremental.specs.Walking.{AreMadeOf, HasMadeTrees};
 ghost use Rattle.mark_incremental.specs.Ticks.{AreTreesPaidFor};
 ghost use Rattle.mark_incremental.specs.Passing.{AreWalks};
-ghost use Rattle.mark_incremental.specs.Raising.{AreIndexed};
 ghost use Rattle.mark_incremental.specs.Standing.{StandFor, kept_in, records_in, put_in};
 ghost use Rattle.mark_incremental.specs.Applying.{HaveGrown, KeepMarksRoom, AreOld, WasBefore, WasRenewed, CanRenewBack};
 
@@ -36,13 +35,11 @@ use crate::passing::{Ends, passed_by, passed_with, walk_from_ends};
 use crate::putting::{make_room, old_records, put};
 use crate::rooting::{changed_root, set_root};
 use crate::walks_up::WalkUp;
-use child_index::ChildIndex;
-use graph_store::GraphStore;
 use graph_words::Steps;
 use grove_edits::{Edge, Vertex};
 use kept_records::whole_trees_renew_the_records;
 use mark_store::{Record, VertexMap};
-use parent_index::ParentIndex;
+use live_graph::LiveGraph;
 use std::sync::ledger::Ledger;
 use text_parts::NoMemory;
 
@@ -54,27 +51,24 @@ impl Marks {
         whole: bool,
         vertices: &[Vertex],
         passed: &VertexMap<bool>,
-        children: &ChildIndex,
-        parents: &ParentIndex,
+        graph: &LiveGraph,
         steps: &mut Steps<L>,
     ) -> Result<Vec<(Vertex, Record)>, NoMemory>
-        requires same { live children.now ≡ live parents.now }
-        requires rooted { AreRoots (live parents.now) self.old.roots }
-        requires well_formed { AllByRecursion IsWellFormed (live parents.now) }
-        ensures trees { IfOk result (λ made. HasMadeTrees (live parents.now) self.new.types self.new.contexts self.old.records (on whole passed.now)
-            (filter (λ v. not (is_inner (live parents.now) v)) vertices.now) made.items) }
+                requires rooted { AreRoots (live graph.now) self.old.roots }
+        requires well_formed { AllByRecursion IsWellFormed (live graph.now) }
+        ensures trees { IfOk result (λ made. HasMadeTrees (live graph.now) self.new.types self.new.contexts self.old.records (on whole passed.now)
+            (filter (λ v. not (is_inner (live graph.now) v)) vertices.now) made.items) }
         ensures numbers { IfOk result (λ made. AreMadeOf self.new.types self.new.contexts made.items) }
-        ensures ticks { (most : ℕ) → ((before after : ℕ) → AreTreesPaidFor (live parents.now) self.old.types self.old.contexts self.old.records (on whole passed.now)
-            (filter (λ v. not (is_inner (live parents.now) v)) vertices.now) before after → after ≤ before + most) → steps.new ≤ steps.old + 3 * length vertices.now + most }
+        ensures ticks { (most : ℕ) → ((before after : ℕ) → AreTreesPaidFor (live graph.now) self.old.types self.old.contexts self.old.records (on whole passed.now)
+            (filter (λ v. not (is_inner (live graph.now) v)) vertices.now) before after → after ≤ before + most) → steps.new ≤ steps.old + 3 * length vertices.now + most }
         ensures types { KeepsTypes self.old.types self.new.types }
         ensures contexts { KeepsContexts self.old.contexts self.new.contexts }
         ensures records { self.new.records ≡ self.old.records }
         ensures roots { self.new.roots ≡ self.old.roots }
     {
-        let heads = heads_among(self.alloc, vertices, parents, &self.roots, steps)?;
+        let heads = heads_among(self.alloc, vertices, graph, &self.roots, steps)?;
         let walk = Walk {
-            children,
-            parents,
+            graph,
             roots: &self.roots,
             records: &self.records,
             whole,
@@ -115,21 +109,19 @@ impl Marks {
         &mut self,
         before: &Ends,
         after: &Ends,
-        children: &ChildIndex,
-        parents: &ParentIndex,
+        graph: &LiveGraph,
         steps: &mut Steps<L>,
     ) -> Result<Vec<(Vertex, Option<Record>)>, NoMemory>
-        requires same { live children.now ≡ live parents.now }
-        requires rooted { AreRoots (live parents.now) self.old.roots }
-        requires well_formed { AllByRecursion IsWellFormed (live parents.now) }
-        ensures renewed { (edits : List Edit) (edit : Edit) (old : List Edge) → AreLive (graph edits) old → AreLive (graph (edit ∷ edits)) (live parents.now)
-            → CyclesStay old (live parents.now) → AreKept (graph edits) old (records_in self.old)
-            → AreWalks old (edit_edge edit) before.now → AreWalks (live parents.now) (edit_edge edit) after.now
-            → OnOk result (AreKept (graph (edit ∷ edits)) (live parents.now) (records_in self.new)) }
-        ensures ticks { (edits : List Edit) (edit : Edit) (old : List Edge) → AreLive (graph edits) old → AreLive (graph (edit ∷ edits)) (live parents.now)
-            → CyclesStay old (live parents.now) → AreKept (graph edits) old (records_in self.old)
-            → AreWalks old (edit_edge edit) before.now → AreWalks (live parents.now) (edit_edge edit) after.now
-            → (near : List Vertex) → AreNear (edit_edge edit) old (live parents.now) near → steps.new ≤ steps.old + 8 * near_size old (live parents.now) near }
+                requires rooted { AreRoots (live graph.now) self.old.roots }
+        requires well_formed { AllByRecursion IsWellFormed (live graph.now) }
+        ensures renewed { (edits : List Edit) (edit : Edit) (old : List Edge) → AreLive (graph edits) old → AreLive (graph_of (edit ∷ edits)) (live graph.now)
+            → CyclesStay old (live graph.now) → AreKept (graph edits) old (records_in self.old)
+            → AreWalks old (edit_edge edit) before.now → AreWalks (live graph.now) (edit_edge edit) after.now
+            → OnOk result (AreKept (graph_of (edit ∷ edits)) (live graph.now) (records_in self.new)) }
+        ensures ticks { (edits : List Edit) (edit : Edit) (old : List Edge) → AreLive (graph edits) old → AreLive (graph_of (edit ∷ edits)) (live graph.now)
+            → CyclesStay old (live graph.now) → AreKept (graph edits) old (records_in self.old)
+            → AreWalks old (edit_edge edit) before.now → AreWalks (live graph.now) (edit_edge edit) after.now
+            → (near : List Vertex) → AreNear (edit_edge edit) old (live graph.now) near → steps.new ≤ steps.old + 8 * near_size old (live graph.now) near }
         ensures old { IfOk result (λ old. AreOld self.new.types self.new.contexts old.items self.old.records self.new.records) }
         ensures numbers { OnOk result (AreRecordsOf self.new.types self.new.contexts self.new.records) }
         ensures unchanged { OnErr result ((v : Vertex) → kept_in self.new v ≡ kept_in self.old v) }
@@ -143,8 +135,7 @@ impl Marks {
             false,
             &passed.vertices,
             &passed.set,
-            children,
-            parents,
+            graph,
             steps,
         )?;
         self.replace(made)
@@ -158,21 +149,19 @@ impl Marks {
         target: &Vertex,
         root: &Vertex,
         source: &WalkUp,
-        children: &ChildIndex,
-        parents: &ParentIndex,
+        graph: &LiveGraph,
         steps: &mut Steps<L>,
     ) -> Result<Vec<(Vertex, Option<Record>)>, NoMemory>
-        requires same { live children.now ≡ live parents.now }
-        requires rooted { AreRoots (live parents.now) self.old.roots }
-        requires well_formed { AllByRecursion IsWellFormed (live parents.now) }
-        ensures renewed { (edits : List Edit) (edit : Edit) (old : List Edge) → AreLive (graph edits) old → AreLive (graph (edit ∷ edits)) (live parents.now)
-            → (edit_edge edit).target ≡ target.now → source.now.vertices.items ≡ walk (live parents.now) (edit_edge edit).source
-            → IsOnlyRoot old (live parents.now) root.now → AreKept (graph edits) old (records_in self.old)
-            → OnOk result (AreKept (graph (edit ∷ edits)) (live parents.now) (records_in self.new)) }
-        ensures ticks { (edits : List Edit) (edit : Edit) (old : List Edge) → AreLive (graph edits) old → AreLive (graph (edit ∷ edits)) (live parents.now)
-            → (edit_edge edit).target ≡ target.now → source.now.vertices.items ≡ walk (live parents.now) (edit_edge edit).source
-            → IsOnlyRoot old (live parents.now) root.now
-            → (size : ℕ) → IsSize (edit_edge edit) (graph edits) (graph (edit ∷ edits)) size → steps.new ≤ steps.old + 16 * size + 9 }
+                requires rooted { AreRoots (live graph.now) self.old.roots }
+        requires well_formed { AllByRecursion IsWellFormed (live graph.now) }
+        ensures renewed { (edits : List Edit) (edit : Edit) (old : List Edge) → AreLive (graph edits) old → AreLive (graph_of (edit ∷ edits)) (live graph.now)
+            → (edit_edge edit).target ≡ target.now → source.now.vertices.items ≡ walk (live graph.now) (edit_edge edit).source
+            → IsOnlyRoot old (live graph.now) root.now → AreKept (graph edits) old (records_in self.old)
+            → OnOk result (AreKept (graph_of (edit ∷ edits)) (live graph.now) (records_in self.new)) }
+        ensures ticks { (edits : List Edit) (edit : Edit) (old : List Edge) → AreLive (graph edits) old → AreLive (graph_of (edit ∷ edits)) (live graph.now)
+            → (edit_edge edit).target ≡ target.now → source.now.vertices.items ≡ walk (live graph.now) (edit_edge edit).source
+            → IsOnlyRoot old (live graph.now) root.now
+            → (size : ℕ) → IsSize (edit_edge edit) (graph edits) (graph_of (edit ∷ edits)) size → steps.new ≤ steps.old + 16 * size + 9 }
         ensures old { IfOk result (λ old. AreOld self.new.types self.new.contexts old.items self.old.records self.new.records) }
         ensures numbers { OnOk result (AreRecordsOf self.new.types self.new.contexts self.new.records) }
         ensures unchanged { OnErr result ((v : Vertex) → kept_in self.new v ≡ kept_in self.old v) }
@@ -187,8 +176,7 @@ impl Marks {
             true,
             &passed.vertices,
             &passed.set,
-            children,
-            parents,
+            graph,
             steps,
         )?;
         self.replace(made)
@@ -201,23 +189,21 @@ impl Marks {
         root: &Vertex,
         is_root: bool,
         source: &WalkUp,
-        children: &ChildIndex,
-        parents: &ParentIndex,
+        graph: &LiveGraph,
         steps: &mut Steps<L>,
     ) -> Result<OldRecords, NoMemory>
-        requires same { live children.now ≡ live parents.now }
-        requires rooted { (v : Vertex) → is_cycle_root (live parents.now) v ≡ (if is_same_vertex root.now v then is_root else holds self.old.roots v) }
+                requires rooted { (v : Vertex) → is_cycle_root (live graph.now) v ≡ (if is_same_vertex root.now v then is_root else holds self.old.roots v) }
         requires was { holds self.old.roots root.now ≡ not is_root }
-        requires well_formed { AllByRecursion IsWellFormed (live parents.now) }
-        ensures renewed { (edits : List Edit) (edit : Edit) (old : List Edge) → AreLive (graph edits) old → AreLive (graph (edit ∷ edits)) (live parents.now)
-            → (edit_edge edit).target ≡ target.now → source.now.vertices.items ≡ walk (live parents.now) (edit_edge edit).source
-            → IsOnlyRoot old (live parents.now) root.now → AreKept (graph edits) old (records_in self.old)
-            → OnOk result (AreKept (graph (edit ∷ edits)) (live parents.now) (records_in self.new)) }
-        ensures ticks { (edits : List Edit) (edit : Edit) (old : List Edge) → AreLive (graph edits) old → AreLive (graph (edit ∷ edits)) (live parents.now)
-            → (edit_edge edit).target ≡ target.now → source.now.vertices.items ≡ walk (live parents.now) (edit_edge edit).source
-            → IsOnlyRoot old (live parents.now) root.now
-            → (size : ℕ) → IsSize (edit_edge edit) (graph edits) (graph (edit ∷ edits)) size → steps.new ≤ steps.old + 16 * size + 9 }
-        ensures rooted { OnOk result (AreRoots (live parents.now) self.new.roots) }
+        requires well_formed { AllByRecursion IsWellFormed (live graph.now) }
+        ensures renewed { (edits : List Edit) (edit : Edit) (old : List Edge) → AreLive (graph edits) old → AreLive (graph_of (edit ∷ edits)) (live graph.now)
+            → (edit_edge edit).target ≡ target.now → source.now.vertices.items ≡ walk (live graph.now) (edit_edge edit).source
+            → IsOnlyRoot old (live graph.now) root.now → AreKept (graph edits) old (records_in self.old)
+            → OnOk result (AreKept (graph_of (edit ∷ edits)) (live graph.now) (records_in self.new)) }
+        ensures ticks { (edits : List Edit) (edit : Edit) (old : List Edge) → AreLive (graph edits) old → AreLive (graph_of (edit ∷ edits)) (live graph.now)
+            → (edit_edge edit).target ≡ target.now → source.now.vertices.items ≡ walk (live graph.now) (edit_edge edit).source
+            → IsOnlyRoot old (live graph.now) root.now
+            → (size : ℕ) → IsSize (edit_edge edit) (graph edits) (graph_of (edit ∷ edits)) size → steps.new ≤ steps.old + 16 * size + 9 }
+        ensures rooted { OnOk result (AreRoots (live graph.now) self.new.roots) }
         ensures old { IfOk result (λ old. WasRenewed old self.old self.new) }
         ensures can_put_back { IfOk result (λ old. CanRenewBack old self.new) }
         ensures numbers { OnOk result (AreRecordsOf self.new.types self.new.contexts self.new.records) }
@@ -226,7 +212,7 @@ impl Marks {
     {
         self.roots.reserve_for(&[*root])?;
         set_root(&mut self.roots, root, is_root);
-        match self.renew_whole(target, root, source, children, parents, steps) {
+        match self.renew_whole(target, root, source, graph, steps) {
             Ok(records) => Ok(OldRecords {
                 records,
                 root: Some((*root, !is_root)),
@@ -245,22 +231,20 @@ impl Marks {
         &mut self,
         edge: &Edge,
         before: &Ends,
-        store: &GraphStore,
-        children: &ChildIndex,
-        parents: &ParentIndex,
+        graph: &LiveGraph,
         steps: &mut Steps<L>,
     ) -> Result<OldRecords, NoMemory>
-        requires indexed { AreIndexed store.now children.now parents.now }
-        requires before { WasBefore edge.now (state_in store.now) self.old before.now }
-        ensures stand { OnOk result (StandFor (state_in store.now) self.new) }
-        ensures ticks { (was : WasBefore edge.now (state_in store.now) self.old before.now) → (size : ℕ) → IsSize edge.now (graph was.edits) (graph (was.edit ∷ was.edits)) size
+        requires live { AreLive (state_in graph.now) (live graph.now) }
+        requires before { WasBefore edge.now (state_in graph.now) self.old before.now }
+        ensures stand { OnOk result (StandFor (state_in graph.now) self.new) }
+        ensures ticks { (was : WasBefore edge.now (state_in graph.now) self.old before.now) → (size : ℕ) → IsSize edge.now (graph was.edits) (graph_of (was.edit ∷ was.edits)) size
             → steps.new ≤ steps.old + 28 * size + 15 }
         ensures old { IfOk result (λ old. WasRenewed old self.old self.new) }
         ensures can_put_back { IfOk result (λ old. CanRenewBack old self.new) }
         ensures grown { OnErr result (HaveGrown self.old self.new) }
         ensures room_stays { KeepMarksRoom self.old self.new }
     {
-        let after = walk_from_ends(self.alloc, self.seed, edge, parents, steps)?;
+        let after = walk_from_ends(self.alloc, self.seed, edge, graph, steps)?;
         if let Some(changed) = changed_root(&edge.target, before, &after) {
             let (root, is_root) = changed;
             return self.renew_with_root(
@@ -268,12 +252,11 @@ impl Marks {
                 &root,
                 is_root,
                 &after.source,
-                children,
-                parents,
+                graph,
                 steps,
             );
         }
-        let records = self.renew_near(before, &after, children, parents, steps)?;
+        let records = self.renew_near(before, &after, graph, steps)?;
         Ok(OldRecords {
             records,
             root: None,

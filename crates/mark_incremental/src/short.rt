@@ -2,11 +2,12 @@ ghost use Rattle.std.specs.Prelude.{◌≡◌, ◌+◌, ◌*◌, ◌≤◌, ◌�
 ghost use Rattle.std.specs.List.{AllByRecursion};
 ghost use Rattle.grove_edits.specs.declared.vertex.Vertex.{Vertex};
 ghost use Rattle.grove_edits.specs.Edge.{IsWellFormed};
-ghost use Rattle.grove_edits.specs.Graph.{graph};
+ghost use Rattle.grove_edits.specs.Graph.{graph as graph_of};
 ghost use Rattle.graph_words.specs.declared.class.Class.TheVariants.{Inner};
 ghost use Rattle.graph_words.specs.Class.{class};
 ghost use Rattle.mark_store.specs.declared.record.Record.{Record};
-ghost use Rattle.edge_index.specs.Lists.{live};
+ghost use Rattle.graph_words.specs.Whole.{AreLive};
+ghost use Rattle.live_graph.specs.Live.{live};
 ghost use Rattle.type_core.specs.Typ.{Typ};
 ghost use Rattle.type_core.specs.TypeTable.{KeepsTypes};
 ghost use Rattle.ctx_table.specs.CtxTable.{KeepsContexts};
@@ -21,7 +22,6 @@ ghost use Rattle.mark_incremental.specs.Looking.{on, AreRoots};
 ghost use Rattle.mark_incremental.specs.Walking.{start_at, IsStart, AreMadeOf, ReadsAs};
 ghost use Rattle.graph_words.specs.States.{state_in};
 ghost use Rattle.kept_records.specs.Size.{IsSize};
-ghost use Rattle.mark_incremental.specs.Raising.{AreIndexed};
 ghost use Rattle.mark_incremental.specs.Standing.{StandFor, kept_in, records_in};
 ghost use Rattle.mark_incremental.specs.Applying.{KeepMarksRoom, AreOld, HaveGrown, WasRenewed, CanRenewBack};
 ghost use Rattle.mark_incremental.specs.ShortWalks.{IsDemandThere, EndsWithType, IsCameOrSource, IsSeenByOne, StoodBefore, HasMadeAlone, IsAlonePaidFor, HasMadeBoth, AreBothPaidFor};
@@ -32,15 +32,13 @@ use crate::conflict::demand_at_conflict;
 use crate::looking::{Walk, is_demanded, is_inner};
 use crate::marks::Marks;
 use crate::way::{Way, judged_with, way_up};
-use child_index::ChildIndex;
 use ctx_table::CtxTable;
-use graph_store::GraphStore;
 use graph_words::{Few, ParentOf, Steps};
 use grove_edits::{Edge, Vertex, is_same_vertex};
 use grove_sorts::{Sort, sort_of};
 use mark_step::{Demand, Mode};
 use mark_store::{MarkStore, Record, VertexMap};
-use parent_index::ParentIndex;
+use live_graph::LiveGraph;
 use std::alloc::Global;
 use std::sync::ledger::Ledger;
 use text_parts::NoMemory;
@@ -101,14 +99,14 @@ fn may_end<L: Ledger>(
     roots: &VertexMap<bool>,
     start: &Vertex,
     made: &[(Vertex, Record)],
-    parents: &ParentIndex,
+    graph: &LiveGraph,
     steps: &mut Steps<L>,
 ) -> bool
-    requires { AreRoots (live parents.now) roots.now }
-    ensures ends { IsTrue result → class (live parents.now) start.now ≡ Inner → EndsWithType records.now start.now made.now }
+    requires { AreRoots (live graph.now) roots.now }
+    ensures ends { IsTrue result → class (live graph.now) start.now ≡ Inner → EndsWithType records.now start.now made.now }
     ensures ticks { steps.new ≤ steps.old + 3 }
 {
-    if !is_inner(start, parents, roots, steps) {
+    if !is_inner(start, graph, roots, steps) {
         return true;
     }
     type_stays(records, start, made)
@@ -146,9 +144,9 @@ impl<'t> Walk<'t> {
         steps: &mut Steps<L>,
     ) -> Result<Vec<(Vertex, Record)>, NoMemory>
         requires records { AreRecordsOf types.old ctxs.old self.now.records.now }
-        ensures alone { IfOk result (λ made. HasMadeAlone (live self.now.parents.now) types.new ctxs.new self.now.records.now (on self.now.whole self.now.passed.now) target.now start.now made.items) }
+        ensures alone { IfOk result (λ made. HasMadeAlone (live self.now.graph.now) types.new ctxs.new self.now.records.now (on self.now.whole self.now.passed.now) target.now start.now made.items) }
         ensures made { IfOk result (λ made. AreMadeOf types.new ctxs.new made.items) }
-        ensures paid { IsAlonePaidFor (live self.now.parents.now) types.old ctxs.old self.now.records.now (on self.now.whole self.now.passed.now) target.now start.now steps.old steps.new }
+        ensures paid { IsAlonePaidFor (live self.now.graph.now) types.old ctxs.old self.now.records.now (on self.now.whole self.now.passed.now) target.now start.now steps.old steps.new }
         ensures types { KeepsTypes types.old types.new }
         ensures contexts { KeepsContexts ctxs.old ctxs.new }
     {
@@ -156,7 +154,7 @@ impl<'t> Walk<'t> {
         if is_same_vertex(target, start) {
             return Ok(made);
         }
-        if is_inner(target, self.parents, self.roots, steps) {
+        if is_inner(target, self.graph, self.roots, steps) {
             return Ok(made);
         }
         if self.is_left(types, ctxs, target) {
@@ -180,11 +178,11 @@ impl<'t> Walk<'t> {
     ) -> Result<Vec<(Vertex, Record)>, NoMemory>
         requires records { AreRecordsOf types.old ctxs.old self.now.records.now }
         requires demand { IsDemandOf types.old ctxs.old demand }
-        ensures both { (d : Demanded) → IsStart (live self.now.parents.now) types.old ctxs.old demand (start_at start.now d)
-            → IfOk result (λ made. HasMadeBoth (live self.now.parents.now) types.new ctxs.new self.now.records.now (on self.now.whole self.now.passed.now) target.now (start_at start.now d) made.items) }
+        ensures both { (d : Demanded) → IsStart (live self.now.graph.now) types.old ctxs.old demand (start_at start.now d)
+            → IfOk result (λ made. HasMadeBoth (live self.now.graph.now) types.new ctxs.new self.now.records.now (on self.now.whole self.now.passed.now) target.now (start_at start.now d) made.items) }
         ensures made { IfOk result (λ made. AreMadeOf types.new ctxs.new made.items) }
-        ensures paid { (d : Demanded) → IsStart (live self.now.parents.now) types.old ctxs.old demand (start_at start.now d)
-            → AreBothPaidFor (live self.now.parents.now) types.old ctxs.old self.now.records.now (on self.now.whole self.now.passed.now) target.now (start_at start.now d) steps.old steps.new }
+        ensures paid { (d : Demanded) → IsStart (live self.now.graph.now) types.old ctxs.old demand (start_at start.now d)
+            → AreBothPaidFor (live self.now.graph.now) types.old ctxs.old self.now.records.now (on self.now.whole self.now.passed.now) target.now (start_at start.now d) steps.old steps.new }
         ensures types { KeepsTypes types.old types.new }
         ensures contexts { KeepsContexts ctxs.old ctxs.new }
     {
@@ -212,27 +210,24 @@ impl Marks {
         target: &Vertex,
         start: &Vertex,
         demand: Demand,
-        children: &ChildIndex,
-        parents: &ParentIndex,
+        graph: &LiveGraph,
         steps: &mut Steps<L>,
     ) -> Result<Vec<(Vertex, Record)>, NoMemory>
-        requires same { live children.now ≡ live parents.now }
-        requires rooted { AreRoots (live parents.now) self.old.roots }
-        requires well_formed { AllByRecursion IsWellFormed (live parents.now) }
+                requires rooted { AreRoots (live graph.now) self.old.roots }
+        requires well_formed { AllByRecursion IsWellFormed (live graph.now) }
         requires demand { IsDemandOf self.old.types self.old.contexts demand }
-        ensures both { (d : Demanded) → IsStart (live parents.now) self.old.types self.old.contexts demand (start_at start.now d)
-            → IfOk result (λ made. HasMadeBoth (live parents.now) self.new.types self.new.contexts self.old.records (on false judged.now) target.now (start_at start.now d) made.items) }
+        ensures both { (d : Demanded) → IsStart (live graph.now) self.old.types self.old.contexts demand (start_at start.now d)
+            → IfOk result (λ made. HasMadeBoth (live graph.now) self.new.types self.new.contexts self.old.records (on false judged.now) target.now (start_at start.now d) made.items) }
         ensures numbers { IfOk result (λ made. AreMadeOf self.new.types self.new.contexts made.items) }
-        ensures paid { (d : Demanded) → IsStart (live parents.now) self.old.types self.old.contexts demand (start_at start.now d)
-            → AreBothPaidFor (live parents.now) self.old.types self.old.contexts self.old.records (on false judged.now) target.now (start_at start.now d) steps.old steps.new }
+        ensures paid { (d : Demanded) → IsStart (live graph.now) self.old.types self.old.contexts demand (start_at start.now d)
+            → AreBothPaidFor (live graph.now) self.old.types self.old.contexts self.old.records (on false judged.now) target.now (start_at start.now d) steps.old steps.new }
         ensures types { KeepsTypes self.old.types self.new.types }
         ensures contexts { KeepsContexts self.old.contexts self.new.contexts }
         ensures records { self.new.records ≡ self.old.records }
         ensures roots { self.new.roots ≡ self.old.roots }
     {
         let walk = Walk {
-            children,
-            parents,
+            graph,
             roots: &self.roots,
             records: &self.records,
             whole: false,
@@ -255,17 +250,15 @@ impl Marks {
         &mut self,
         edge: &Edge,
         way: &Way,
-        children: &ChildIndex,
-        parents: &ParentIndex,
+        graph: &LiveGraph,
         steps: &mut Steps<L>,
     ) -> Result<Option<Vec<(Vertex, Option<Record>)>>, NoMemory>
-        requires same { live children.now ≡ live parents.now }
-        requires rooted { AreRoots (live parents.now) self.old.roots }
-        requires well_formed { AllByRecursion IsWellFormed (live parents.now) }
-        ensures renewed { (seen : IsSeenByOne edge.now (live parents.now) self.old) → LeadsUp (live parents.now) edge.now.source way.now.vertices.items way.now.top
-            → IfOk result (λ r. IfSome r (λ old. AreKept (graph (seen.edit ∷ seen.edits)) (live parents.now) (records_in self.new))) }
-        ensures ticks { (seen : IsSeenByOne edge.now (live parents.now) self.old) → LeadsUp (live parents.now) edge.now.source way.now.vertices.items way.now.top
-            → (near : List Vertex) → AreNear edge.now seen.old (live parents.now) near → steps.new ≤ steps.old + 5 * near_size seen.old (live parents.now) near + 6 }
+                requires rooted { AreRoots (live graph.now) self.old.roots }
+        requires well_formed { AllByRecursion IsWellFormed (live graph.now) }
+        ensures renewed { (seen : IsSeenByOne edge.now (live graph.now) self.old) → LeadsUp (live graph.now) edge.now.source way.now.vertices.items way.now.top
+            → IfOk result (λ r. IfSome r (λ old. AreKept (graph_of (seen.edit ∷ seen.edits)) (live graph.now) (records_in self.new))) }
+        ensures ticks { (seen : IsSeenByOne edge.now (live graph.now) self.old) → LeadsUp (live graph.now) edge.now.source way.now.vertices.items way.now.top
+            → (near : List Vertex) → AreNear edge.now seen.old (live graph.now) near → steps.new ≤ steps.old + 5 * near_size seen.old (live graph.now) near + 6 }
         ensures old { IfOk result (λ r. IfSome r (λ old. AreOld self.new.types self.new.contexts old.items self.old.records self.new.records)) }
         ensures numbers { OnOk result (AreRecordsOf self.new.types self.new.contexts self.new.records) }
         ensures nothing { IfOk result (λ r. r ≡ None → (v : Vertex) → kept_in self.new v ≡ kept_in self.old v) }
@@ -285,11 +278,10 @@ impl Marks {
             &edge.target,
             &way.top,
             demand,
-            children,
-            parents,
+            graph,
             steps,
         )?;
-        if !may_end(&self.records, &self.roots, &way.top, &made, parents, steps) {
+        if !may_end(&self.records, &self.roots, &way.top, &made, graph, steps) {
             return Ok(None);
         }
         Ok(Some(self.replace(made)?))
@@ -300,17 +292,15 @@ impl Marks {
         &mut self,
         edge: &Edge,
         most: u64,
-        children: &ChildIndex,
-        parents: &ParentIndex,
+        graph: &LiveGraph,
         steps: &mut Steps<L>,
     ) -> Result<Option<Vec<(Vertex, Option<Record>)>>, NoMemory>
-        requires same { live children.now ≡ live parents.now }
-        requires rooted { AreRoots (live parents.now) self.old.roots }
-        requires well_formed { AllByRecursion IsWellFormed (live parents.now) }
-        ensures renewed { (seen : IsSeenByOne edge.now (live parents.now) self.old)
-            → IfOk result (λ r. IfSome r (λ old. AreKept (graph (seen.edit ∷ seen.edits)) (live parents.now) (records_in self.new))) }
-        ensures ticks { (seen : IsSeenByOne edge.now (live parents.now) self.old)
-            → (near : List Vertex) → AreNear edge.now seen.old (live parents.now) near → steps.new ≤ steps.old + 8 * near_size seen.old (live parents.now) near + 9 }
+                requires rooted { AreRoots (live graph.now) self.old.roots }
+        requires well_formed { AllByRecursion IsWellFormed (live graph.now) }
+        ensures renewed { (seen : IsSeenByOne edge.now (live graph.now) self.old)
+            → IfOk result (λ r. IfSome r (λ old. AreKept (graph_of (seen.edit ∷ seen.edits)) (live graph.now) (records_in self.new))) }
+        ensures ticks { (seen : IsSeenByOne edge.now (live graph.now) self.old)
+            → (near : List Vertex) → AreNear edge.now seen.old (live graph.now) near → steps.new ≤ steps.old + 8 * near_size seen.old (live graph.now) near + 9 }
         ensures old { IfOk result (λ r. IfSome r (λ old. AreOld self.new.types self.new.contexts old.items self.old.records self.new.records)) }
         ensures numbers { OnOk result (AreRecordsOf self.new.types self.new.contexts self.new.records) }
         ensures nothing { IfOk result (λ r. r ≡ None → (v : Vertex) → kept_in self.new v ≡ kept_in self.old v) }
@@ -320,8 +310,8 @@ impl Marks {
         ensures roots { self.new.roots ≡ self.old.roots }
         ensures room_stays { KeepMarksRoom self.old self.new }
     {
-        let way = way_up(self.alloc, &edge.source, most, parents, &self.roots, steps)?;
-        self.renew_below(edge, &way, children, parents, steps)
+        let way = way_up(self.alloc, &edge.source, most, graph, &self.roots, steps)?;
+        self.renew_below(edge, &way, graph, steps)
     }
 
     /// Renews the records after an edit of an edge by a walk down from its source, or from a vertex a few above it. None where the type
@@ -329,17 +319,15 @@ impl Marks {
     pub(crate) fn renew_short<L: Ledger>(
         &mut self,
         edge: &Edge,
-        children: &ChildIndex,
-        parents: &ParentIndex,
+        graph: &LiveGraph,
         steps: &mut Steps<L>,
     ) -> Result<Option<OldRecords>, NoMemory>
-        requires same { live children.now ≡ live parents.now }
-        requires rooted { AreRoots (live parents.now) self.old.roots }
-        requires well_formed { AllByRecursion IsWellFormed (live parents.now) }
-        ensures renewed { (seen : IsSeenByOne edge.now (live parents.now) self.old)
-            → IfOk result (λ r. IfSome r (λ old. AreKept (graph (seen.edit ∷ seen.edits)) (live parents.now) (records_in self.new))) }
-        ensures ticks { (seen : IsSeenByOne edge.now (live parents.now) self.old)
-            → (near : List Vertex) → AreNear edge.now seen.old (live parents.now) near → steps.new ≤ steps.old + 16 * near_size seen.old (live parents.now) near + 18 }
+                requires rooted { AreRoots (live graph.now) self.old.roots }
+        requires well_formed { AllByRecursion IsWellFormed (live graph.now) }
+        ensures renewed { (seen : IsSeenByOne edge.now (live graph.now) self.old)
+            → IfOk result (λ r. IfSome r (λ old. AreKept (graph_of (seen.edit ∷ seen.edits)) (live graph.now) (records_in self.new))) }
+        ensures ticks { (seen : IsSeenByOne edge.now (live graph.now) self.old)
+            → (near : List Vertex) → AreNear edge.now seen.old (live graph.now) near → steps.new ≤ steps.old + 16 * near_size seen.old (live graph.now) near + 18 }
         ensures old { IfOk result (λ r. IfSome r (λ old. WasRenewed old self.old self.new)) }
         ensures can_put_back { IfOk result (λ r. IfSome r (λ old. CanRenewBack old self.new)) }
         ensures numbers { OnOk result (AreRecordsOf self.new.types self.new.contexts self.new.records) }
@@ -348,13 +336,13 @@ impl Marks {
         ensures grown { OnErr result (HaveGrown self.old self.new) }
         ensures room_stays { KeepMarksRoom self.old self.new }
     {
-        if let Some(records) = self.renew_within(edge, 0, children, parents, steps)? {
+        if let Some(records) = self.renew_within(edge, 0, graph, steps)? {
             return Ok(Some(OldRecords {
                 records,
                 root: None,
             }));
         }
-        if let Some(records) = self.renew_within(edge, MOST_ABOVE, children, parents, steps)? {
+        if let Some(records) = self.renew_within(edge, MOST_ABOVE, graph, steps)? {
             return Ok(Some(OldRecords {
                 records,
                 root: None,
@@ -369,15 +357,13 @@ impl Marks {
         edge: &Edge,
         apart: bool,
         before: &Few,
-        store: &GraphStore,
-        children: &ChildIndex,
-        parents: &ParentIndex,
+        graph: &LiveGraph,
         steps: &mut Steps<L>,
     ) -> Result<Option<OldRecords>, NoMemory>
-        requires indexed { AreIndexed store.now children.now parents.now }
-        requires before { StoodBefore edge.now (state_in store.now) self.old before.now apart }
-        ensures stand { IfOk result (λ r. IfSome r (λ old. StandFor (state_in store.now) self.new)) }
-        ensures ticks { (was : StoodBefore edge.now (state_in store.now) self.old before.now apart) → (size : ℕ) → IsSize edge.now (graph was.edits) (graph (was.edit ∷ was.edits)) size
+        requires live { AreLive (state_in graph.now) (live graph.now) }
+        requires before { StoodBefore edge.now (state_in graph.now) self.old before.now apart }
+        ensures stand { IfOk result (λ r. IfSome r (λ old. StandFor (state_in graph.now) self.new)) }
+        ensures ticks { (was : StoodBefore edge.now (state_in graph.now) self.old before.now apart) → (size : ℕ) → IsSize edge.now (graph was.edits) (graph_of (was.edit ∷ was.edits)) size
             → steps.new ≤ steps.old + 17 * size + 22 }
         ensures old { IfOk result (λ r. IfSome r (λ old. WasRenewed old self.old self.new)) }
         ensures can_put_back { IfOk result (λ r. IfSome r (λ old. CanRenewBack old self.new)) }
@@ -385,7 +371,7 @@ impl Marks {
         ensures grown { OnErr result (HaveGrown self.old self.new) }
         ensures room_stays { KeepMarksRoom self.old self.new }
     {
-        let after = parents.few(&edge.target, steps);
+        let after = graph.few(&edge.target, steps);
         if !may_be_short(edge, apart, before, &after) {
             return Ok(None);
         }
@@ -394,11 +380,11 @@ impl Marks {
             edge,
             before,
             &after,
-            children,
+            graph,
             steps,
         ) {
-            return self.renew_at_conflict(edge, demand, children, parents, steps);
+            return self.renew_at_conflict(edge, demand, graph, steps);
         }
-        self.renew_short(edge, children, parents, steps)
+        self.renew_short(edge, graph, steps)
     }
 }

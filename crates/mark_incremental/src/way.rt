@@ -1,7 +1,7 @@
 ghost use Rattle.std.specs.Prelude.{◌≡◌, ◌||◌, ℕ, ◌+◌, ◌*◌, ◌≤◌, List, length, IfOk};
 ghost use Rattle.grove_edits.specs.declared.vertex.Vertex.{Vertex};
 ghost use Rattle.grove_edits.specs.Vertex.{is_same_vertex, stands_in};
-ghost use Rattle.edge_index.specs.Lists.{live};
+ghost use Rattle.live_graph.specs.Live.{live};
 ghost use Rattle.kept_records.specs.Short.{LeadsUp};
 ghost use Rattle.mark_incremental.specs.Looking.{holds, AreRoots};
 ghost use Rattle.mark_incremental.specs.ShortWalks.{IsAboveInner};
@@ -10,7 +10,7 @@ use crate::walks_up::{enter, holds};
 use graph_words::{Few, ParentOf, Steps};
 use grove_edits::Vertex;
 use mark_store::VertexMap;
-use parent_index::ParentIndex;
+use live_graph::LiveGraph;
 use seeded_hash::HashSeed;
 use std::alloc::Global;
 use std::sync::ledger::Ledger;
@@ -28,15 +28,15 @@ pub(crate) struct Way {
 /// The vertex above one, if that stands in the tree of another. It ticks at most three times.
 pub(crate) fn above_inner<L: Ledger>(
     vertex: &Vertex,
-    parents: &ParentIndex,
+    graph: &LiveGraph,
     roots: &VertexMap<bool>,
     steps: &mut Steps<L>,
 ) -> Option<Vertex>
-    requires { AreRoots (live parents.now) roots.now }
-    ensures above { IsAboveInner (live parents.now) vertex.now result }
+    requires { AreRoots (live graph.now) roots.now }
+    ensures above { IsAboveInner (live graph.now) vertex.now result }
     ensures ticks { steps.new ≤ steps.old + 3 }
 {
-    match parents.few(vertex, steps) {
+    match graph.few(vertex, steps) {
         Few::Zero | Few::More(_, _) => None,
         Few::One(edge) => {
             if holds(roots, vertex) {
@@ -52,18 +52,18 @@ pub(crate) fn way_up<L: Ledger>(
     alloc: Global,
     start: &Vertex,
     most: u64,
-    parents: &ParentIndex,
+    graph: &LiveGraph,
     roots: &VertexMap<bool>,
     steps: &mut Steps<L>,
 ) -> Result<Way, NoMemory>
-    requires { AreRoots (live parents.now) roots.now }
-    ensures leads { IfOk result (λ way. LeadsUp (live parents.now) start.now way.vertices.items way.top) }
-    ensures ticks { (longest : ℕ) → ((ws : List Vertex) (top : Vertex) → LeadsUp (live parents.now) start.now ws top → length ws ≤ longest) → steps.new ≤ steps.old + 3 * longest + 3 }
+    requires { AreRoots (live graph.now) roots.now }
+    ensures leads { IfOk result (λ way. LeadsUp (live graph.now) start.now way.vertices.items way.top) }
+    ensures ticks { (longest : ℕ) → ((ws : List Vertex) (top : Vertex) → LeadsUp (live graph.now) start.now ws top → length ws ≤ longest) → steps.new ≤ steps.old + 3 * longest + 3 }
 {
     let mut vertices = Vec::new(alloc);
     let mut top = *start;
     for _ in 0..most {
-        let Some(next) = above_inner(&top, parents, roots, steps) else {
+        let Some(next) = above_inner(&top, graph, roots, steps) else {
             return Ok(Way { vertices, top });
         };
         vertices.push(next)?;

@@ -4,7 +4,8 @@ pub mod StoredLists
 pub mod ListsOf
 pub mod PlansTold
 pub mod Contents
-pub mod News
-pub mod Numbers
 pub mod Keeping
 pub mod Showing
+pub mod OneRecord
+pub mod MarksSeen
+pub mod Costs

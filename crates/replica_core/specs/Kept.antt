@@ -1,9 +1,10 @@
--- How the graph of a replica and its opening edges are kept.
+-- How the graph of a replica, its opening edges and its marks are kept.
 use Rattle.std.specs.Prelude.{◌≤◌, Bool, List, length}
 use Rattle.grove_edits.specs.declared.edge.Edge.{Edge}
 use Rattle.grove_edits.specs.Graph.{graph, IsSame}
 use Rattle.graph_words.specs.Live.{IsInEdgeOrder}
 use Rattle.graph_words.specs.States.{Entries, state_in}
+use Rattle.mark_incremental.specs.Standing.{KeptMarks, StandFor}
 use Rattle.user_actions.specs.Flags.{opening_edges}
 use Rattle.user_actions.specs.Good.{AreOpening}
 use Rattle.replica_core.specs.Content.{Content}
@@ -27,3 +28,8 @@ flagged_content entries flags = content_of entries (opening_edges entries flags)
 pub record AreFlagsKept (entries : Entries) (flags : List Bool) : Type 0 where
   pub kept : IsKept entries (opening_edges entries flags)
   pub within : length flags ≤ length entries
+
+-- and the marks stand for the graph
+pub record AreMarksKept (entries : Entries) (flags : List Bool) (marks : KeptMarks) : Type 0 where
+  pub graph : AreFlagsKept entries flags
+  pub stand : StandFor (state_in entries) marks

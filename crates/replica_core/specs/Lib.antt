@@ -7,5 +7,4 @@ pub mod Step
 pub mod Cost
 pub mod Calls
 pub mod Shown
-pub mod Taking
 pub mod Kept

@@ -1,4 +1,6 @@
-ghost use Rattle.std.specs.Prelude.{◌≡◌, ◌+◌, ◌++◌, ◌<◌, ◌^◌, ℕ, List};
+ghost use Rattle.std.specs.Prelude.{◌≡◌, ◌+◌, ◌*◌, ◌++◌, ◌<◌, ◌^◌, ℕ, List, [], ◌∷◌};
+ghost use Rattle.grove_edits.specs.declared.vertex.Vertex.{Vertex};
+ghost use Rattle.grove_edits.specs.declared.edge.Edge.{Edge};
 ghost use Rattle.grove_edits.specs.declared.edit.Edit.{Edit};
 ghost use Rattle.grove_edits.specs.declared.action.Action.{Action};
 ghost use Rattle.grove_edits.specs.declared.actor.Actor.TheVariants.{Author};
@@ -6,6 +8,11 @@ ghost use Rattle.grove_edits.specs.declared.answer.Answer.{Answer};
 ghost use Rattle.grove_edits.specs.declared.command.Command.{Command};
 ghost use Rattle.grove_edits.specs.declared.command.Command.TheVariants.{Act};
 ghost use Rattle.grove_edits.specs.Graph.{graph, graph_join, IsSame, IsCanonical, HasSameEdits};
+ghost use Rattle.grove_edits.specs.Edit.{edit_edge};
+ghost use Rattle.graph_words.specs.Whole.{AreLive};
+ghost use Rattle.kept_records.specs.Kept.{AreKept};
+ghost use Rattle.kept_records.specs.Size.{IsSize};
+ghost use Rattle.mark_incremental.specs.Standing.{KeptMarks, StandFor, records_in};
 ghost use Rattle.shared_replica.specs.declared.journal.Entry.{Entry};
 ghost use Rattle.shared_replica.specs.Replays.{machine_after, AreSteps};
 ghost use Rattle.user_actions.specs.Good.{HasLiteralInRange};
@@ -15,6 +22,7 @@ ghost use Rattle.replica_core.specs.Content.{Content, IsContent, no_edits, with_
 ghost use Rattle.replica_core.specs.Lists.{lists_of};
 ghost use Rattle.replica_core.specs.Step.{after, effect, reply};
 ghost use Rattle.replica_core.specs.Calls.{Call, after_calls, edits_of_calls, edits_of_entries};
+ghost use Rattle.replica_core.specs.Cost.{edit_cost, edits_cost, calls_cost};
 
 /// Law: what holds of each replica holds before any edit, and stays as edits are taken and blocks open.
 pub fn what_holds_of_a_replica_stays()
@@ -48,4 +56,24 @@ pub fn an_authors_step_is_the_plan()
 pub fn a_journal_takes_its_edits()
     ensures { (first : Content) (entries : List (Entry Content Command (List Edit) Answer)) → AreSteps after effect reply first entries
         → machine_after after first entries ≡ with_taken (edits_of_entries entries) first }
+{}
+
+/// Law: after whatever calls, from the empty replica on, marks that stand for its graph keep of each vertex what marking the graph of all
+/// edits that it took says, and nothing of others. So replicas that took the same edits, in any order and with any repeats, keep the same
+/// records, each read by its own tables.
+pub fn what_is_kept_follows_from_the_edits()
+    ensures kept { (calls : List Call) (marks : KeptMarks) → StandFor (graph (after_calls calls no_edits).edits) marks
+        → (live : List Edge) → AreLive (graph (edits_of_calls calls)) live → AreKept (graph (edits_of_calls calls)) live (records_in marks) }
+    ensures one { (content : Content) (a b : KeptMarks) → StandFor (graph content.edits) a → StandFor (graph content.edits) b → (v : Vertex) → records_in a v ≡ records_in b v }
+    ensures same { (a b : List Call) → HasSameEdits (edits_of_calls a) (edits_of_calls b) → (m n : KeptMarks)
+        → StandFor (graph (after_calls a no_edits).edits) m → StandFor (graph (after_calls b no_edits).edits) n → (v : Vertex) → records_in m v ≡ records_in n v }
+{}
+
+/// Law: an edit costs 64 for each unit of its size, and 64 more. Edits in turn cost the sum, and so do calls: as much as all their edits
+/// in turn, since a block that opens costs nothing.
+pub fn an_edit_costs_by_its_size()
+    ensures edit { (content : Content) (edit : Edit) (size : ℕ) → IsSize (edit_edge edit) (graph content.edits) (graph_join (graph content.edits) (graph (edit ∷ []))) size
+        → edit_cost content edit ≡ 64 * size + 64 }
+    ensures in_turn { (content : Content) (a b : List Edit) → edits_cost content (a ++ b) ≡ edits_cost content a + edits_cost (with_taken a content) b }
+    ensures calls { (content : Content) (calls : List Call) → calls_cost content calls ≡ edits_cost content (edits_of_calls calls) }
 {}

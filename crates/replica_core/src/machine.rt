@@ -33,7 +33,7 @@ impl Machine for Replica {
         steps: &mut Steps<L>,
     ) -> Result<(EditList, Answer), NoMemory> {
         let (edits, answer) = due(alloc, &self.view(), actor, command)?;
-        self.apply_all(alloc, &edits, steps)?;
+        self.apply_all(&edits, steps)?;
         Ok((edits, answer))
     }
 }

@@ -5,6 +5,7 @@ ghost use Rattle.graph_words.specs.States.{state_in};
 ghost use Rattle.live_graph.specs.Live.{live};
 ghost use Rattle.user_actions.specs.Flags.{opening_edges};
 ghost use Rattle.user_actions.specs.Plan.{IsPlan};
+ghost use Rattle.mark_incremental.specs.Standing.{StandFor};
 ghost use Rattle.grove_answers.specs.Texts.{IsPrintText, IsCanonicalText};
 ghost use Rattle.replica_core.specs.Content.{IsContent, no_edits, with_taken, with_block};
 ghost use Rattle.replica_core.specs.Plain.{as_edits};
@@ -13,12 +14,12 @@ ghost use Rattle.replica_core.specs.Step.{plan_of};
 ghost use Rattle.replica_core.specs.Cost.{edit_cost, edits_cost};
 
 use crate::planning::planned;
-use crate::taking::take;
 use crate::texts::append_print_text;
 use graph_words::Steps;
 use grove_answers::append_canonical_text;
 use grove_edits::{Action, Answer, Edit, EditList};
 use live_graph::LiveGraph;
+use mark_incremental::Marks;
 use seeded_hash::HashSeed;
 use std::alloc::Global;
 use std::marker::Model;
@@ -26,24 +27,27 @@ use std::sync::ledger::Ledger;
 use text_parts::NoMemory;
 use user_actions::{LiveView, OpeningFlags};
 
-/// A live replica. Contracts see it as its `Content`: the canonical list of its graph, and the edges that the block opened with.
-/// How much room it has is not seen.
+/// A live replica, which keeps the marks of its graph from edit to edit. Contracts see it as its `Content`: the canonical list of its
+/// graph, and the edges that the block opened with. The marks follow from that: after each call, also one that found no memory, they
+/// stand for its graph, and marks that stand for one graph keep the same records. How much room it has is not seen, nor by which numbers
+/// types and contexts are kept.
 #[derive(Drop)]
 pub struct Replica {
     graph: LiveGraph,
     // Which edges were not Absent as the block opened.
     opening: OpeningFlags,
+    marks: Marks,
 }
 
 impl Model for Replica {
     ghost use Rattle.replica_core.specs.Content.{Content};
-    ghost use Rattle.replica_core.specs.Kept.{flagged_content, AreFlagsKept};
+    ghost use Rattle.replica_core.specs.Kept.{flagged_content, AreMarksKept};
 
     ghost Value = { Content };
 
     ghost view = { λ replica. flagged_content replica.graph replica.opening };
 
-    ghost invariant = { λ replica. AreFlagsKept replica.graph replica.opening };
+    ghost invariant = { λ replica. AreMarksKept replica.graph replica.opening replica.marks };
 }
 
 impl Replica {
@@ -60,7 +64,12 @@ impl Replica {
     {
         let graph = LiveGraph::with_seed(alloc, seed);
         let opening = OpeningFlags::of(alloc, &graph)?;
-        Ok(Replica { graph, opening })
+        let marks = Marks::with_seed(alloc, seed)?;
+        Ok(Replica {
+            graph,
+            opening,
+            marks,
+        })
     }
 
     /// Opens a block: the opening edges are now those that are not Absent. The graph stays.
@@ -84,10 +93,10 @@ impl Replica {
         Ok(list)
     }
 
-    /// Takes an edit. What it asks is joined to the graph, so an edge that was deleted is not inserted again.
+    /// Takes an edit, and marks again what it concerns. What it asks is joined to the graph, so an edge that was deleted is not inserted
+    /// again. Where memory runs out the graph and the kept records stay.
     pub fn apply<L: Ledger>(
         &mut self,
-        alloc: Global,
         edit: &Edit,
         steps: &mut Steps<L>,
     ) -> Result<(), NoMemory>
@@ -95,15 +104,13 @@ impl Replica {
         ensures unchanged { OnErr result (self.new ≡ self.old) }
         ensures bounded { steps.new ≤ steps.old + edit_cost self.old edit.now }
     {
-        // Nothing is counted while no marks are kept.
-        let _steps = steps;
-        take(alloc, &mut self.graph, &[*edit])
+        self.take(&[*edit], steps)
     }
 
-    /// Takes edits, one after the other, all of them or none.
+    /// Takes edits, one after the other, all of them or none, and marks again what each concerns. Where memory runs out the graph and the
+    /// kept records are as they were.
     pub fn apply_all<L: Ledger>(
         &mut self,
-        alloc: Global,
         edits: &EditList,
         steps: &mut Steps<L>,
     ) -> Result<(), NoMemory>
@@ -111,9 +118,15 @@ impl Replica {
         ensures unchanged { OnErr result (self.new ≡ self.old) }
         ensures bounded { steps.new ≤ steps.old + edits_cost self.old edits.now }
     {
-        // Nothing is counted while no marks are kept.
-        let _steps = steps;
-        take(alloc, &mut self.graph, edits.as_slice())
+        self.take(edits.as_slice(), steps)
+    }
+
+    fn take<L: Ledger>(&mut self, edits: &[Edit], steps: &mut Steps<L>) -> Result<(), NoMemory>
+        ensures taken { OnOk result (self.new ≡ with_taken edits.now self.old) }
+        ensures unchanged { OnErr result (self.new ≡ self.old) }
+        ensures bounded { steps.new ≤ steps.old + edits_cost self.old edits.now }
+    {
+        self.marks.apply_all(edits, &mut self.graph, steps)
     }
 
     /// Plans an author's action on the graph, and takes the edits of the plan. It answers them, and what the plan answers. An action that
@@ -135,7 +148,7 @@ impl Replica {
         ensures bounded { steps.new ≤ steps.old + edits_cost self.old (as_edits (plan_of self.old author action.now).edits) }
     {
         let (edits, answer) = planned(alloc, &self.view(), author, action)?;
-        self.apply_all(alloc, &edits, steps)?;
+        self.apply_all(&edits, steps)?;
         Ok((edits, answer))
     }
 
@@ -174,6 +187,14 @@ impl Replica {
         let edits = self.in_order(alloc)?;
         append_canonical_text(&edits, out)?;
         Ok(())
+    }
+
+    /// The marks of the graph: the kept record of each vertex, by the numbers of their tables, is what marking the whole graph says of it,
+    /// and there is none of what is no vertex.
+    pub fn marks(&self) -> &Marks
+        ensures { StandFor (graph self.now.edits) result.now }
+    {
+        &self.marks
     }
 
     /// What plans read.

@@ -51,7 +51,7 @@ fn apply_counting<L: Ledger>(
     ensures { OnOk result (replica.new ≡ with_taken (edit.now ∷ []) replica.old) }
 {
     let mut steps = Steps::<L>::new(blank);
-    replica.apply(alloc, edit, &mut steps)?;
+    replica.apply(edit, &mut steps)?;
     Ok(())
 }
 

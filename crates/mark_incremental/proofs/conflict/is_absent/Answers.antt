@@ -6,5 +6,5 @@ use Rattle.mark_incremental.proofs.conflict.is_absent.Goals as goal
 
 pub loop-child-preserved : goal.loop-child-preserved
 loop-child-preserved c =
-    absent_past c.args.edge.now c.args.children.now c.loop-child.child-index c.child-item.result c.loop-child-test.true c.child-item.is
+    absent_past c.args.edge.now c.args.graph.now c.loop-child.child-index c.child-item.result c.loop-child-test.true c.child-item.is
     (sym (eq_is_same_edge c.child-item.result c.args.edge.now) ∙ sym c.eq.ensures ∙ c.if-eq.false) c.loop-child.invariant

@@ -3,7 +3,7 @@ use Rattle.std.proofs.Common.{◌≡◌, ◌∷◌, suc, drop, length, sym, ap, 
 use Rattle.grove_sorts.specs.Ctor.{positions}
 use Rattle.grove_edits.specs.declared.vertex.Vertex.{Vertex}
 use Rattle.grove_terms.specs.Forest.{edges_under}
-use Rattle.edge_index.specs.Lists.{live}
+use Rattle.live_graph.specs.Live.{live}
 use Rattle.judging.specs.declared.frame.OpenVertex.{OpenVertex}
 use Rattle.judging.proofs.Kept.{types-then, contexts-then}
 use Rattle.mark_incremental.specs.AtConflict.{level_at}
@@ -15,7 +15,7 @@ use Rattle.mark_incremental.proofs.looking.Walk.demand_below.Goals as goal
 
 pub loop-init : goal.loop-init
 loop-init g c =
-    let new = live c.args.self.now.parents.now in
+    let new = live c.args.self.now.graph.now in
     let source = c.args.edge.now.source in
     let frame = c.in_ok-frame.frame in
     let now = c.in_ok-frame.ensures in
@@ -35,12 +35,12 @@ loop-init g c =
 
 pub returns-then-eq-clause-below : goal.returns-then-eq-clause-below
 returns-then-eq-clause-below g c = λ d place records reads leaves s wanted.
-    demand_there (live c.args.self.now.parents.now) c.loop.types c.loop.ctxs (level_at c.args.edge.now.source place.above place.forest d) c.loop.frame (c.loop.invariant.opened d place records reads leaves)
+    demand_there (live c.args.self.now.graph.now) c.loop.types c.loop.ctxs (level_at c.args.edge.now.source place.above place.forest d) c.loop.frame (c.loop.invariant.opened d place records reads leaves)
     (c.in-Some.position, c.in-Some.field-0-1) (sym c.in-Some.ensures) c.args.edge.now.position (same_positions c.in-Some.position c.args.edge.now.position (sym c.eq.ensures ∙ c.if-eq.true)) s wanted
 
 pub loop-preserved : goal.loop-preserved
 loop-preserved g c =
-    let new = live c.args.self.now.parents.now in
+    let new = live c.args.self.now.graph.now in
     let source = c.args.edge.now.source in
     let passed = c.in-Some-pass.passed in
     let past = c.in-Some-pass.ensures in

@@ -1,7 +1,7 @@
 -- The child is opened on top of the vertex whose first child it is.
 use Rattle.std.proofs.Common.{List, ◌∷◌, drop, sym, subst, arith}
 use Rattle.std.specs.Prelude.{reverse}
-use Rattle.edge_index.specs.Lists.{live}
+use Rattle.live_graph.specs.Live.{live}
 use Rattle.mark_incremental.specs.declared.frame.Frame.{Frame}
 use Rattle.mark_incremental.specs.Looking.{on}
 use Rattle.mark_incremental.specs.Walking.{IsUnderWay, AreFramesOf}
@@ -14,46 +14,46 @@ use Rattle.mark_incremental.proofs.looking.Walk.descend.Goals as goal
 
 pub returns-clause-way : goal.returns-clause-way
 returns-clause-way g c = λ from before made of_made way.
-    subst (λ (frs : List Frame). IsUnderWay (live c.args.self.now.parents.now) c.begin.new.types c.begin.new.ctxs c.args.self.now.records.now (on c.args.self.now.whole c.args.self.now.passed.now) from before frs made)
-    (sym (two_on_top c.args.stack.now.items c.push.new.self.items c.push-2.new.self.items c.args.frame.now c.in_ok-child.child c.in_ok-push.ensures.items c.in_ok-push-2.ensures.items))
-    (descended (live c.args.self.now.parents.now) c.args.self.now.well_formed c.args.types.now c.begin.new.types c.args.ctxs.now c.begin.new.ctxs c.in_ok-child.ensures.types c.in_ok-child.ensures.contexts
-    c.args.self.now.records.now c.requires.records (on c.args.self.now.whole c.args.self.now.passed.now) from before c.args.frame.now c.in_ok-child.child (reverse c.args.stack.now.items) made c.args.edge.now
-    (drop 1 c.args.frame.now.left.now) (first_is c.args.frame.now.left.now c.args.edge.now c.requires.first) c.requires.frames of_made c.requires.found c.in_ok-child.ensures.was c.in_ok-child.ensures.vertex
+    subst (λ (frs : List Frame). IsUnderWay (live c.args.self.now.graph.now) c.begin.new.types c.begin.new.ctxs c.args.self.now.records.now (on c.args.self.now.whole c.args.self.now.passed.now) from before frs made)
+    (sym (two_on_top c.args.stack.now.items c.push.new.self.items c.push-2.new.self.items c.args.frame c.in_ok-child.child c.in_ok-push.ensures.items c.in_ok-push-2.ensures.items))
+    (descended (live c.args.self.now.graph.now) c.args.self.now.well_formed c.args.types.now c.begin.new.types c.args.ctxs.now c.begin.new.ctxs c.in_ok-child.ensures.types c.in_ok-child.ensures.contexts
+    c.args.self.now.records.now c.requires.records (on c.args.self.now.whole c.args.self.now.passed.now) from before c.args.frame c.in_ok-child.child (reverse c.args.stack.now.items) made c.args.edge.now
+    (drop 1 c.args.frame.left) (first_is c.args.frame.left c.args.edge.now c.requires.first) c.requires.frames of_made c.requires.found c.in_ok-child.ensures.was c.in_ok-child.ensures.vertex
     c.in_ok-child.ensures.fresh c.in_ok-child.ensures.all_left c.in_ok-child.ensures.begun way)
 
 pub returns-clause-frames : goal.returns-clause-frames
 returns-clause-frames g c =
     subst (AreFramesOf c.begin.new.types c.begin.new.ctxs)
-    (sym (two_on_top c.args.stack.now.items c.push.new.self.items c.push-2.new.self.items c.args.frame.now c.in_ok-child.child c.in_ok-push.ensures.items c.in_ok-push-2.ensures.items))
-    (c.in_ok-child.ensures.numbers, frames_kept c.args.types.now c.begin.new.types c.args.ctxs.now c.begin.new.ctxs c.in_ok-child.ensures.types c.in_ok-child.ensures.contexts (c.args.frame.now ∷ reverse c.args.stack.now.items) c.requires.frames)
+    (sym (two_on_top c.args.stack.now.items c.push.new.self.items c.push-2.new.self.items c.args.frame c.in_ok-child.child c.in_ok-push.ensures.items c.in_ok-push-2.ensures.items))
+    (c.in_ok-child.ensures.numbers, frames_kept c.args.types.now c.begin.new.types c.args.ctxs.now c.begin.new.ctxs c.in_ok-child.ensures.types c.in_ok-child.ensures.contexts (c.args.frame ∷ reverse c.args.stack.now.items) c.requires.frames)
 
 pub returns-clause-counted : goal.returns-clause-counted
 returns-clause-counted g c = λ start paid count made within counted.
     let child : Frame = c.in_ok-child.child in
     let ticks = c.in_ok-child.ensures.ticks in
     let row = fresh_row child c.args.edge.now.target c.in_ok-child.ensures.vertex c.in_ok-child.ensures.numbers.ctor c.in_ok-child.ensures.all_left in
-    let fresh = fresh_costs (live c.args.self.now.parents.now) c.args.types.now c.begin.new.types c.args.ctxs.now c.begin.new.ctxs child c.in_ok-child.ensures.begun row in
-    subst (λ (frs : List Frame). AreCounted (live c.args.self.now.parents.now) start paid c.begin.new.steps frs made)
-    (sym (two_on_top c.args.stack.now.items c.push.new.self.items c.push-2.new.self.items c.args.frame.now child c.in_ok-push.ensures.items c.in_ok-push-2.ensures.items))
-    (counted_down (live c.args.self.now.parents.now) start paid c.args.frame.now child (reverse c.args.stack.now.items) made count c.begin.new.steps (some_left c.args.frame.now.left.now c.args.edge.now c.requires.first) fresh
+    let fresh = fresh_costs (live c.args.self.now.graph.now) c.args.types.now c.begin.new.types c.args.ctxs.now c.begin.new.ctxs child c.in_ok-child.ensures.begun row in
+    subst (λ (frs : List Frame). AreCounted (live c.args.self.now.graph.now) start paid c.begin.new.steps frs made)
+    (sym (two_on_top c.args.stack.now.items c.push.new.self.items c.push-2.new.self.items c.args.frame child c.in_ok-push.ensures.items c.in_ok-push-2.ensures.items))
+    (counted_down (live c.args.self.now.graph.now) start paid c.args.frame child (reverse c.args.stack.now.items) made count c.begin.new.steps (some_left c.args.frame.left c.args.edge.now c.requires.first) fresh
     (omega (arith, ticks, within)) counted)
 
 pub returns-clause-paid : goal.returns-clause-paid
 returns-clause-paid g c = λ from before made start paid count within way counted.
-    paid_down (live c.args.self.now.parents.now) c.args.types.now c.args.ctxs.now c.args.self.now.records.now (on c.args.self.now.whole c.args.self.now.passed.now) from before made start paid count c.begin.new.steps c.args.self.now.well_formed c.requires.records c.args.frame.now (reverse c.args.stack.now.items) c.args.edge.now
-    (drop 1 c.args.frame.now.left.now) (first_is c.args.frame.now.left.now c.args.edge.now c.requires.first) c.requires.found way counted (omega (arith, within, c.begin.ensures.at_most))
+    paid_down (live c.args.self.now.graph.now) c.args.types.now c.args.ctxs.now c.args.self.now.records.now (on c.args.self.now.whole c.args.self.now.passed.now) from before made start paid count c.begin.new.steps c.args.self.now.well_formed c.requires.records c.args.frame (reverse c.args.stack.now.items) c.args.edge.now
+    (drop 1 c.args.frame.left) (first_is c.args.frame.left c.args.edge.now c.requires.first) c.requires.found way counted (omega (arith, within, c.begin.ensures.at_most))
 
 pub returns-in_err-push-2-clause-paid : goal.returns-in_err-push-2-clause-paid
 returns-in_err-push-2-clause-paid g c = λ from before made start paid count within way counted.
-    paid_down (live c.args.self.now.parents.now) c.args.types.now c.args.ctxs.now c.args.self.now.records.now (on c.args.self.now.whole c.args.self.now.passed.now) from before made start paid count c.begin.new.steps c.args.self.now.well_formed c.requires.records c.args.frame.now (reverse c.args.stack.now.items) c.args.edge.now
-    (drop 1 c.args.frame.now.left.now) (first_is c.args.frame.now.left.now c.args.edge.now c.requires.first) c.requires.found way counted (omega (arith, within, c.begin.ensures.at_most))
+    paid_down (live c.args.self.now.graph.now) c.args.types.now c.args.ctxs.now c.args.self.now.records.now (on c.args.self.now.whole c.args.self.now.passed.now) from before made start paid count c.begin.new.steps c.args.self.now.well_formed c.requires.records c.args.frame (reverse c.args.stack.now.items) c.args.edge.now
+    (drop 1 c.args.frame.left) (first_is c.args.frame.left c.args.edge.now c.requires.first) c.requires.found way counted (omega (arith, within, c.begin.ensures.at_most))
 
 pub returns-in_err-child-clause-paid : goal.returns-in_err-child-clause-paid
 returns-in_err-child-clause-paid g c = λ from before made start paid count within way counted.
-    paid_down (live c.args.self.now.parents.now) c.args.types.now c.args.ctxs.now c.args.self.now.records.now (on c.args.self.now.whole c.args.self.now.passed.now) from before made start paid count c.begin.new.steps c.args.self.now.well_formed c.requires.records c.args.frame.now (reverse c.args.stack.now.items) c.args.edge.now
-    (drop 1 c.args.frame.now.left.now) (first_is c.args.frame.now.left.now c.args.edge.now c.requires.first) c.requires.found way counted (omega (arith, within, c.begin.ensures.at_most))
+    paid_down (live c.args.self.now.graph.now) c.args.types.now c.args.ctxs.now c.args.self.now.records.now (on c.args.self.now.whole c.args.self.now.passed.now) from before made start paid count c.begin.new.steps c.args.self.now.well_formed c.requires.records c.args.frame (reverse c.args.stack.now.items) c.args.edge.now
+    (drop 1 c.args.frame.left) (first_is c.args.frame.left c.args.edge.now c.requires.first) c.requires.found way counted (omega (arith, within, c.begin.ensures.at_most))
 
 pub returns-in_err-push-clause-paid : goal.returns-in_err-push-clause-paid
 returns-in_err-push-clause-paid g c = λ from before made start paid count within way counted.
-    paid_down (live c.args.self.now.parents.now) c.args.types.now c.args.ctxs.now c.args.self.now.records.now (on c.args.self.now.whole c.args.self.now.passed.now) from before made start paid count c.args.steps.now c.args.self.now.well_formed c.requires.records c.args.frame.now (reverse c.args.stack.now.items) c.args.edge.now
-    (drop 1 c.args.frame.now.left.now) (first_is c.args.frame.now.left.now c.args.edge.now c.requires.first) c.requires.found way counted (omega (arith, within))
+    paid_down (live c.args.self.now.graph.now) c.args.types.now c.args.ctxs.now c.args.self.now.records.now (on c.args.self.now.whole c.args.self.now.passed.now) from before made start paid count c.args.steps.now c.args.self.now.well_formed c.requires.records c.args.frame (reverse c.args.stack.now.items) c.args.edge.now
+    (drop 1 c.args.frame.left) (first_is c.args.frame.left c.args.edge.now c.requires.first) c.requires.found way counted (omega (arith, within))

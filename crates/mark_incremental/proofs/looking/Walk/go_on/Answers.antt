@@ -1,6 +1,6 @@
 -- A position is filled, and what the vertex gives so far is of the tables still.
 use Rattle.std.proofs.Common.{◌≡◌, ℕ, suc, ◌+◌, ◌<◌, ◌≤◌, drop, length, sym, ap, subst, arith}
-use Rattle.edge_index.specs.Lists.{live}
+use Rattle.live_graph.specs.Live.{live}
 use Rattle.judging.specs.declared.frame.OpenVertex.{OpenVertex}
 use Rattle.grove_sorts.specs.Ctor.{positions}
 use Rattle.judging.specs.Frames.{IsOpenOf}
@@ -29,4 +29,4 @@ pub returns-clause-at_most : goal.returns-clause-at_most
 returns-clause-at_most g c =
     let next = ap (λ (o : OpenVertex). o.next) c.fill.ensures in
     let behind : c.fill.new.vertex.next ≡ suc c.args.frame.now.state.next = omega (arith, next) in
-    subst (λ (n : ℕ). c.at_next.new.steps ≤ c.args.steps.now + places_cost (live c.args.self.now.parents.now) c.args.frame.now.vertex.now (drop n (positions c.args.frame.now.vertex.now.ctor))) behind c.at_next.ensures.at_most
+    subst (λ (n : ℕ). c.at_next.new.steps ≤ c.args.steps.now + places_cost (live c.args.self.now.graph.now) c.args.frame.now.vertex.now (drop n (positions c.args.frame.now.vertex.now.ctor))) behind c.at_next.ensures.at_most

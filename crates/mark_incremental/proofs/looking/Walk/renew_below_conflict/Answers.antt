@@ -1,6 +1,6 @@
 -- What is demanded at the position is found, and then what is made for the target.
 use Rattle.std.proofs.Common.{sym, ◌∙◌, arith}
-use Rattle.edge_index.specs.Lists.{live}
+use Rattle.live_graph.specs.Live.{live}
 use Rattle.mark_incremental.specs.Looking.{on}
 use Rattle.mark_incremental.specs.Walking.{demands, ReadsAs}
 use Rattle.mark_incremental.specs.AtConflict.{level_at, IsDemandBelow}
@@ -10,7 +10,7 @@ use Rattle.mark_incremental.proofs.looking.Walk.renew_below_conflict.Goals as go
 
 pub returns-clause-target : goal.returns-clause-target
 returns-clause-target g c = λ d place there records reads alone source target.
-    let new = live c.args.self.now.parents.now in
+    let new = live c.args.self.now.graph.now in
     let judged = on c.args.self.now.whole c.args.self.now.passed.now in
     let places = c.args.self.now.records.now in
     let l = level_at c.args.edge.now.source place.above place.forest d in
@@ -25,7 +25,7 @@ returns-clause-target g c = λ d place there records reads alone source target.
 
 pub returns-in_err-made-clause-paid : goal.returns-in_err-made-clause-paid
 returns-in_err-made-clause-paid g c = λ d place there most bound.
-    let new = live c.args.self.now.parents.now in
+    let new = live c.args.self.now.graph.now in
     let judged = on c.args.self.now.whole c.args.self.now.passed.now in
     let places = c.args.self.now.records.now in
     let l = level_at c.args.edge.now.source place.above place.forest d in
@@ -42,7 +42,7 @@ returns-in_err-made-clause-paid g c = λ d place there most bound.
 
 pub returns-clause-paid : goal.returns-clause-paid
 returns-clause-paid g c = λ d place there most bound.
-    let new = live c.args.self.now.parents.now in
+    let new = live c.args.self.now.graph.now in
     let judged = on c.args.self.now.whole c.args.self.now.passed.now in
     let places = c.args.self.now.records.now in
     let l = level_at c.args.edge.now.source place.above place.forest d in

@@ -1,7 +1,7 @@
 -- A walk down begins with a vertex, goes on step by step, and ends where nothing is open.
 use Rattle.std.proofs.Common.{◌≡◌, ◌*◌, List, [], ◌∷◌, sym, ap, subst, ◌∙◌, arith}
 use Rattle.std.specs.Prelude.{reverse}
-use Rattle.edge_index.specs.Lists.{live}
+use Rattle.live_graph.specs.Live.{live}
 use Rattle.judging.proofs.Kept.{types-then, contexts-then}
 use Rattle.kept_records.specs.Kept.{Kept}
 use Rattle.kept_records.proofs.Standing.{stands_under}
@@ -26,13 +26,13 @@ loop-init g c =
     let made = made_kept c.args.types.now c.begin.new.types c.args.ctxs.now c.begin.new.ctxs types contexts c.args.made.now.items c.requires.made in
     record {
       way = λ d place.
-          subst (λ (frs : List Frame). IsUnderWay (live c.args.self.now.parents.now) c.begin.new.types c.begin.new.ctxs c.args.self.now.records.now (on c.args.self.now.whole c.args.self.now.passed.now) (start_at c.args.start.now d) (meant c.begin.new.types c.begin.new.ctxs c.args.made.now.items) frs c.args.made.now.items) (sym top)
-          (walk_begun (live c.args.self.now.parents.now) c.args.self.now.well_formed c.args.types.now c.begin.new.types c.args.ctxs.now c.begin.new.ctxs types contexts c.args.self.now.records.now c.requires.records (on c.args.self.now.whole c.args.self.now.passed.now) (start_at c.args.start.now d) []
+          subst (λ (frs : List Frame). IsUnderWay (live c.args.self.now.graph.now) c.begin.new.types c.begin.new.ctxs c.args.self.now.records.now (on c.args.self.now.whole c.args.self.now.passed.now) (start_at c.args.start.now d) (meant c.begin.new.types c.begin.new.ctxs c.args.made.now.items) frs c.args.made.now.items) (sym top)
+          (walk_begun (live c.args.self.now.graph.now) c.args.self.now.well_formed c.args.types.now c.begin.new.types c.args.ctxs.now c.begin.new.ctxs types contexts c.args.self.now.records.now c.requires.records (on c.args.self.now.whole c.args.self.now.passed.now) (start_at c.args.start.now d) []
           c.in_ok-begin.field-0 c.args.made.now.items c.args.demand place c.in_ok-begin.ensures.was c.in_ok-begin.ensures.vertex c.in_ok-begin.ensures.fresh c.in_ok-begin.ensures.all_left c.in_ok-begin.ensures.begun);
       counted =
-          subst (λ (frs : List Frame). AreCounted (live c.args.self.now.parents.now) c.args.steps.now (5 * weight_of (live c.args.self.now.parents.now) c.args.made.now.items) c.begin.new.steps frs c.args.made.now.items) (sym top)
-          (counted_head (live c.args.self.now.parents.now) c.args.steps.now (5 * weight_of (live c.args.self.now.parents.now) c.args.made.now.items) c.in_ok-begin.field-0 c.args.made.now.items c.args.steps.now c.begin.new.steps
-          (fresh_costs (live c.args.self.now.parents.now) c.args.types.now c.begin.new.types c.args.ctxs.now c.begin.new.ctxs c.in_ok-begin.field-0 c.in_ok-begin.ensures.begun
+          subst (λ (frs : List Frame). AreCounted (live c.args.self.now.graph.now) c.args.steps.now (5 * weight_of (live c.args.self.now.graph.now) c.args.made.now.items) c.begin.new.steps frs c.args.made.now.items) (sym top)
+          (counted_head (live c.args.self.now.graph.now) c.args.steps.now (5 * weight_of (live c.args.self.now.graph.now) c.args.made.now.items) c.in_ok-begin.field-0 c.args.made.now.items c.args.steps.now c.begin.new.steps
+          (fresh_costs (live c.args.self.now.graph.now) c.args.types.now c.begin.new.types c.args.ctxs.now c.begin.new.ctxs c.in_ok-begin.field-0 c.in_ok-begin.ensures.begun
           (fresh_row c.in_ok-begin.field-0 c.args.start.now c.in_ok-begin.ensures.vertex c.in_ok-begin.ensures.numbers.ctor c.in_ok-begin.ensures.all_left))
           c.in_ok-begin.ensures.ticks (omega arith));
       frames = subst (AreFramesOf c.begin.new.types c.begin.new.ctxs) (sym top) (c.in_ok-begin.ensures.numbers, tt);
@@ -49,10 +49,10 @@ loop-preserved g c =
     let contexts = c.in_ok-step.ensures.contexts in
     record {
       way = λ d place.
-          subst (λ (before : List (Vertex × Kept)). IsUnderWay (live c.args.self.now.parents.now) c.step.new.types c.step.new.ctxs c.args.self.now.records.now (on c.args.self.now.whole c.args.self.now.passed.now) (start_at c.args.start.now d) before (reverse c.step.new.stack.items) c.step.new.made.items)
+          subst (λ (before : List (Vertex × Kept)). IsUnderWay (live c.args.self.now.graph.now) c.step.new.types c.step.new.ctxs c.args.self.now.records.now (on c.args.self.now.whole c.args.self.now.passed.now) (start_at c.args.start.now d) before (reverse c.step.new.stack.items) c.step.new.made.items)
           (sym (meant-kept c.loop.types c.step.new.types c.loop.ctxs c.step.new.ctxs types contexts c.args.made.now.items c.loop.invariant.before))
           (c.in_ok-step.ensures.way (start_at c.args.start.now d) (meant c.loop.types c.loop.ctxs c.args.made.now.items) (c.loop.invariant.way d place));
-      counted = c.in_ok-step.ensures.counted c.args.steps.now (5 * weight_of (live c.args.self.now.parents.now) c.args.made.now.items) c.loop.invariant.counted;
+      counted = c.in_ok-step.ensures.counted c.args.steps.now (5 * weight_of (live c.args.self.now.graph.now) c.args.made.now.items) c.loop.invariant.counted;
       frames = c.in_ok-step.ensures.frames;
       made = c.in_ok-step.ensures.made;
       before = made_kept c.loop.types c.step.new.types c.loop.ctxs c.step.new.ctxs types contexts c.args.made.now.items c.loop.invariant.before;
@@ -65,8 +65,8 @@ pub returns-then-is_empty-clause-from : goal.returns-then-is_empty-clause-from
 returns-then-is_empty-clause-from g c = λ d place records reads leaves.
     let none = none_open _ c.is_empty.result c.is_empty.ensures c.if-is_empty.true in
     let nothing : reverse c.loop.stack.items ≡ [] = ap reverse (empty c.loop.stack.items (omega (arith, none, c.loop.stack.ok.0))) in
-    way_ends (live c.args.self.now.parents.now) c.loop.types c.loop.ctxs c.args.self.now.records.now (on c.args.self.now.whole c.args.self.now.passed.now) (start_at c.args.start.now d) (meant c.loop.types c.loop.ctxs c.args.made.now.items) c.loop.made.items
-    (subst (λ (frs : List Frame). IsUnderWay (live c.args.self.now.parents.now) c.loop.types c.loop.ctxs c.args.self.now.records.now (on c.args.self.now.whole c.args.self.now.passed.now) (start_at c.args.start.now d) (meant c.loop.types c.loop.ctxs c.args.made.now.items) frs c.loop.made.items) nothing
+    way_ends (live c.args.self.now.graph.now) c.loop.types c.loop.ctxs c.args.self.now.records.now (on c.args.self.now.whole c.args.self.now.passed.now) (start_at c.args.start.now d) (meant c.loop.types c.loop.ctxs c.args.made.now.items) c.loop.made.items
+    (subst (λ (frs : List Frame). IsUnderWay (live c.args.self.now.graph.now) c.loop.types c.loop.ctxs c.args.self.now.records.now (on c.args.self.now.whole c.args.self.now.passed.now) (start_at c.args.start.now d) (meant c.loop.types c.loop.ctxs c.args.made.now.items) frs c.loop.made.items) nothing
     (c.loop.invariant.way d place))
     records reads leaves
 
@@ -74,41 +74,41 @@ pub returns-then-is_empty-clause-ticks : goal.returns-then-is_empty-clause-ticks
 returns-then-is_empty-clause-ticks g c =
     let none = none_open _ c.is_empty.result c.is_empty.ensures c.if-is_empty.true in
     let nothing : reverse c.loop.stack.items ≡ [] = ap reverse (empty c.loop.stack.items (omega (arith, none, c.loop.stack.ok.0))) in
-    counted_end (live c.args.self.now.parents.now) c.args.steps.now (5 * weight_of (live c.args.self.now.parents.now) c.args.made.now.items) c.loop.made.items c.loop.steps
-    (subst (λ (frs : List Frame). AreCounted (live c.args.self.now.parents.now) c.args.steps.now (5 * weight_of (live c.args.self.now.parents.now) c.args.made.now.items) c.loop.steps frs c.loop.made.items) nothing c.loop.invariant.counted)
+    counted_end (live c.args.self.now.graph.now) c.args.steps.now (5 * weight_of (live c.args.self.now.graph.now) c.args.made.now.items) c.loop.made.items c.loop.steps
+    (subst (λ (frs : List Frame). AreCounted (live c.args.self.now.graph.now) c.args.steps.now (5 * weight_of (live c.args.self.now.graph.now) c.args.made.now.items) c.loop.steps frs c.loop.made.items) nothing c.loop.invariant.counted)
 
 -- ---- what was counted, also where memory runs out
 
 pub returns-in_err-begin-clause-paid : goal.returns-in_err-begin-clause-paid
 returns-in_err-begin-clause-paid g c = λ d place records reads leaves.
-    start_paid (live c.args.self.now.parents.now) (on c.args.self.now.whole c.args.self.now.passed.now) records (start_at c.args.start.now d) place.forest (stands_under (live c.args.self.now.parents.now) place.above c.args.start.now place.forest d place.stands) c.args.steps.now c.begin.new.steps
+    start_paid (live c.args.self.now.graph.now) (on c.args.self.now.whole c.args.self.now.passed.now) records (start_at c.args.start.now d) place.forest (stands_under (live c.args.self.now.graph.now) place.above c.args.start.now place.forest d place.stands) c.args.steps.now c.begin.new.steps
     c.begin.ensures.at_most
 
 pub returns-in_err-push-clause-paid : goal.returns-in_err-push-clause-paid
 returns-in_err-push-clause-paid g c = λ d place records reads leaves.
-    start_paid (live c.args.self.now.parents.now) (on c.args.self.now.whole c.args.self.now.passed.now) records (start_at c.args.start.now d) place.forest (stands_under (live c.args.self.now.parents.now) place.above c.args.start.now place.forest d place.stands) c.args.steps.now c.begin.new.steps
+    start_paid (live c.args.self.now.graph.now) (on c.args.self.now.whole c.args.self.now.passed.now) records (start_at c.args.start.now d) place.forest (stands_under (live c.args.self.now.graph.now) place.above c.args.start.now place.forest d place.stands) c.args.steps.now c.begin.new.steps
     c.begin.ensures.at_most
 
 pub returns-in_err-step-clause-paid : goal.returns-in_err-step-clause-paid
 returns-in_err-step-clause-paid g c = λ d place records reads leaves.
     let at_loop : ReadsAs c.loop.types c.loop.ctxs c.args.self.now.records.now records =
     λ v. reads v ∙ sym (records_at-kept c.args.types.now c.loop.types c.args.ctxs.now c.loop.ctxs c.loop.invariant.types c.loop.invariant.contexts c.args.self.now.records.now c.requires.records v) in
-    walk_paid (live c.args.self.now.parents.now) (on c.args.self.now.whole c.args.self.now.passed.now) records (start_at c.args.start.now d) (meant c.loop.types c.loop.ctxs c.args.made.now.items) c.args.steps.now (5 * weight_of (live c.args.self.now.parents.now) c.args.made.now.items) c.step.new.steps
-    (ap (λ w. 5 * w) (sym (meant_weighs (live c.args.self.now.parents.now) c.loop.types c.loop.ctxs c.args.made.now.items)))
-    (c.step.ensures.paid (start_at c.args.start.now d) (meant c.loop.types c.loop.ctxs c.args.made.now.items) c.args.steps.now (5 * weight_of (live c.args.self.now.parents.now) c.args.made.now.items) (c.loop.invariant.way d place) c.loop.invariant.counted records at_loop leaves)
+    walk_paid (live c.args.self.now.graph.now) (on c.args.self.now.whole c.args.self.now.passed.now) records (start_at c.args.start.now d) (meant c.loop.types c.loop.ctxs c.args.made.now.items) c.args.steps.now (5 * weight_of (live c.args.self.now.graph.now) c.args.made.now.items) c.step.new.steps
+    (ap (λ w. 5 * w) (sym (meant_weighs (live c.args.self.now.graph.now) c.loop.types c.loop.ctxs c.args.made.now.items)))
+    (c.step.ensures.paid (start_at c.args.start.now d) (meant c.loop.types c.loop.ctxs c.args.made.now.items) c.args.steps.now (5 * weight_of (live c.args.self.now.graph.now) c.args.made.now.items) (c.loop.invariant.way d place) c.loop.invariant.counted records at_loop leaves)
 
 pub returns-then-is_empty-clause-paid : goal.returns-then-is_empty-clause-paid
 returns-then-is_empty-clause-paid g c = λ d place records reads leaves.
     let at_loop : ReadsAs c.loop.types c.loop.ctxs c.args.self.now.records.now records =
     λ v. reads v ∙ sym (records_at-kept c.args.types.now c.loop.types c.args.ctxs.now c.loop.ctxs c.loop.invariant.types c.loop.invariant.contexts c.args.self.now.records.now c.requires.records v) in
-    walk_paid (live c.args.self.now.parents.now) (on c.args.self.now.whole c.args.self.now.passed.now) records (start_at c.args.start.now d) (meant c.loop.types c.loop.ctxs c.args.made.now.items) c.args.steps.now (5 * weight_of (live c.args.self.now.parents.now) c.args.made.now.items) c.loop.steps
-    (ap (λ w. 5 * w) (sym (meant_weighs (live c.args.self.now.parents.now) c.loop.types c.loop.ctxs c.args.made.now.items)))
-    (paid_now (live c.args.self.now.parents.now) c.loop.types c.loop.ctxs c.args.self.now.records.now (on c.args.self.now.whole c.args.self.now.passed.now) (start_at c.args.start.now d) (meant c.loop.types c.loop.ctxs c.args.made.now.items) c.loop.made.items c.args.steps.now (5 * weight_of (live c.args.self.now.parents.now) c.args.made.now.items) c.loop.steps c.loop.steps (reverse c.loop.stack.items) (c.loop.invariant.way d place) c.loop.invariant.counted (omega arith) records at_loop leaves)
+    walk_paid (live c.args.self.now.graph.now) (on c.args.self.now.whole c.args.self.now.passed.now) records (start_at c.args.start.now d) (meant c.loop.types c.loop.ctxs c.args.made.now.items) c.args.steps.now (5 * weight_of (live c.args.self.now.graph.now) c.args.made.now.items) c.loop.steps
+    (ap (λ w. 5 * w) (sym (meant_weighs (live c.args.self.now.graph.now) c.loop.types c.loop.ctxs c.args.made.now.items)))
+    (paid_now (live c.args.self.now.graph.now) c.loop.types c.loop.ctxs c.args.self.now.records.now (on c.args.self.now.whole c.args.self.now.passed.now) (start_at c.args.start.now d) (meant c.loop.types c.loop.ctxs c.args.made.now.items) c.loop.made.items c.args.steps.now (5 * weight_of (live c.args.self.now.graph.now) c.args.made.now.items) c.loop.steps c.loop.steps (reverse c.loop.stack.items) (c.loop.invariant.way d place) c.loop.invariant.counted (omega arith) records at_loop leaves)
 
 pub returns-clause-paid : goal.returns-clause-paid
 returns-clause-paid g c = λ d place records reads leaves.
     let at_loop : ReadsAs c.loop.types c.loop.ctxs c.args.self.now.records.now records =
     λ v. reads v ∙ sym (records_at-kept c.args.types.now c.loop.types c.args.ctxs.now c.loop.ctxs c.loop.invariant.types c.loop.invariant.contexts c.args.self.now.records.now c.requires.records v) in
-    walk_paid (live c.args.self.now.parents.now) (on c.args.self.now.whole c.args.self.now.passed.now) records (start_at c.args.start.now d) (meant c.loop.types c.loop.ctxs c.args.made.now.items) c.args.steps.now (5 * weight_of (live c.args.self.now.parents.now) c.args.made.now.items) c.loop.steps
-    (ap (λ w. 5 * w) (sym (meant_weighs (live c.args.self.now.parents.now) c.loop.types c.loop.ctxs c.args.made.now.items)))
-    (paid_now (live c.args.self.now.parents.now) c.loop.types c.loop.ctxs c.args.self.now.records.now (on c.args.self.now.whole c.args.self.now.passed.now) (start_at c.args.start.now d) (meant c.loop.types c.loop.ctxs c.args.made.now.items) c.loop.made.items c.args.steps.now (5 * weight_of (live c.args.self.now.parents.now) c.args.made.now.items) c.loop.steps c.loop.steps (reverse c.loop.stack.items) (c.loop.invariant.way d place) c.loop.invariant.counted (omega arith) records at_loop leaves)
+    walk_paid (live c.args.self.now.graph.now) (on c.args.self.now.whole c.args.self.now.passed.now) records (start_at c.args.start.now d) (meant c.loop.types c.loop.ctxs c.args.made.now.items) c.args.steps.now (5 * weight_of (live c.args.self.now.graph.now) c.args.made.now.items) c.loop.steps
+    (ap (λ w. 5 * w) (sym (meant_weighs (live c.args.self.now.graph.now) c.loop.types c.loop.ctxs c.args.made.now.items)))
+    (paid_now (live c.args.self.now.graph.now) c.loop.types c.loop.ctxs c.args.self.now.records.now (on c.args.self.now.whole c.args.self.now.passed.now) (start_at c.args.start.now d) (meant c.loop.types c.loop.ctxs c.args.made.now.items) c.loop.made.items c.args.steps.now (5 * weight_of (live c.args.self.now.graph.now) c.args.made.now.items) c.loop.steps c.loop.steps (reverse c.loop.stack.items) (c.loop.invariant.way d place) c.loop.invariant.counted (omega arith) records at_loop leaves)

@@ -1,6 +1,6 @@
 -- The target is judged by itself where it heads a tree, left as it is, or judged again with what stands below it.
 use Rattle.std.proofs.Common.{sym, ap, ◌∙◌}
-use Rattle.edge_index.specs.Lists.{live}
+use Rattle.live_graph.specs.Live.{live}
 use Rattle.mark_incremental.specs.Looking.{on}
 use Rattle.mark_incremental.specs.Walking.{meant}
 use Rattle.mark_incremental.specs.ShortWalks.{HasMadeAlone}
@@ -12,7 +12,7 @@ use Rattle.mark_incremental.proofs.looking.Walk.renew_target.Goals as goal
 
 pub returns-then-is_some-clause-target : goal.returns-then-is_some-clause-target
 returns-then-is_some-clause-target g c = λ d place.
-    let new = live c.args.self.now.parents.now in
+    let new = live c.args.self.now.graph.now in
     let judged = on c.args.self.now.whole c.args.self.now.passed.now in
     let places = c.args.self.now.records.now in
     if_ok_so c.renew_alone.result (λ made. HasMadeAlone new c.renew_alone.new.types c.renew_alone.new.ctxs places judged c.args.edge.now.target c.args.edge.now.source made.items)
@@ -25,7 +25,7 @@ returns-then-is_some-clause-target g c = λ d place.
 
 pub returns-then-is_some-clause-paid : goal.returns-then-is_some-clause-paid
 returns-then-is_some-clause-paid g c = λ d place records reads alone source target.
-    let new = live c.args.self.now.parents.now in
+    let new = live c.args.self.now.graph.now in
     let judged = on c.args.self.now.whole c.args.self.now.passed.now in
     let paid = c.renew_alone.ensures.paid records reads alone in
     paid_alone c.args.edge.now new judged records d c.args.steps.now c.look.new.steps c.renew_alone.new.steps c.look.ensures.ticks paid
@@ -34,7 +34,7 @@ returns-then-is_some-clause-paid g c = λ d place records reads alone source tar
 
 pub returns-in_err-renew_from-clause-paid : goal.returns-in_err-renew_from-clause-paid
 returns-in_err-renew_from-clause-paid g c = λ d place records reads alone source target.
-    let new = live c.args.self.now.parents.now in
+    let new = live c.args.self.now.graph.now in
     let judged = on c.args.self.now.whole c.args.self.now.passed.now in
     let places = c.args.self.now.records.now in
     let found = none_found new c.args.types.now c.args.ctxs.now places judged c.args.demand c.args.edge.now c.look.result c.look.ensures.found (sym c.is_some.ensures ∙ c.if-is_some.false) in
@@ -45,7 +45,7 @@ returns-in_err-renew_from-clause-paid g c = λ d place records reads alone sourc
 
 pub returns-clause-target : goal.returns-clause-target
 returns-clause-target g c = λ d place records reads alone source target.
-    let new = live c.args.self.now.parents.now in
+    let new = live c.args.self.now.graph.now in
     let judged = on c.args.self.now.whole c.args.self.now.passed.now in
     let places = c.args.self.now.records.now in
     let found = none_found new c.args.types.now c.args.ctxs.now places judged c.args.demand c.args.edge.now c.look.result c.look.ensures.found (sym c.is_some.ensures ∙ c.if-is_some.false) in
@@ -58,7 +58,7 @@ returns-clause-target g c = λ d place records reads alone source target.
 
 pub returns-clause-paid : goal.returns-clause-paid
 returns-clause-paid g c = λ d place records reads alone source target.
-    let new = live c.args.self.now.parents.now in
+    let new = live c.args.self.now.graph.now in
     let judged = on c.args.self.now.whole c.args.self.now.passed.now in
     let places = c.args.self.now.records.now in
     let found = none_found new c.args.types.now c.args.ctxs.now places judged c.args.demand c.args.edge.now c.look.result c.look.ensures.found (sym c.is_some.ensures ∙ c.if-is_some.false) in

@@ -2,7 +2,7 @@
 use Rattle.std.proofs.Common.{◌≡◌, ◌<◌, List, ◌∷◌, length, sym, ap, subst, arith}
 use Rattle.std.specs.Prelude.{reverse}
 use Rattle.grove_sorts.specs.Ctor.{positions}
-use Rattle.edge_index.specs.Lists.{live}
+use Rattle.live_graph.specs.Live.{live}
 use Rattle.judging.specs.declared.frame.OpenVertex.{OpenVertex}
 use Rattle.judging.proofs.Kept.{contexts-itself}
 use Rattle.mark_incremental.specs.declared.frame.Frame.{Frame}
@@ -20,14 +20,14 @@ use Rattle.mark_incremental.proofs.looking.Walk.step.Goals as goal
 
 pub returns-in_default-clause-way : goal.returns-in_default-clause-way
 returns-in_default-clause-way g c = λ from before way.
-    subst (λ (frs : List Frame). IsUnderWay (live c.args.self.now.parents.now) c.args.types.now c.args.ctxs.now c.args.self.now.records.now (on c.args.self.now.whole c.args.self.now.passed.now) from before frs c.args.made.now.items)
+    subst (λ (frs : List Frame). IsUnderWay (live c.args.self.now.graph.now) c.args.types.now c.args.ctxs.now c.args.self.now.records.now (on c.args.self.now.whole c.args.self.now.passed.now) from before frs c.args.made.now.items)
     (none_off c.args.stack.now.items c.pop.new.self.items c.in_default.ensures.items) way
 
 pub returns-in_default-clause-frames : goal.returns-in_default-clause-frames
 returns-in_default-clause-frames g c = subst (AreFramesOf c.args.types.now c.args.ctxs.now) (none_off c.args.stack.now.items c.pop.new.self.items c.in_default.ensures.items) c.requires.frames
 
 pub returns-in_default-clause-counted : goal.returns-in_default-clause-counted
-returns-in_default-clause-counted g c = λ start paid. subst (λ (frs : List Frame). AreCounted (live c.args.self.now.parents.now) start paid c.args.steps.now frs c.args.made.now.items) (none_off c.args.stack.now.items c.pop.new.self.items c.in_default.ensures.items)
+returns-in_default-clause-counted g c = λ start paid. subst (λ (frs : List Frame). AreCounted (live c.args.self.now.graph.now) start paid c.args.steps.now frs c.args.made.now.items) (none_off c.args.stack.now.items c.pop.new.self.items c.in_default.ensures.items)
 
 -- ---- a child is taken
 
@@ -37,7 +37,7 @@ take-requires-clause-frames g c = off_of c.args.types.now c.args.ctxs.now c.args
 pub returns-in-Some-first-clause-way : goal.returns-in-Some-first-clause-way
 returns-in-Some-first-clause-way g c = λ from before way.
     c.take.ensures.way from before c.args.made.now.items c.requires.made
-    (subst (λ (frs : List Frame). IsUnderWay (live c.args.self.now.parents.now) c.args.types.now c.args.ctxs.now c.args.self.now.records.now (on c.args.self.now.whole c.args.self.now.passed.now) from before frs c.args.made.now.items)
+    (subst (λ (frs : List Frame). IsUnderWay (live c.args.self.now.graph.now) c.args.types.now c.args.ctxs.now c.args.self.now.records.now (on c.args.self.now.whole c.args.self.now.passed.now) from before frs c.args.made.now.items)
     (on_top c.pop.new.self.items c.args.stack.now.items c.in-Some.frame c.in-Some.ensures.items) way)
 
 pub returns-in-Some-first-clause-made : goal.returns-in-Some-first-clause-made
@@ -47,7 +47,7 @@ returns-in-Some-first-clause-made g c =
 
 pub returns-in-Some-first-clause-counted : goal.returns-in-Some-first-clause-counted
 returns-in-Some-first-clause-counted g c = λ start paid counted.
-    c.take.ensures.counted start paid c.args.made.now.items (subst (λ (frs : List Frame). AreCounted (live c.args.self.now.parents.now) start paid c.args.steps.now frs c.args.made.now.items) (on_top c.pop.new.self.items c.args.stack.now.items c.in-Some.frame c.in-Some.ensures.items) counted)
+    c.take.ensures.counted start paid c.args.made.now.items (subst (λ (frs : List Frame). AreCounted (live c.args.self.now.graph.now) start paid c.args.steps.now frs c.args.made.now.items) (on_top c.pop.new.self.items c.args.stack.now.items c.in-Some.frame c.in-Some.ensures.items) counted)
 
 -- ---- the next position is begun
 
@@ -56,13 +56,13 @@ returns-then-frame-position_count-clause-way g c = λ from before way.
     let of : AreFramesOf c.args.types.now c.args.ctxs.now (c.in-Some.frame ∷ reverse c.pop.new.self.items) =
     off_of c.args.types.now c.args.ctxs.now c.args.stack.now.items c.pop.new.self.items c.in-Some.frame c.in-Some.ensures.items c.requires.frames in
     let some : c.in-Some.frame.state.next < length (positions c.in-Some.frame.state.ctor.now) = omega (arith, c.if-frame-position_count.true, c.position_count.ensures) in
-    subst (λ (frs : List Frame). IsUnderWay (live c.args.self.now.parents.now) c.go_on.new.types c.go_on.new.ctxs c.args.self.now.records.now (on c.args.self.now.whole c.args.self.now.passed.now) from before frs c.args.made.now.items)
+    subst (λ (frs : List Frame). IsUnderWay (live c.args.self.now.graph.now) c.go_on.new.types c.go_on.new.ctxs c.args.self.now.records.now (on c.args.self.now.whole c.args.self.now.passed.now) from before frs c.args.made.now.items)
     (sym (on_top c.pop.new.self.items c.push.new.self.items c.in_ok-go_on.field-0 c.in_ok-push.ensures.items))
-    (went_on (live c.args.self.now.parents.now) c.args.self.now.well_formed c.args.types.now c.go_on.new.types c.args.ctxs.now c.go_on.new.ctxs c.in_ok-go_on.ensures.types c.in_ok-go_on.ensures.contexts
+    (went_on (live c.args.self.now.graph.now) c.args.self.now.well_formed c.args.types.now c.go_on.new.types c.args.ctxs.now c.go_on.new.ctxs c.in_ok-go_on.ensures.types c.in_ok-go_on.ensures.contexts
     c.args.self.now.records.now c.requires.records (on c.args.self.now.whole c.args.self.now.passed.now) from before c.in-Some.frame c.in_ok-go_on.field-0 (reverse c.pop.new.self.items) c.args.made.now.items
-    (none_first c.in-Some.frame.left.now c.in_default-first.ensures.value) (subst (λ ctor. c.in-Some.frame.state.next < length (positions ctor)) of.0.ctor some) of c.requires.made
+    (none_first c.in-Some.frame.left c.in_default-first.ensures.value) (subst (λ ctor. c.in-Some.frame.state.next < length (positions ctor)) of.0.ctor some) of c.requires.made
     c.in_ok-go_on.ensures.was c.in_ok-go_on.ensures.vertex c.in_ok-go_on.ensures.filled c.in_ok-go_on.ensures.begun
-    (subst (λ (frs : List Frame). IsUnderWay (live c.args.self.now.parents.now) c.args.types.now c.args.ctxs.now c.args.self.now.records.now (on c.args.self.now.whole c.args.self.now.passed.now) from before frs c.args.made.now.items)
+    (subst (λ (frs : List Frame). IsUnderWay (live c.args.self.now.graph.now) c.args.types.now c.args.ctxs.now c.args.self.now.records.now (on c.args.self.now.whole c.args.self.now.passed.now) from before frs c.args.made.now.items)
     (on_top c.pop.new.self.items c.args.stack.now.items c.in-Some.frame c.in-Some.ensures.items) way))
 
 pub returns-then-frame-position_count-clause-made : goal.returns-then-frame-position_count-clause-made
@@ -80,11 +80,11 @@ pub returns-then-frame-position_count-clause-counted : goal.returns-then-frame-p
 returns-then-frame-position_count-clause-counted g c = λ start paid counted.
     let now : Frame = c.in_ok-go_on.field-0 in
     let ticks = c.in_ok-go_on.ensures.ticks in
-    subst (λ (frs : List Frame). AreCounted (live c.args.self.now.parents.now) start paid c.go_on.new.steps frs c.args.made.now.items) (sym (on_top c.pop.new.self.items c.push.new.self.items now c.in_ok-push.ensures.items))
-    (counted_on (live c.args.self.now.parents.now) start paid c.in-Some.frame now (reverse c.pop.new.self.items) c.args.made.now.items c.args.steps.now c.go_on.new.steps c.in_ok-go_on.ensures.vertex
-    (next_costs (live c.args.self.now.parents.now) c.args.types.now c.go_on.new.types c.args.ctxs.now c.go_on.new.ctxs now c.in_ok-go_on.ensures.begun c.in-Some.frame c.in_ok-go_on.ensures.vertex
+    subst (λ (frs : List Frame). AreCounted (live c.args.self.now.graph.now) start paid c.go_on.new.steps frs c.args.made.now.items) (sym (on_top c.pop.new.self.items c.push.new.self.items now c.in_ok-push.ensures.items))
+    (counted_on (live c.args.self.now.graph.now) start paid c.in-Some.frame now (reverse c.pop.new.self.items) c.args.made.now.items c.args.steps.now c.go_on.new.steps c.in_ok-go_on.ensures.vertex
+    (next_costs (live c.args.self.now.graph.now) c.args.types.now c.go_on.new.types c.args.ctxs.now c.go_on.new.ctxs now c.in_ok-go_on.ensures.begun c.in-Some.frame c.in_ok-go_on.ensures.vertex
     (ap (λ (o : OpenVertex). o.next) c.in_ok-go_on.ensures.filled))
-    (omega (arith, ticks)) (subst (λ (frs : List Frame). AreCounted (live c.args.self.now.parents.now) start paid c.args.steps.now frs c.args.made.now.items) (on_top c.pop.new.self.items c.args.stack.now.items c.in-Some.frame c.in-Some.ensures.items) counted))
+    (omega (arith, ticks)) (subst (λ (frs : List Frame). AreCounted (live c.args.self.now.graph.now) start paid c.args.steps.now frs c.args.made.now.items) (on_top c.pop.new.self.items c.args.stack.now.items c.in-Some.frame c.in-Some.ensures.items) counted))
 
 -- ---- the record of the vertex is made
 
@@ -95,12 +95,12 @@ returns-clause-way g c = λ from before way.
     let within = of.0.state.filled.within in
     let whole : c.in-Some.frame.state.next ≡ length (positions c.in-Some.frame.state.ctor.now) = omega (arith, within, c.if-frame-position_count.false, c.position_count.ensures) in
     on_ok_so c.hand_on.result (IsHanded c.settle.new.types c.in_ok-given.given (reverse c.pop.new.self.items) (reverse c.hand_on.new.stack.items))
-    (IsUnderWay (live c.args.self.now.parents.now) c.settle.new.types c.args.ctxs.now c.args.self.now.records.now (on c.args.self.now.whole c.args.self.now.passed.now) from before (reverse c.hand_on.new.stack.items) c.settle.new.made.items)
+    (IsUnderWay (live c.args.self.now.graph.now) c.settle.new.types c.args.ctxs.now c.args.self.now.records.now (on c.args.self.now.whole c.args.self.now.passed.now) from before (reverse c.hand_on.new.stack.items) c.settle.new.made.items)
     (λ handed.
-    settled_up (live c.args.self.now.parents.now) c.args.self.now.well_formed c.args.types.now c.settle.new.types c.args.ctxs.now c.args.ctxs.now c.in_ok-given.ensures.kept (contexts-itself c.args.ctxs.now)
+    settled_up (live c.args.self.now.graph.now) c.args.self.now.well_formed c.args.types.now c.settle.new.types c.args.ctxs.now c.args.ctxs.now c.in_ok-given.ensures.kept (contexts-itself c.args.ctxs.now)
     c.args.self.now.records.now c.requires.records (on c.args.self.now.whole c.args.self.now.passed.now) from before c.in-Some.frame (reverse c.pop.new.self.items) (reverse c.hand_on.new.stack.items) c.args.made.now.items
-    c.settle.new.made.items c.in_ok-given.given (none_first c.in-Some.frame.left.now c.in_default-first.ensures.value) whole of c.requires.made c.in_ok-given.ensures.settled c.in_ok-given.ensures.given handed
-    (subst (λ (frs : List Frame). IsUnderWay (live c.args.self.now.parents.now) c.args.types.now c.args.ctxs.now c.args.self.now.records.now (on c.args.self.now.whole c.args.self.now.passed.now) from before frs c.args.made.now.items)
+    c.settle.new.made.items c.in_ok-given.given (none_first c.in-Some.frame.left c.in_default-first.ensures.value) whole of c.requires.made c.in_ok-given.ensures.settled c.in_ok-given.ensures.given handed
+    (subst (λ (frs : List Frame). IsUnderWay (live c.args.self.now.graph.now) c.args.types.now c.args.ctxs.now c.args.self.now.records.now (on c.args.self.now.whole c.args.self.now.passed.now) from before frs c.args.made.now.items)
     (on_top c.pop.new.self.items c.args.stack.now.items c.in-Some.frame c.in-Some.ensures.items) way))
     c.hand_on.ensures.handed
 
@@ -121,42 +121,42 @@ returns-clause-frames g c =
 pub returns-clause-counted : goal.returns-clause-counted
 returns-clause-counted g c = λ start paid counted.
     let settled = c.in_ok-given.ensures.settled in
-    on_ok_so c.hand_on.result (AreMoved (live c.args.self.now.parents.now) (reverse c.pop.new.self.items) (reverse c.hand_on.new.stack.items))
-    (AreCounted (live c.args.self.now.parents.now) start paid c.args.steps.now (reverse c.hand_on.new.stack.items) c.settle.new.made.items)
+    on_ok_so c.hand_on.result (AreMoved (live c.args.self.now.graph.now) (reverse c.pop.new.self.items) (reverse c.hand_on.new.stack.items))
+    (AreCounted (live c.args.self.now.graph.now) start paid c.args.steps.now (reverse c.hand_on.new.stack.items) c.settle.new.made.items)
     (λ moved.
-    counted_up (live c.args.self.now.parents.now) start paid c.in-Some.frame (reverse c.pop.new.self.items) (reverse c.hand_on.new.stack.items) c.args.made.now.items c.settle.new.made.items settled.kept c.args.steps.now settled.behind
-    moved.costs moved.weighs (subst (λ (frs : List Frame). AreCounted (live c.args.self.now.parents.now) start paid c.args.steps.now frs c.args.made.now.items) (on_top c.pop.new.self.items c.args.stack.now.items c.in-Some.frame c.in-Some.ensures.items) counted))
-    (c.hand_on.ensures.moved (live c.args.self.now.parents.now))
+    counted_up (live c.args.self.now.graph.now) start paid c.in-Some.frame (reverse c.pop.new.self.items) (reverse c.hand_on.new.stack.items) c.args.made.now.items c.settle.new.made.items settled.kept c.args.steps.now settled.behind
+    moved.costs moved.weighs (subst (λ (frs : List Frame). AreCounted (live c.args.self.now.graph.now) start paid c.args.steps.now frs c.args.made.now.items) (on_top c.pop.new.self.items c.args.stack.now.items c.in-Some.frame c.in-Some.ensures.items) counted))
+    (c.hand_on.ensures.moved (live c.args.self.now.graph.now))
 
 -- ---- what was counted, also where memory runs out
 
 pub returns-in_default-clause-paid : goal.returns-in_default-clause-paid
 returns-in_default-clause-paid g c = λ from before start paid way counted.
-    paid_now (live c.args.self.now.parents.now) c.args.types.now c.args.ctxs.now c.args.self.now.records.now (on c.args.self.now.whole c.args.self.now.passed.now) from before c.args.made.now.items start paid c.args.steps.now c.args.steps.now (reverse c.args.stack.now.items) way counted (omega arith)
+    paid_now (live c.args.self.now.graph.now) c.args.types.now c.args.ctxs.now c.args.self.now.records.now (on c.args.self.now.whole c.args.self.now.passed.now) from before c.args.made.now.items start paid c.args.steps.now c.args.steps.now (reverse c.args.stack.now.items) way counted (omega arith)
 
 pub returns-in_err-given-clause-paid : goal.returns-in_err-given-clause-paid
 returns-in_err-given-clause-paid g c = λ from before start paid way counted.
-    paid_now (live c.args.self.now.parents.now) c.args.types.now c.args.ctxs.now c.args.self.now.records.now (on c.args.self.now.whole c.args.self.now.passed.now) from before c.args.made.now.items start paid c.args.steps.now c.args.steps.now (reverse c.args.stack.now.items) way counted (omega arith)
+    paid_now (live c.args.self.now.graph.now) c.args.types.now c.args.ctxs.now c.args.self.now.records.now (on c.args.self.now.whole c.args.self.now.passed.now) from before c.args.made.now.items start paid c.args.steps.now c.args.steps.now (reverse c.args.stack.now.items) way counted (omega arith)
 
 pub returns-clause-paid : goal.returns-clause-paid
 returns-clause-paid g c = λ from before start paid way counted.
-    paid_now (live c.args.self.now.parents.now) c.args.types.now c.args.ctxs.now c.args.self.now.records.now (on c.args.self.now.whole c.args.self.now.passed.now) from before c.args.made.now.items start paid c.args.steps.now c.args.steps.now (reverse c.args.stack.now.items) way counted (omega arith)
+    paid_now (live c.args.self.now.graph.now) c.args.types.now c.args.ctxs.now c.args.self.now.records.now (on c.args.self.now.whole c.args.self.now.passed.now) from before c.args.made.now.items start paid c.args.steps.now c.args.steps.now (reverse c.args.stack.now.items) way counted (omega arith)
 
 pub returns-in_err-go_on-clause-paid : goal.returns-in_err-go_on-clause-paid
 returns-in_err-go_on-clause-paid g c = λ from before start paid way counted.
-    paid_on (live c.args.self.now.parents.now) c.args.types.now c.args.ctxs.now c.args.self.now.records.now (on c.args.self.now.whole c.args.self.now.passed.now) from before c.args.made.now.items start paid c.args.steps.now c.go_on.new.steps c.args.stack.now.items c.pop.new.self.items c.in-Some.frame c.in-Some.ensures.items
+    paid_on (live c.args.self.now.graph.now) c.args.types.now c.args.ctxs.now c.args.self.now.records.now (on c.args.self.now.whole c.args.self.now.passed.now) from before c.args.made.now.items start paid c.args.steps.now c.go_on.new.steps c.args.stack.now.items c.pop.new.self.items c.in-Some.frame c.in-Some.ensures.items
     way counted c.go_on.ensures.at_most
 
 pub returns-in_err-push-clause-paid : goal.returns-in_err-push-clause-paid
 returns-in_err-push-clause-paid g c = λ from before start paid way counted.
-    paid_on (live c.args.self.now.parents.now) c.args.types.now c.args.ctxs.now c.args.self.now.records.now (on c.args.self.now.whole c.args.self.now.passed.now) from before c.args.made.now.items start paid c.args.steps.now c.go_on.new.steps c.args.stack.now.items c.pop.new.self.items c.in-Some.frame c.in-Some.ensures.items
+    paid_on (live c.args.self.now.graph.now) c.args.types.now c.args.ctxs.now c.args.self.now.records.now (on c.args.self.now.whole c.args.self.now.passed.now) from before c.args.made.now.items start paid c.args.steps.now c.go_on.new.steps c.args.stack.now.items c.pop.new.self.items c.in-Some.frame c.in-Some.ensures.items
     way counted c.go_on.ensures.at_most
 
 pub returns-then-frame-position_count-clause-paid : goal.returns-then-frame-position_count-clause-paid
 returns-then-frame-position_count-clause-paid g c = λ from before start paid way counted.
-    paid_on (live c.args.self.now.parents.now) c.args.types.now c.args.ctxs.now c.args.self.now.records.now (on c.args.self.now.whole c.args.self.now.passed.now) from before c.args.made.now.items start paid c.args.steps.now c.go_on.new.steps c.args.stack.now.items c.pop.new.self.items c.in-Some.frame c.in-Some.ensures.items
+    paid_on (live c.args.self.now.graph.now) c.args.types.now c.args.ctxs.now c.args.self.now.records.now (on c.args.self.now.whole c.args.self.now.passed.now) from before c.args.made.now.items start paid c.args.steps.now c.go_on.new.steps c.args.stack.now.items c.pop.new.self.items c.in-Some.frame c.in-Some.ensures.items
     way counted c.go_on.ensures.at_most
 
 pub returns-in-Some-first-clause-paid : goal.returns-in-Some-first-clause-paid
 returns-in-Some-first-clause-paid g c = λ from before start paid way counted.
-    c.take.ensures.paid from before c.args.made.now.items start paid (subst (λ (frs : List Frame). IsUnderWay (live c.args.self.now.parents.now) c.args.types.now c.args.ctxs.now c.args.self.now.records.now (on c.args.self.now.whole c.args.self.now.passed.now) from before frs c.args.made.now.items) (on_top c.pop.new.self.items c.args.stack.now.items c.in-Some.frame c.in-Some.ensures.items) way) (subst (λ (frs : List Frame). AreCounted (live c.args.self.now.parents.now) start paid c.args.steps.now frs c.args.made.now.items) (on_top c.pop.new.self.items c.args.stack.now.items c.in-Some.frame c.in-Some.ensures.items) counted)
+    c.take.ensures.paid from before c.args.made.now.items start paid (subst (λ (frs : List Frame). IsUnderWay (live c.args.self.now.graph.now) c.args.types.now c.args.ctxs.now c.args.self.now.records.now (on c.args.self.now.whole c.args.self.now.passed.now) from before frs c.args.made.now.items) (on_top c.pop.new.self.items c.args.stack.now.items c.in-Some.frame c.in-Some.ensures.items) way) (subst (λ (frs : List Frame). AreCounted (live c.args.self.now.graph.now) start paid c.args.steps.now frs c.args.made.now.items) (on_top c.pop.new.self.items c.args.stack.now.items c.in-Some.frame c.in-Some.ensures.items) counted)

@@ -4,81 +4,65 @@ use Rattle.grove_edits.specs.Edit.{edit_edge, edit_kind}
 use Rattle.grove_edits.specs.Graph.{graph, graph_join, IsSame}
 use Rattle.graph_words.specs.declared.change.Change.TheVariants.{Same}
 use Rattle.graph_words.specs.States.{state_in}
-use Rattle.mark_incremental.specs.Raising.{LeavesRoom, MovesRoom, brought_by, taken_by}
 use Rattle.std.specs.Prelude.{IfSome}
 use Rattle.mark_incremental.specs.declared.applying.Applied.{Applied}
 use Rattle.mark_incremental.specs.Standing.{StandFor}
 use Rattle.mark_incremental.specs.Applying.{WasApplied, IsApplied, IsBack, HaveGrown}
 use Rattle.mark_incremental.proofs.Receipts.{room_then}
-use Rattle.mark_incremental.proofs.Room.{leaves_room, leaves_more}
 use Rattle.mark_incremental.proofs.Stack.{if_ok_so}
 use Rattle.grove_sorts.proofs.Truths.{after_error, none_from_cases}
 use Rattle.mark_incremental.proofs.Edited.{grown_stands, nothing_grown}
 use Rattle.mark_incremental.proofs.Idle.{joined_same, nothing_applied}
-use Rattle.mark_incremental.proofs.AppliedOver.{if_ok_on, on_err_so, either_way, grown_then, joined_over, applied_over, size_over, room_over, room_over_targets}
+use Rattle.mark_incremental.proofs.AppliedOver.{if_ok_on, on_err_so, either_way, grown_then, joined_over, applied_over, size_over}
 use Rattle.mark_incremental.proofs.marks.Marks.apply.Goals as goal
 
 pub returns-then-is_raised-clause-joined : goal.returns-then-is_raised-clause-joined
-returns-then-is_raised-clause-joined g c = joined_same c.args.edit.now (state_in c.args.store.now) (c.is_raised.ensures.0 c.if-is_raised.true)
+returns-then-is_raised-clause-joined g c = joined_same c.args.edit.now (state_in c.args.graph.now) (c.is_raised.ensures.0 c.if-is_raised.true)
 
 pub returns-then-is_raised-clause-applied : goal.returns-then-is_raised-clause-applied
 returns-then-is_raised-clause-applied g c =
-    nothing_applied c.args.edit.now (record { change = Same; old = record { records = c.new.result; root = None } }) c.args.store.now c.args.self.now (c.is_raised.ensures.0 c.if-is_raised.true) refl c.new.ensures.items refl
+    nothing_applied c.args.edit.now (record { change = Same; old = record { records = c.new.result; root = None } }) c.args.graph.now c.args.self.now (c.is_raised.ensures.0 c.if-is_raised.true) refl c.new.ensures.items refl
     c.requires.stand
 
-pub returns-in_err-reserve-clause-stand : goal.returns-in_err-reserve-clause-stand
-returns-in_err-reserve-clause-stand g c =
-    grown_stands (state_in c.args.store.now) (state_in c.reserve.new.store) c.args.self.now c.args.self.now c.requires.stand c.reserve.ensures.graph (nothing_grown c.args.self.now)
-
-pub returns-in_err-reserve-clause-index_room_stays : goal.returns-in_err-reserve-clause-index_room_stays
-returns-in_err-reserve-clause-index_room_stays g c =
-    after_error c.from_residual.result
-    (leaves_more (edit_edge c.args.edit.now) c.args.children.now c.reserve.new.children c.args.parents.now c.reserve.new.parents c.reserve.ensures.children_room c.reserve.ensures.parents_room)
+pub returns-in_err-make_room-clause-stand : goal.returns-in_err-make_room-clause-stand
+returns-in_err-make_room-clause-stand g c =
+    grown_stands (state_in c.args.graph.now) (state_in c.make_room.new.self) c.args.self.now c.args.self.now c.requires.stand c.make_room.ensures.unchanged (nothing_grown c.args.self.now)
 
 -- ---- a short walk is tried
 
 pub apply_short-requires-clause-stand : goal.apply_short-requires-clause-stand
 apply_short-requires-clause-stand g c =
-    grown_stands (state_in c.args.store.now) (state_in c.reserve.new.store) c.args.self.now c.args.self.now c.requires.stand c.reserve.ensures.graph (nothing_grown c.args.self.now)
+    grown_stands (state_in c.args.graph.now) (state_in c.make_room.new.self) c.args.self.now c.args.self.now c.requires.stand c.make_room.ensures.unchanged (nothing_grown c.args.self.now)
 
 pub returns-in_err-applied-clause-stand : goal.returns-in_err-applied-clause-stand
 returns-in_err-applied-clause-stand g c =
-    grown_stands (state_in c.args.store.now) (state_in c.apply_short.new.store) c.args.self.now c.apply_short.new.self c.requires.stand (λ e. c.in_err-applied.ensures.unchanged.same e ∙ c.reserve.ensures.graph e) c.in_err-applied.ensures.unchanged.grown
+    grown_stands (state_in c.args.graph.now) (state_in c.apply_short.new.graph) c.args.self.now c.apply_short.new.self c.requires.stand (λ e. c.in_err-applied.ensures.unchanged.same e ∙ c.make_room.ensures.unchanged e) c.in_err-applied.ensures.unchanged.grown
 
 pub returns-in_err-applied-clause-ticks : goal.returns-in_err-applied-clause-ticks
 returns-in_err-applied-clause-ticks g c = λ n size.
-    let short = c.apply_short.ensures.ticks n (size_over c.args.edit.now (state_in c.args.store.now) (state_in c.reserve.new.store) n c.reserve.ensures.graph size) in
+    let short = c.apply_short.ensures.ticks n (size_over c.args.edit.now (state_in c.args.graph.now) (state_in c.make_room.new.self) n c.make_room.ensures.unchanged size) in
     omega (arith, short)
 
 pub returns-in-Some-clause-joined : goal.returns-in-Some-clause-joined
 returns-in-Some-clause-joined g c =
     let is =
-    subst (λ o. IfSome o (λ (a : Applied). IsApplied c.args.edit.now a c.reserve.new.store c.args.self.now c.apply_short.new.store c.apply_short.new.self)) c.in-Some.is c.in_ok-applied.ensures.applied in
-    joined_over c.args.edit.now (state_in c.args.store.now) (state_in c.reserve.new.store) (state_in c.apply_short.new.store) c.reserve.ensures.graph is.was.raised.joined
+    subst (λ o. IfSome o (λ (a : Applied). IsApplied c.args.edit.now a c.make_room.new.self c.args.self.now c.apply_short.new.graph c.apply_short.new.self)) c.in-Some.is c.in_ok-applied.ensures.applied in
+    joined_over c.args.edit.now (state_in c.args.graph.now) (state_in c.make_room.new.self) (state_in c.apply_short.new.graph) c.make_room.ensures.unchanged is.was.raised.joined
 
 pub returns-in-Some-clause-applied : goal.returns-in-Some-clause-applied
 returns-in-Some-clause-applied g c =
     let is =
-    subst (λ o. IfSome o (λ (a : Applied). IsApplied c.args.edit.now a c.reserve.new.store c.args.self.now c.apply_short.new.store c.apply_short.new.self)) c.in-Some.is c.in_ok-applied.ensures.applied in
-    applied_over c.args.edit.now c.in-Some.applied c.args.store.now c.reserve.new.store c.apply_short.new.store c.args.self.now c.args.self.now c.apply_short.new.self c.reserve.ensures.graph (nothing_grown c.args.self.now)
+    subst (λ o. IfSome o (λ (a : Applied). IsApplied c.args.edit.now a c.make_room.new.self c.args.self.now c.apply_short.new.graph c.apply_short.new.self)) c.in-Some.is c.in_ok-applied.ensures.applied in
+    applied_over c.args.edit.now c.in-Some.applied c.args.graph.now c.make_room.new.self c.apply_short.new.graph c.args.self.now c.args.self.now c.apply_short.new.self c.make_room.ensures.unchanged (nothing_grown c.args.self.now)
     c.requires.stand is.was
-
-pub returns-in-Some-clause-index_room : goal.returns-in-Some-clause-index_room
-returns-in-Some-clause-index_room g c =
-    let moves =
-    subst
-    (λ o. IfSome o (λ (a : Applied). MovesRoom (edit_edge c.args.edit.now) (brought_by (edit_kind c.args.edit.now) a.change) (taken_by (edit_kind c.args.edit.now) a.change) c.reserve.new.children c.apply_short.new.children c.reserve.new.parents
-    c.apply_short.new.parents)) c.in-Some.is c.in_ok-applied.ensures.index_room in
-    leaves_room (edit_edge c.args.edit.now) (brought_by (edit_kind c.args.edit.now) c.in-Some.applied.change) (taken_by (edit_kind c.args.edit.now) c.in-Some.applied.change) c.args.children.now c.reserve.new.children c.apply_short.new.children
-    c.args.parents.now c.reserve.new.parents c.apply_short.new.parents c.reserve.ensures.children_room c.reserve.ensures.parents_room moves
 
 pub returns-in-Some-clause-ticks : goal.returns-in-Some-clause-ticks
 returns-in-Some-clause-ticks g c = λ n size.
-    let short = c.apply_short.ensures.ticks n (size_over c.args.edit.now (state_in c.args.store.now) (state_in c.reserve.new.store) n c.reserve.ensures.graph size) in
+    let short = c.apply_short.ensures.ticks n (size_over c.args.edit.now (state_in c.args.graph.now) (state_in c.make_room.new.self) n c.make_room.ensures.unchanged size) in
     omega (arith, short)
 
 pub returns-in-Some-clause-room_stays : goal.returns-in-Some-clause-room_stays
-returns-in-Some-clause-room_stays g c = λ e had. c.apply_short.ensures.room_stays e (c.reserve.ensures.room_stays e had)
+returns-in-Some-clause-room_stays g c = λ e had. c.apply_short.ensures.room_stays e (c.make_room.ensures.room_stays e had)
 
 -- ---- it is not enough
 
@@ -86,14 +70,14 @@ pub returns-clause-unchanged : goal.returns-clause-unchanged
 returns-clause-unchanged g c =
     let back = c.in_ok-applied.ensures.back (none_from_cases c.in_ok-applied.field-0 c.in_default.not-Some) in
     on_err_so c.apply_whole.result
-    (IsBack c.apply_short.new.store c.apply_short.new.children c.apply_short.new.parents c.apply_short.new.self c.apply_whole.new.store c.apply_whole.new.children c.apply_whole.new.parents c.apply_whole.new.self)
-    (IsSame (state_in c.apply_whole.new.store) (state_in c.args.store.now)) (λ again e. again.same e ∙ back.same e ∙ c.reserve.ensures.graph e) c.apply_whole.ensures.unchanged
+    (IsBack c.apply_short.new.graph c.apply_short.new.self c.apply_whole.new.graph c.apply_whole.new.self)
+    (IsSame (state_in c.apply_whole.new.graph) (state_in c.args.graph.now)) (λ again e. again.same e ∙ back.same e ∙ c.make_room.ensures.unchanged e) c.apply_whole.ensures.unchanged
 
 pub returns-clause-kept : goal.returns-clause-kept
 returns-clause-kept g c =
     let back = c.in_ok-applied.ensures.back (none_from_cases c.in_ok-applied.field-0 c.in_default.not-Some) in
     on_err_so c.apply_whole.result
-    (IsBack c.apply_short.new.store c.apply_short.new.children c.apply_short.new.parents c.apply_short.new.self c.apply_whole.new.store c.apply_whole.new.children c.apply_whole.new.parents c.apply_whole.new.self)
+    (IsBack c.apply_short.new.graph c.apply_short.new.self c.apply_whole.new.graph c.apply_whole.new.self)
     (HaveGrown c.args.self.now c.apply_whole.new.self) (λ again. grown_then c.args.self.now c.apply_short.new.self c.apply_whole.new.self back.grown again.grown) c.apply_whole.ensures.unchanged
 
 pub returns-clause-marks_room_stays : goal.returns-clause-marks_room_stays
@@ -102,57 +86,35 @@ returns-clause-marks_room_stays g c = room_then c.args.self.now c.apply_short.ne
 pub apply_whole-requires-clause-stand : goal.apply_whole-requires-clause-stand
 apply_whole-requires-clause-stand g c =
     let back = c.in_ok-applied.ensures.back (none_from_cases c.in_ok-applied.field-0 c.in_default.not-Some) in
-    grown_stands (state_in c.args.store.now) (state_in c.apply_short.new.store) c.args.self.now c.apply_short.new.self c.requires.stand (λ e. back.same e ∙ c.reserve.ensures.graph e) back.grown
+    grown_stands (state_in c.args.graph.now) (state_in c.apply_short.new.graph) c.args.self.now c.apply_short.new.self c.requires.stand (λ e. back.same e ∙ c.make_room.ensures.unchanged e) back.grown
 
 pub returns-clause-joined : goal.returns-clause-joined
 returns-clause-joined g c =
     let back = c.in_ok-applied.ensures.back (none_from_cases c.in_ok-applied.field-0 c.in_default.not-Some) in
-    if_ok_on c.apply_whole.result (λ (a : Applied). IsApplied c.args.edit.now a c.apply_short.new.store c.apply_short.new.self c.apply_whole.new.store c.apply_whole.new.self)
-    (IsSame (state_in c.apply_whole.new.store) (graph_join (state_in c.args.store.now) (graph (c.args.edit.now ∷ []))))
-    (λ a is. joined_over c.args.edit.now (state_in c.args.store.now) (state_in c.apply_short.new.store) (state_in c.apply_whole.new.store) (λ e. back.same e ∙ c.reserve.ensures.graph e) is.was.raised.joined) c.apply_whole.ensures.applied
+    if_ok_on c.apply_whole.result (λ (a : Applied). IsApplied c.args.edit.now a c.apply_short.new.graph c.apply_short.new.self c.apply_whole.new.graph c.apply_whole.new.self)
+    (IsSame (state_in c.apply_whole.new.graph) (graph_join (state_in c.args.graph.now) (graph (c.args.edit.now ∷ []))))
+    (λ a is. joined_over c.args.edit.now (state_in c.args.graph.now) (state_in c.apply_short.new.graph) (state_in c.apply_whole.new.graph) (λ e. back.same e ∙ c.make_room.ensures.unchanged e) is.was.raised.joined) c.apply_whole.ensures.applied
 
 pub returns-clause-stand : goal.returns-clause-stand
 returns-clause-stand g c =
     let back = c.in_ok-applied.ensures.back (none_from_cases c.in_ok-applied.field-0 c.in_default.not-Some) in
-    either_way c.apply_whole.result (λ (a : Applied). IsApplied c.args.edit.now a c.apply_short.new.store c.apply_short.new.self c.apply_whole.new.store c.apply_whole.new.self)
-    (IsBack c.apply_short.new.store c.apply_short.new.children c.apply_short.new.parents c.apply_short.new.self c.apply_whole.new.store c.apply_whole.new.children c.apply_whole.new.parents c.apply_whole.new.self)
-    (StandFor (state_in c.apply_whole.new.store) c.apply_whole.new.self) (λ a is. is.stand)
-    (λ again. grown_stands (state_in c.args.store.now) (state_in c.apply_whole.new.store) c.args.self.now c.apply_whole.new.self c.requires.stand (λ e. again.same e ∙ back.same e ∙ c.reserve.ensures.graph e)
+    either_way c.apply_whole.result (λ (a : Applied). IsApplied c.args.edit.now a c.apply_short.new.graph c.apply_short.new.self c.apply_whole.new.graph c.apply_whole.new.self)
+    (IsBack c.apply_short.new.graph c.apply_short.new.self c.apply_whole.new.graph c.apply_whole.new.self)
+    (StandFor (state_in c.apply_whole.new.graph) c.apply_whole.new.self) (λ a is. is.stand)
+    (λ again. grown_stands (state_in c.args.graph.now) (state_in c.apply_whole.new.graph) c.args.self.now c.apply_whole.new.self c.requires.stand (λ e. again.same e ∙ back.same e ∙ c.make_room.ensures.unchanged e)
     (grown_then c.args.self.now c.apply_short.new.self c.apply_whole.new.self back.grown again.grown)) c.apply_whole.ensures.applied c.apply_whole.ensures.unchanged
 
 pub returns-clause-applied : goal.returns-clause-applied
 returns-clause-applied g c =
     let back = c.in_ok-applied.ensures.back (none_from_cases c.in_ok-applied.field-0 c.in_default.not-Some) in
-    if_ok_so c.apply_whole.result (λ (a : Applied). IsApplied c.args.edit.now a c.apply_short.new.store c.apply_short.new.self c.apply_whole.new.store c.apply_whole.new.self)
-    (λ (a : Applied). WasApplied c.args.edit.now a c.args.store.now c.args.self.now c.apply_whole.new.store c.apply_whole.new.self)
-    (λ a is. applied_over c.args.edit.now a c.args.store.now c.apply_short.new.store c.apply_whole.new.store c.args.self.now c.apply_short.new.self c.apply_whole.new.self (λ e. back.same e ∙ c.reserve.ensures.graph e) back.grown
+    if_ok_so c.apply_whole.result (λ (a : Applied). IsApplied c.args.edit.now a c.apply_short.new.graph c.apply_short.new.self c.apply_whole.new.graph c.apply_whole.new.self)
+    (λ (a : Applied). WasApplied c.args.edit.now a c.args.graph.now c.args.self.now c.apply_whole.new.graph c.apply_whole.new.self)
+    (λ a is. applied_over c.args.edit.now a c.args.graph.now c.apply_short.new.graph c.apply_whole.new.graph c.args.self.now c.apply_short.new.self c.apply_whole.new.self (λ e. back.same e ∙ c.make_room.ensures.unchanged e) back.grown
     c.requires.stand is.was) c.apply_whole.ensures.applied
-
-pub returns-clause-index_room : goal.returns-clause-index_room
-returns-clause-index_room g c =
-    let back = c.in_ok-applied.ensures.back (none_from_cases c.in_ok-applied.field-0 c.in_default.not-Some) in
-    if_ok_so c.apply_whole.result
-    (λ (a : Applied). MovesRoom (edit_edge c.args.edit.now) (brought_by (edit_kind c.args.edit.now) a.change) (taken_by (edit_kind c.args.edit.now) a.change) c.apply_short.new.children c.apply_whole.new.children c.apply_short.new.parents
-    c.apply_whole.new.parents)
-    (λ (a : Applied). LeavesRoom (edit_edge c.args.edit.now) (brought_by (edit_kind c.args.edit.now) a.change) (taken_by (edit_kind c.args.edit.now) a.change) c.args.children.now c.apply_whole.new.children c.args.parents.now c.apply_whole.new.parents)
-    (λ a moves. leaves_room (edit_edge c.args.edit.now) (brought_by (edit_kind c.args.edit.now) a.change) (taken_by (edit_kind c.args.edit.now) a.change) c.args.children.now c.apply_short.new.children c.apply_whole.new.children
-    c.args.parents.now c.apply_short.new.parents c.apply_whole.new.parents (room_over c.args.children.now c.reserve.new.children c.apply_short.new.children c.reserve.ensures.children_room back.at_origins)
-    (room_over_targets c.args.parents.now c.reserve.new.parents c.apply_short.new.parents c.reserve.ensures.parents_room back.at_targets) moves) c.apply_whole.ensures.index_room
-
-pub returns-clause-index_room_stays : goal.returns-clause-index_room_stays
-returns-clause-index_room_stays g c =
-    let back = c.in_ok-applied.ensures.back (none_from_cases c.in_ok-applied.field-0 c.in_default.not-Some) in
-    on_err_so c.apply_whole.result
-    (IsBack c.apply_short.new.store c.apply_short.new.children c.apply_short.new.parents c.apply_short.new.self c.apply_whole.new.store c.apply_whole.new.children c.apply_whole.new.parents c.apply_whole.new.self)
-    (LeavesRoom (edit_edge c.args.edit.now) 0 0 c.args.children.now c.apply_whole.new.children c.args.parents.now c.apply_whole.new.parents)
-    (λ again. leaves_more (edit_edge c.args.edit.now) c.args.children.now c.apply_whole.new.children c.args.parents.now c.apply_whole.new.parents
-    (room_over c.args.children.now c.apply_short.new.children c.apply_whole.new.children (room_over c.args.children.now c.reserve.new.children c.apply_short.new.children c.reserve.ensures.children_room back.at_origins) again.at_origins)
-    (room_over_targets c.args.parents.now c.apply_short.new.parents c.apply_whole.new.parents (room_over_targets c.args.parents.now c.reserve.new.parents c.apply_short.new.parents c.reserve.ensures.parents_room back.at_targets) again.at_targets))
-    c.apply_whole.ensures.unchanged
 
 pub returns-clause-ticks : goal.returns-clause-ticks
 returns-clause-ticks g c = λ n size.
     let back = c.in_ok-applied.ensures.back (none_from_cases c.in_ok-applied.field-0 c.in_default.not-Some) in
-    let short = c.apply_short.ensures.ticks n (size_over c.args.edit.now (state_in c.args.store.now) (state_in c.reserve.new.store) n c.reserve.ensures.graph size) in
-    let whole = c.apply_whole.ensures.ticks n (size_over c.args.edit.now (state_in c.args.store.now) (state_in c.apply_short.new.store) n (λ e. back.same e ∙ c.reserve.ensures.graph e) size) in
+    let short = c.apply_short.ensures.ticks n (size_over c.args.edit.now (state_in c.args.graph.now) (state_in c.make_room.new.self) n c.make_room.ensures.unchanged size) in
+    let whole = c.apply_whole.ensures.ticks n (size_over c.args.edit.now (state_in c.args.graph.now) (state_in c.apply_short.new.graph) n (λ e. back.same e ∙ c.make_room.ensures.unchanged e) size) in
     omega (arith, short, whole)

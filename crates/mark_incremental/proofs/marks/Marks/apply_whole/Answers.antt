@@ -1,10 +1,7 @@
 -- The marks stand for the graph with the edit, or all is as before.
 use Rattle.std.proofs.Common.{refl, arith}
-use Rattle.grove_edits.specs.Edit.{edit_edge, edit_kind}
 use Rattle.graph_words.specs.States.{state_in}
-use Rattle.edge_index.specs.Lists.{live}
-use Rattle.mark_incremental.specs.Raising.{brought_by, taken_by}
-use Rattle.mark_incremental.proofs.Room.{moved_back}
+use Rattle.live_graph.specs.Live.{live}
 use Rattle.mark_incremental.proofs.SizeBound.{size_at, before_within}
 use Rattle.grove_sorts.proofs.Truths.{after_error}
 use Rattle.mark_incremental.proofs.Edited.{stands_before, nothing_grown}
@@ -12,8 +9,8 @@ use Rattle.mark_incremental.proofs.marks.Marks.apply_whole.Goals as goal
 
 pub renew-requires-clause-before : goal.renew-requires-clause-before
 renew-requires-clause-before g c =
-    stands_before c.args.edit.now c.args.edge.now c.requires.edge (state_in c.args.store.now) (state_in c.args.store.now) (state_in c.raise-change.new.store) (live c.args.parents.now) c.args.self.now c.in_ok-before.before c.requires.stand
-    (λ e. refl) c.requires.indexed.live_edges c.raise-change.ensures.raised.joined c.in_ok-before.ensures.walks
+    stands_before c.args.edit.now c.args.edge.now c.requires.edge (state_in c.args.graph.now) (state_in c.args.graph.now) (state_in c.raise-change.new.graph) (live c.args.graph.now) c.args.self.now c.in_ok-before.before c.requires.stand
+    (λ e. refl) c.requires.live c.raise-change.ensures.raised.joined c.in_ok-before.ensures.walks
 
 pub returns-in-Ok-clause-applied : goal.returns-in-Ok-clause-applied
 returns-in-Ok-clause-applied g c = record {
@@ -22,42 +19,42 @@ returns-in-Ok-clause-applied g c = record {
 }
 
 pub returns-in_err-before-clause-unchanged : goal.returns-in_err-before-clause-unchanged
-returns-in_err-before-clause-unchanged g c = after_error c.from_residual.result (record { same = λ e. refl; grown = nothing_grown c.args.self.now; at_origins = λ v p. refl; at_targets = λ v. refl })
+returns-in_err-before-clause-unchanged g c = after_error c.from_residual.result (record { same = λ e. refl; grown = nothing_grown c.args.self.now })
 
 pub returns-clause-unchanged : goal.returns-clause-unchanged
 returns-clause-unchanged g c =
-    let back =
-    moved_back (edit_edge c.args.edit.now) (brought_by (edit_kind c.args.edit.now) c.raise-change.result) (taken_by (edit_kind c.args.edit.now) c.raise-change.result) c.args.children.now c.raise-change.new.children c.put_back.new.children
-    c.args.parents.now c.raise-change.new.parents c.put_back.new.parents c.raise-change.ensures.room c.put_back.ensures.room in
-    record { same = c.put_back.ensures.put_back c.args.store.now c.raise-change.ensures.raised; grown = c.in-Err.ensures.grown; at_origins = back.0; at_targets = back.1 }
+    record { same = c.put_back.ensures.put_back c.args.graph.now c.raise-change.ensures.raised; grown = c.in-Err.ensures.grown }
 
 pub returns-clause-room_stays : goal.returns-clause-room_stays
 returns-clause-room_stays g c = λ e held. c.put_back.ensures.room_stays e (c.raise-change.ensures.room_stays e held)
 
+pub returns-clause-numbers_stay : goal.returns-clause-numbers_stay
+returns-clause-numbers_stay g c = λ e n is. c.put_back.ensures.numbers_stay e n (c.raise-change.ensures.numbers_stay e n is)
+
 pub returns-in_err-before-clause-ticks : goal.returns-in_err-before-clause-ticks
 returns-in_err-before-clause-ticks g c = λ n size.
-    let walks = before_within c.requires.stand.edits c.args.edit.now (state_in c.args.store.now) c.requires.stand.made c.args.edge.now c.requires.edge n size (live c.args.parents.now) c.requires.indexed.live_edges in
+    let walks = before_within c.requires.stand.edits c.args.edit.now (state_in c.args.graph.now) c.requires.stand.made c.args.edge.now c.requires.edge n size (live c.args.graph.now) c.requires.live in
     let ticks = c.walk_from_ends.ensures.ticks in
     omega (arith, walks, ticks)
 
 pub returns-in-Ok-clause-ticks : goal.returns-in-Ok-clause-ticks
 returns-in-Ok-clause-ticks g c = λ n size.
-    let walks = before_within c.requires.stand.edits c.args.edit.now (state_in c.args.store.now) c.requires.stand.made c.args.edge.now c.requires.edge n size (live c.args.parents.now) c.requires.indexed.live_edges in
+    let walks = before_within c.requires.stand.edits c.args.edit.now (state_in c.args.graph.now) c.requires.stand.made c.args.edge.now c.requires.edge n size (live c.args.graph.now) c.requires.live in
     let ticks = c.walk_from_ends.ensures.ticks in
     let renewed =
     c.renew.ensures.ticks
-    (stands_before c.args.edit.now c.args.edge.now c.requires.edge (state_in c.args.store.now) (state_in c.args.store.now) (state_in c.raise-change.new.store) (live c.args.parents.now) c.args.self.now c.in_ok-before.before
-    c.requires.stand (λ e. refl) c.requires.indexed.live_edges c.raise-change.ensures.raised.joined c.in_ok-before.ensures.walks)
-    n (size_at c.requires.stand.edits c.args.edit.now (state_in c.args.store.now) c.requires.stand.made c.args.edge.now c.requires.edge n size) in
+    (stands_before c.args.edit.now c.args.edge.now c.requires.edge (state_in c.args.graph.now) (state_in c.args.graph.now) (state_in c.raise-change.new.graph) (live c.args.graph.now) c.args.self.now c.in_ok-before.before
+    c.requires.stand (λ e. refl) c.requires.live c.raise-change.ensures.raised.joined c.in_ok-before.ensures.walks)
+    n (size_at c.requires.stand.edits c.args.edit.now (state_in c.args.graph.now) c.requires.stand.made c.args.edge.now c.requires.edge n size) in
     omega (arith, walks, ticks, renewed)
 
 pub returns-clause-ticks : goal.returns-clause-ticks
 returns-clause-ticks g c = λ n size.
-    let walks = before_within c.requires.stand.edits c.args.edit.now (state_in c.args.store.now) c.requires.stand.made c.args.edge.now c.requires.edge n size (live c.args.parents.now) c.requires.indexed.live_edges in
+    let walks = before_within c.requires.stand.edits c.args.edit.now (state_in c.args.graph.now) c.requires.stand.made c.args.edge.now c.requires.edge n size (live c.args.graph.now) c.requires.live in
     let ticks = c.walk_from_ends.ensures.ticks in
     let renewed =
     c.renew.ensures.ticks
-    (stands_before c.args.edit.now c.args.edge.now c.requires.edge (state_in c.args.store.now) (state_in c.args.store.now) (state_in c.raise-change.new.store) (live c.args.parents.now) c.args.self.now c.in_ok-before.before
-    c.requires.stand (λ e. refl) c.requires.indexed.live_edges c.raise-change.ensures.raised.joined c.in_ok-before.ensures.walks)
-    n (size_at c.requires.stand.edits c.args.edit.now (state_in c.args.store.now) c.requires.stand.made c.args.edge.now c.requires.edge n size) in
+    (stands_before c.args.edit.now c.args.edge.now c.requires.edge (state_in c.args.graph.now) (state_in c.args.graph.now) (state_in c.raise-change.new.graph) (live c.args.graph.now) c.args.self.now c.in_ok-before.before
+    c.requires.stand (λ e. refl) c.requires.live c.raise-change.ensures.raised.joined c.in_ok-before.ensures.walks)
+    n (size_at c.requires.stand.edits c.args.edit.now (state_in c.args.graph.now) c.requires.stand.made c.args.edge.now c.requires.edge n size) in
     omega (arith, walks, ticks, renewed)

@@ -6,7 +6,7 @@ use Rattle.grove_edits.specs.declared.vertex.Vertex.{Vertex}
 use Rattle.grove_edits.specs.Graph.{graph}
 use Rattle.type_core.specs.Typ.{Typ}
 use Rattle.ctx_table.specs.Context.{Context}
-use Rattle.edge_index.specs.Lists.{live}
+use Rattle.live_graph.specs.Live.{live}
 use Rattle.kept_records.specs.Change.{near_size}
 use Rattle.kept_records.specs.Local.{kept_demand}
 use Rattle.mark_store.specs.Places.{Places, value_at}
@@ -24,7 +24,7 @@ use Rattle.mark_incremental.proofs.marks.Marks.renew_at_conflict.Goals as goal
 
 pub returns-in_err-made-clause-ticks : goal.returns-in_err-made-clause-ticks
 returns-in_err-made-clause-ticks g c = λ seen may near are_near.
-    let new = live c.args.parents.now in
+    let new = live c.args.graph.now in
     let marks = c.args.self.now in
     let further = subst (λ (m : KeptMarks). IsCameOrSource m.records c.args.edge.now c.came_or_source-further.result) c.self.view_is c.came_or_source-further.ensures in
     let s = serves c.args.edge.now new marks seen c.in_ok-judged.judged c.came_or_source-further.result c.args.demand may c.requires.several c.in_ok-judged.ensures further c.requires.demand in
@@ -34,7 +34,7 @@ returns-in_err-made-clause-ticks g c = λ seen may near are_near.
 
 pub returns-in_default-clause-ticks : goal.returns-in_default-clause-ticks
 returns-in_default-clause-ticks g c = λ seen may near are_near.
-    let new = live c.args.parents.now in
+    let new = live c.args.graph.now in
     let marks = c.args.self.now in
     let further = subst (λ (m : KeptMarks). IsCameOrSource m.records c.args.edge.now c.came_or_source-further.result) c.self.view_is c.came_or_source-further.ensures in
     let s = serves c.args.edge.now new marks seen c.in_ok-judged.judged c.came_or_source-further.result c.args.demand may c.requires.several c.in_ok-judged.ensures further c.requires.demand in
@@ -44,7 +44,7 @@ returns-in_default-clause-ticks g c = λ seen may near are_near.
 
 pub returns-in_err-records-clause-ticks : goal.returns-in_err-records-clause-ticks
 returns-in_err-records-clause-ticks g c = λ seen may near are_near.
-    let new = live c.args.parents.now in
+    let new = live c.args.graph.now in
     let marks = c.args.self.now in
     let further = subst (λ (m : KeptMarks). IsCameOrSource m.records c.args.edge.now c.came_or_source-further.result) c.self.view_is c.came_or_source-further.ensures in
     let s = serves c.args.edge.now new marks seen c.in_ok-judged.judged c.came_or_source-further.result c.args.demand may c.requires.several c.in_ok-judged.ensures further c.requires.demand in
@@ -54,7 +54,7 @@ returns-in_err-records-clause-ticks g c = λ seen may near are_near.
 
 pub returns-clause-ticks : goal.returns-clause-ticks
 returns-clause-ticks g c = λ seen may near are_near.
-    let new = live c.args.parents.now in
+    let new = live c.args.graph.now in
     let marks = c.args.self.now in
     let further = subst (λ (m : KeptMarks). IsCameOrSource m.records c.args.edge.now c.came_or_source-further.result) c.self.view_is c.came_or_source-further.ensures in
     let s = serves c.args.edge.now new marks seen c.in_ok-judged.judged c.came_or_source-further.result c.args.demand may c.requires.several c.in_ok-judged.ensures further c.requires.demand in
@@ -64,7 +64,7 @@ returns-clause-ticks g c = λ seen may near are_near.
 
 pub returns-clause-renewed : goal.returns-clause-renewed
 returns-clause-renewed g c = λ seen may.
-    let new = live c.args.parents.now in
+    let new = live c.args.graph.now in
     let marks = c.args.self.now in
     let middle = c.make_below_conflict.new.self in
     let edge = c.args.edge.now in

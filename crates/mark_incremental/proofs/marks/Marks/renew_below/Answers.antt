@@ -2,7 +2,7 @@
 use Rattle.std.proofs.Common.{◌≡◌, List, ◌∷◌, false, sym, ap, subst, ◌∙◌, arith}
 use Rattle.grove_edits.specs.declared.vertex.Vertex.{Vertex}
 use Rattle.grove_edits.specs.Graph.{graph}
-use Rattle.edge_index.specs.Lists.{live}
+use Rattle.live_graph.specs.Live.{live}
 use Rattle.kept_records.specs.Kept.{AreKept}
 use Rattle.kept_records.specs.Local.{kept_demand}
 use Rattle.mark_store.specs.declared.record.Record.{Record}
@@ -16,7 +16,7 @@ use Rattle.mark_incremental.proofs.marks.Marks.renew_below.Goals as goal
 
 pub returns-in_err-made-clause-ticks : goal.returns-in_err-made-clause-ticks
 returns-in_err-made-clause-ticks g c = λ seen leads near are_near.
-    let new = live c.args.parents.now in
+    let new = live c.args.graph.now in
     let marks = c.args.self.now in
     let top = c.args.way.now.top in
     let there = subst (λ (m : KeptMarks). IsDemandThere m.records top c.in-Some.demand) c.self.view_is c.in-Some.ensures in
@@ -29,7 +29,7 @@ returns-in_err-made-clause-ticks g c = λ seen leads near are_near.
 
 pub returns-then-not-may_end-clause-ticks : goal.returns-then-not-may_end-clause-ticks
 returns-then-not-may_end-clause-ticks g c = λ seen leads near are_near.
-    let new = live c.args.parents.now in
+    let new = live c.args.graph.now in
     let marks = c.args.self.now in
     let top = c.args.way.now.top in
     let there = subst (λ (m : KeptMarks). IsDemandThere m.records top c.in-Some.demand) c.self.view_is c.in-Some.ensures in
@@ -43,7 +43,7 @@ returns-then-not-may_end-clause-ticks g c = λ seen leads near are_near.
 
 pub returns-in_err-replace-clause-ticks : goal.returns-in_err-replace-clause-ticks
 returns-in_err-replace-clause-ticks g c = λ seen leads near are_near.
-    let new = live c.args.parents.now in
+    let new = live c.args.graph.now in
     let marks = c.args.self.now in
     let top = c.args.way.now.top in
     let there = subst (λ (m : KeptMarks). IsDemandThere m.records top c.in-Some.demand) c.self.view_is c.in-Some.ensures in
@@ -57,7 +57,7 @@ returns-in_err-replace-clause-ticks g c = λ seen leads near are_near.
 
 pub returns-clause-ticks : goal.returns-clause-ticks
 returns-clause-ticks g c = λ seen leads near are_near.
-    let new = live c.args.parents.now in
+    let new = live c.args.graph.now in
     let marks = c.args.self.now in
     let top = c.args.way.now.top in
     let there = subst (λ (m : KeptMarks). IsDemandThere m.records top c.in-Some.demand) c.self.view_is c.in-Some.ensures in
@@ -71,7 +71,7 @@ returns-clause-ticks g c = λ seen leads near are_near.
 
 pub returns-clause-renewed : goal.returns-clause-renewed
 returns-clause-renewed g c = λ seen leads.
-    let new = live c.args.parents.now in
+    let new = live c.args.graph.now in
     let marks = c.args.self.now in
     let middle = c.make_both.new.self in
     let top = c.args.way.now.top in

@@ -4,7 +4,7 @@ use Rattle.std.specs.Prelude.{filter}
 use Rattle.std.proofs.lemmas.Result.{on_ok_weaker}
 use Rattle.grove_edits.specs.Graph.{graph}
 use Rattle.grove_edits.specs.Edit.{edit_edge}
-use Rattle.edge_index.specs.Lists.{live}
+use Rattle.live_graph.specs.Live.{live}
 use Rattle.kept_records.specs.Local.{is_inner}
 use Rattle.mark_incremental.proofs.NearCost.{near_ticked}
 use Rattle.mark_store.specs.declared.record.Record.{Record}
@@ -18,7 +18,7 @@ use Rattle.mark_incremental.proofs.marks.Marks.renew_near.Goals as goal
 
 pub returns-clause-renewed : goal.returns-clause-renewed
 returns-clause-renewed g c = λ edits edit old are_old are_new stay kept walked walks.
-    let new = live c.args.parents.now in
+    let new = live c.args.graph.now in
     let marks = c.args.self.now in
     let middle = c.make.new.self in
     let numbers = subst (λ (m : KeptMarks). AreRecordsOf m.types m.contexts m.records) c.self.view_is c.self.invariant in
@@ -35,7 +35,7 @@ returns-clause-renewed g c = λ edits edit old are_old are_new stay kept walked 
 
 pub returns-in_err-made-clause-ticks : goal.returns-in_err-made-clause-ticks
 returns-in_err-made-clause-ticks g c = λ edits edit old are_old are_new stay kept walked walks near are_near.
-    let new = live c.args.parents.now in
+    let new = live c.args.graph.now in
     let marks = c.args.self.now in
     near_ticked edits edit old new are_old are_new marks.types marks.contexts marks.records c.in_ok-passed.passed.set c.in_ok-passed.passed.vertices.items c.in_ok-passed.ensures.these
     (on_four old new (edit_edge edit) c.args.before.now c.args.after.now walked walks c.in_ok-passed.passed.set c.in_ok-passed.ensures.passed) near are_near stay kept c.deref.result.now c.deref.ensures.value c.args.steps.now c.make.new.steps
@@ -43,7 +43,7 @@ returns-in_err-made-clause-ticks g c = λ edits edit old are_old are_new stay ke
 
 pub returns-clause-ticks : goal.returns-clause-ticks
 returns-clause-ticks g c = λ edits edit old are_old are_new stay kept walked walks near are_near.
-    let new = live c.args.parents.now in
+    let new = live c.args.graph.now in
     let marks = c.args.self.now in
     near_ticked edits edit old new are_old are_new marks.types marks.contexts marks.records c.in_ok-passed.passed.set c.in_ok-passed.passed.vertices.items c.in_ok-passed.ensures.these
     (on_four old new (edit_edge edit) c.args.before.now c.args.after.now walked walks c.in_ok-passed.passed.set c.in_ok-passed.ensures.passed) near are_near stay kept c.deref.result.now c.deref.ensures.value c.args.steps.now c.make.new.steps

@@ -4,7 +4,7 @@ use Rattle.std.specs.Prelude.{filter}
 use Rattle.std.proofs.lemmas.Result.{on_ok_weaker}
 use Rattle.grove_edits.specs.Graph.{graph}
 use Rattle.grove_edits.specs.Edit.{edit_edge}
-use Rattle.edge_index.specs.Lists.{live}
+use Rattle.live_graph.specs.Live.{live}
 use Rattle.kept_records.specs.Local.{is_inner}
 use Rattle.mark_store.specs.declared.record.Record.{Record}
 use Rattle.mark_store.specs.Places.{Places, value_at}
@@ -18,7 +18,7 @@ use Rattle.mark_incremental.proofs.marks.Marks.renew_whole.Goals as goal
 
 pub returns-clause-renewed : goal.returns-clause-renewed
 returns-clause-renewed g c = λ edits edit old are_old are_new to walked only kept.
-    let new = live c.args.parents.now in
+    let new = live c.args.graph.now in
     let marks = c.args.self.now in
     let middle = c.make.new.self in
     let numbers = subst (λ (m : KeptMarks). AreRecordsOf m.types m.contexts m.records) c.self.view_is c.self.invariant in
@@ -38,7 +38,7 @@ returns-clause-renewed g c = λ edits edit old are_old are_new to walked only ke
 
 pub returns-in_err-made-clause-ticks : goal.returns-in_err-made-clause-ticks
 returns-in_err-made-clause-ticks g c = λ edits edit old are_old are_new to walked only n size.
-    let new = live c.args.parents.now in
+    let new = live c.args.graph.now in
     let marks = c.args.self.now in
     let vertices = c.in_ok-passed.passed.vertices.items in
     whole_within edits edit old new are_old are_new c.args.root.now only n size vertices
@@ -48,7 +48,7 @@ returns-in_err-made-clause-ticks g c = λ edits edit old are_old are_new to walk
 
 pub returns-clause-ticks : goal.returns-clause-ticks
 returns-clause-ticks g c = λ edits edit old are_old are_new to walked only n size.
-    let new = live c.args.parents.now in
+    let new = live c.args.graph.now in
     let marks = c.args.self.now in
     let vertices = c.in_ok-passed.passed.vertices.items in
     whole_within edits edit old new are_old are_new c.args.root.now only n size vertices

@@ -8,7 +8,7 @@ use Rattle.mark_incremental.proofs.marks.Marks.take_back.Goals as goal
 
 pub returns-clause-stand : goal.returns-clause-stand
 returns-clause-stand c = λ before marks was.
-    grown_stands (state_in before) (state_in c.put_back.new.store) marks c.put_back-2.new.self was.stood (c.put_back.ensures.put_back before was.raised)
+    grown_stands (state_in before) (state_in c.put_back.new.graph) marks c.put_back-2.new.self was.stood (c.put_back.ensures.put_back before was.raised)
     (record {
       types = subst (KeepsTypes marks.types) (sym c.put_back-2.ensures.types) was.renewed.types;
       contexts = subst (KeepsContexts marks.contexts) (sym c.put_back-2.ensures.contexts) was.renewed.contexts;
