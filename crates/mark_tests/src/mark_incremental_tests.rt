@@ -1,30 +1,25 @@
 ghost use Rattle.std.specs.Prelude.{◌≡◌, ◌<◌, IfOk};
 ghost use Rattle.graph_words.specs.States.{state_in};
-ghost use Rattle.mark_incremental.specs.Raising.{AreIndexed};
 ghost use Rattle.mark_incremental.specs.Standing.{StandFor};
 ghost use Rattle.mark_incremental.specs.Applying.{CanTakeBack};
 
-use child_index::ChildIndex;
 use edit_text::read_line;
-use graph_store::GraphStore;
 use graph_words::Steps;
 use grove_edits::Edit;
 use grove_sorts::Version;
+use live_graph::LiveGraph;
 use mark_incremental::*;
 use mark_step::{Mark, Mode};
-use parent_index::ParentIndex;
 use std::alloc::Global;
 use std::marker::Brand;
 use std::sync::ledger::{Blank, Ledger};
 use std::test::Fail;
 use type_core::{TypeId, TypeTable};
 
-// A graph with its indexes and its marks. What has one drops it by a call, so that the parts are let go in one place.
+// A graph and its marks. What has one drops it by a call, so that the parts are let go in one place.
 #[derive(Drop)]
 struct Live {
-    store: GraphStore,
-    children: ChildIndex,
-    parents: ParentIndex,
+    graph: LiveGraph,
     marks: Marks,
 }
 
@@ -50,14 +45,11 @@ fn type_word(types: &TypeTable, typ: Option<TypeId>) -> &'static str {
 }
 
 fn empty(alloc: Global) -> Result<Live, Fail>
-    ensures indexed { IfOk result (λ live. AreIndexed live.store live.children live.parents) }
-    ensures stand { IfOk result (λ live. StandFor (state_in live.store) live.marks) }
+    ensures stand { IfOk result (λ live. StandFor (state_in live.graph) live.marks) }
 {
     let marks = Marks::new(alloc)?;
     Ok(Live {
-        store: GraphStore::new(alloc),
-        children: ChildIndex::new(alloc),
-        parents: ParentIndex::new(alloc),
+        graph: LiveGraph::new(alloc),
         marks,
     })
 }
@@ -68,17 +60,13 @@ fn edit(line: &str) -> Result<Edit, Fail> {
 
 impl Live {
     fn apply<L: Ledger>(&mut self, line: &str, steps: &mut Steps<L>) -> Result<(), Fail>
-        requires indexed { AreIndexed self.old.store self.old.children self.old.parents }
-        requires stand { StandFor (state_in self.old.store) self.old.marks }
-        ensures indexed { AreIndexed self.new.store self.new.children self.new.parents }
-        ensures stand { StandFor (state_in self.new.store) self.new.marks }
+        requires stand { StandFor (state_in self.old.graph) self.old.marks }
+        ensures stand { StandFor (state_in self.new.graph) self.new.marks }
     {
         let edit = edit(line)?;
         self.marks.apply(
             &edit,
-            &mut self.store,
-            &mut self.children,
-            &mut self.parents,
+            &mut self.graph,
             steps,
         )?;
         Ok(())
@@ -96,28 +84,22 @@ impl Live {
     }
 
     fn take_back(&mut self, edit: &Edit, applied: &Applied)
-        requires indexed { AreIndexed self.old.store self.old.children self.old.parents }
-        requires can { CanTakeBack edit.now applied.now self.old.store self.old.children self.old.parents self.old.marks }
+        requires can { CanTakeBack edit.now applied.now self.old.graph self.old.marks }
     {
         self.marks.take_back(
             edit,
             applied,
-            &mut self.store,
-            &mut self.children,
-            &mut self.parents,
+            &mut self.graph,
         );
     }
 
     // Whether there was memory for all of these edits.
     fn apply_all<L: Ledger>(&mut self, edits: &[Edit], steps: &mut Steps<L>) -> bool
-        requires indexed { AreIndexed self.old.store self.old.children self.old.parents }
-        requires stand { StandFor (state_in self.old.store) self.old.marks }
+        requires stand { StandFor (state_in self.old.graph) self.old.marks }
     {
         let applied = self.marks.apply_all(
             edits,
-            &mut self.store,
-            &mut self.children,
-            &mut self.parents,
+            &mut self.graph,
             steps,
         );
         applied.is_ok()
@@ -128,8 +110,7 @@ fn after_counting<L: Ledger>(alloc: Global, lines: &[&str], blank: Blank) -> Res
     requires name { blank.name ≡ L.name }
     requires parts { blank.parts ≡ L.parts }
     requires some { 0 < blank.parts }
-    ensures indexed { IfOk result (λ live. AreIndexed live.store live.children live.parents) }
-    ensures stand { IfOk result (λ live. StandFor (state_in live.store) live.marks) }
+    ensures stand { IfOk result (λ live. StandFor (state_in live.graph) live.marks) }
 {
     let mut steps = Steps::<L>::new(blank);
     let mut live = empty(alloc)?;
@@ -140,8 +121,7 @@ fn after_counting<L: Ledger>(alloc: Global, lines: &[&str], blank: Blank) -> Res
 }
 
 fn after(alloc: Global, lines: &[&str]) -> Result<Live, Fail>
-    ensures indexed { IfOk result (λ live. AreIndexed live.store live.children live.parents) }
-    ensures stand { IfOk result (λ live. StandFor (state_in live.store) live.marks) }
+    ensures stand { IfOk result (λ live. StandFor (state_in live.graph) live.marks) }
 {
     after_counting::<Brand>(alloc, lines, Blank::new(1))
 }
@@ -151,17 +131,13 @@ fn applied_counting<L: Ledger>(live: &mut Live, edit: &Edit, blank: Blank) -> Re
     requires name { blank.name ≡ L.name }
     requires parts { blank.parts ≡ L.parts }
     requires some { 0 < blank.parts }
-    requires indexed { AreIndexed live.old.store live.old.children live.old.parents }
-    requires stand { StandFor (state_in live.old.store) live.old.marks }
-    ensures indexed { AreIndexed live.new.store live.new.children live.new.parents }
-    ensures can { IfOk result (λ applied. CanTakeBack edit.now applied live.new.store live.new.children live.new.parents live.new.marks) }
+    requires stand { StandFor (state_in live.old.graph) live.old.marks }
+    ensures can { IfOk result (λ applied. CanTakeBack edit.now applied live.new.graph live.new.marks) }
 {
     let mut steps = Steps::<L>::new(blank);
     let applied = live.marks.apply(
         edit,
-        &mut live.store,
-        &mut live.children,
-        &mut live.parents,
+        &mut live.graph,
         &mut steps,
     )?;
     Ok(applied)
@@ -171,8 +147,7 @@ fn all_counting<L: Ledger>(live: &mut Live, edits: &[Edit], blank: Blank) -> boo
     requires name { blank.name ≡ L.name }
     requires parts { blank.parts ≡ L.parts }
     requires some { 0 < blank.parts }
-    requires indexed { AreIndexed live.old.store live.old.children live.old.parents }
-    requires stand { StandFor (state_in live.old.store) live.old.marks }
+    requires stand { StandFor (state_in live.old.graph) live.old.marks }
 {
     let mut steps = Steps::<L>::new(blank);
     live.apply_all(edits, &mut steps)
@@ -187,8 +162,7 @@ fn told_after(alloc: Global, lines: &[&str], line: &str) -> Result<Told, Fail> {
 
 // What is told while an edit is applied, and once it is taken back.
 fn told_around(live: &mut Live, edit: &Edit, line: &str) -> Result<(Told, Told), Fail>
-    requires indexed { AreIndexed live.old.store live.old.children live.old.parents }
-    requires stand { StandFor (state_in live.old.store) live.old.marks }
+    requires stand { StandFor (state_in live.old.graph) live.old.marks }
 {
     let applied = applied_counting::<Brand>(live, edit, Blank::new(1))?;
     let told = live.told(line)?;
@@ -225,8 +199,7 @@ fn told_once_applied(
     further: &[&str],
     line: &str,
 ) -> Result<(bool, Told), Fail>
-    requires indexed { AreIndexed live.old.store live.old.children live.old.parents }
-    requires stand { StandFor (state_in live.old.store) live.old.marks }
+    requires stand { StandFor (state_in live.old.graph) live.old.marks }
 {
     let edits = edits_of(alloc, further)?;
     let applied = all_counting::<Brand>(live, &edits, Blank::new(1));

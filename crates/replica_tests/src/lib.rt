@@ -7,7 +7,7 @@ mod grove_tools_tests;
 #[cfg(test)]
 mod grove_top_tests;
 #[cfg(test)]
-mod marked_replica_tests;
+mod kept_marks_tests;
 #[cfg(test)]
 mod replica_core_tests;
 #[cfg(test)]

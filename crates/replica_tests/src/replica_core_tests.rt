@@ -21,7 +21,7 @@ fn take<L: Ledger>(
 ) -> Result<(), Fail> {
     for line in lines {
         let edit = read_line(Version::One, line.as_bytes())?;
-        replica.apply(alloc, &edit, steps)?;
+        replica.apply(&edit, steps)?;
     }
     Ok(())
 }

@@ -71,8 +71,8 @@ impl<T: Drop> From<AllocFailed<T>> for Fault {
     }
 }
 
-impl From<marked_replica::NoMemory> for Fault {
-    fn from(_error: marked_replica::NoMemory) -> Fault {
+impl From<replica_core::NoMemory> for Fault {
+    fn from(_error: replica_core::NoMemory) -> Fault {
         Fault::NoMemory
     }
 }

@@ -5,7 +5,7 @@ use grove_edits::{Edit, Vertex};
 use grove_printer::print_tree;
 use grove_terms::LentNode;
 use mark_incremental::Marks;
-use marked_replica::MarkedReplica;
+use replica_core::Replica;
 use marking::{Added, MarkedTree};
 use std::alloc::{AllocFailed, Global};
 
@@ -31,13 +31,13 @@ fn push_new(vertices: &mut Vec<Vertex>, vertex: Vertex) -> Result<(), AllocFaile
 /// The canonical text of a replica, and behind it what it keeps of each of these vertices.
 pub(crate) fn state_text(
     alloc: Global,
-    marked: &MarkedReplica,
+    replica: &Replica,
     vertices: &[Vertex],
 ) -> Result<Vec<u8>, Fault> {
     let mut text = Vec::new(alloc);
-    marked.canonical(alloc, &mut text)?;
+    replica.canonical(alloc, &mut text)?;
     for vertex in vertices {
-        append_kept(alloc, marked.marks(), vertex, &mut text)?;
+        append_kept(alloc, replica.marks(), vertex, &mut text)?;
     }
     Ok(text)
 }

@@ -3,8 +3,8 @@ use Rattle.edge_lists.specs.Lists.{AreEdgeNumbers}
 use Rattle.live_graph.proofs.Numbers.{known_first, known_later}
 use Rattle.live_graph.proofs.edges.Edges.split_first.Goals as goal
 
-pub edge-requires : goal.edge-requires
-edge-requires c =
+pub invariant_of-edge : goal.invariant_of-edge
+invariant_of-edge c =
     let edges = c.self.inside.edges.now in
     known_first edges c.in_ok-first.first.now c.in_ok-first.others.now (subst (AreEdgeNumbers edges) c.in_ok-first.ensures.cases.0 c.self.invariant)
 

@@ -2,12 +2,11 @@ ghost use Rattle.std.specs.Prelude.{◌≡◌, ◌<◌};
 
 use edit_text::read_line;
 use graph_words::Steps;
-use grove_edits::{Action, Actor, Answer, Bytes, Command, EditList, Place};
+use grove_edits::{Action, Place};
 use grove_names::Name;
 use grove_sorts::{Ctor, Position, Version};
 use mark_step::Mark;
-use marked_replica::*;
-use shared_replica::Machine;
+use replica_core::*;
 use std::alloc::Global;
 use std::marker::Brand;
 use std::sync::ledger::{Blank, Ledger};
@@ -22,13 +21,13 @@ const SUM: [&str; 3] = [
 // Takes the edits of lines.
 fn take<L: Ledger>(
     alloc: Global,
-    marked: &mut MarkedReplica,
+    marked: &mut Replica,
     lines: &[&str],
     steps: &mut Steps<L>,
 ) -> Result<(), Fail> {
     for line in lines {
         let edit = read_line(Version::Two, line.as_bytes())?;
-        marked.apply(alloc, &edit, steps)?;
+        marked.apply(&edit, steps)?;
     }
     Ok(())
 }
@@ -46,10 +45,10 @@ const GOOD_TRUTH: Told = Told {
 };
 
 // What is kept of the vertex to which the edge of a line leads.
-fn kept(marked: &mut MarkedReplica, line: &str) -> Result<Option<Told>, Fail> {
+fn kept(marked: &mut Replica, line: &str) -> Result<Option<Told>, Fail> {
     let edge = read_line(Version::Two, line.as_bytes())?.edge();
-    let boolean = marked.types().boolean();
-    let record = marked.kept(&edge.target);
+    let boolean = marked.marks().types().boolean();
+    let record = marked.marks().kept(&edge.target);
     Ok(record.map(|record| Told {
         mark: record.mark,
         is_boolean: record.typ == Some(boolean),
@@ -62,20 +61,20 @@ fn taken_counting<L: Ledger>(
     lines: &[&str],
     later: &[&str],
     blank: Blank,
-) -> Result<MarkedReplica, Fail>
+) -> Result<Replica, Fail>
     requires name { blank.name ≡ L.name }
     requires parts { blank.parts ≡ L.parts }
     requires some { 0 < blank.parts }
 {
     let mut steps = Steps::<L>::new(blank);
-    let mut marked = MarkedReplica::new(alloc)?;
+    let mut marked = Replica::new(alloc)?;
     take(alloc, &mut marked, lines, &mut steps)?;
     marked.begin_block(alloc)?;
     take(alloc, &mut marked, later, &mut steps)?;
     Ok(marked)
 }
 
-fn taken(alloc: Global, lines: &[&str], last: &str) -> Result<MarkedReplica, Fail> {
+fn taken(alloc: Global, lines: &[&str], last: &str) -> Result<Replica, Fail> {
     taken_counting::<Brand>(alloc, lines, &[last], Blank::new(1))
 }
 
@@ -119,20 +118,20 @@ fn acted_counting<L: Ledger>(
     lines: &[&str],
     action: &Action,
     blank: Blank,
-) -> Result<MarkedReplica, Fail>
+) -> Result<Replica, Fail>
     requires name { blank.name ≡ L.name }
     requires parts { blank.parts ≡ L.parts }
     requires some { 0 < blank.parts }
 {
     let mut steps = Steps::<L>::new(blank);
-    let mut marked = MarkedReplica::new(alloc)?;
+    let mut marked = Replica::new(alloc)?;
     take(alloc, &mut marked, lines, &mut steps)?;
     marked.begin_block(alloc)?;
     let (_edits, _answer) = marked.act(alloc, 1, action, &mut steps)?;
     Ok(marked)
 }
 
-fn acted(alloc: Global, lines: &[&str], action: &Action) -> Result<MarkedReplica, Fail> {
+fn acted(alloc: Global, lines: &[&str], action: &Action) -> Result<Replica, Fail> {
     acted_counting::<Brand>(alloc, lines, action, Blank::new(1))
 }
 
@@ -182,58 +181,5 @@ fn a_use_takes_the_type_of_what_comes_in_place(rt: HostRuntime) -> Result<(), Fa
     };
     let defined = kept_once_acted(rt.alloc(), &DEFINITION, &literal, DEFINITION[3])?;
     assert!(rt; defined == Some(GOOD_TRUTH));
-    Ok(())
-}
-
-// The edits of these lines.
-fn edits_of(alloc: Global, lines: &[&str]) -> Result<EditList, Fail> {
-    let mut edits = EditList::new(alloc);
-    for line in lines {
-        edits.push(read_line(Version::One, line.as_bytes())?)?;
-    }
-    Ok(edits)
-}
-
-// The answer to edits that a send brings. The canonical text then is appended.
-fn sent_counting<L: Ledger>(
-    alloc: Global,
-    marked: &mut MarkedReplica,
-    command: &Command,
-    blank: Blank,
-    text: &mut Vec<u8>,
-) -> Result<Answer, Fail>
-    requires name { blank.name ≡ L.name }
-    requires parts { blank.parts ≡ L.parts }
-    requires some { 0 < blank.parts }
-{
-    let mut steps = Steps::<L>::new(blank);
-    let (_edits, answer) = marked.step(alloc, Actor::Send(1), command, &mut steps)?;
-    marked.canonical(alloc, text)?;
-    Ok(answer)
-}
-
-fn sent(alloc: Global, command: &Command, text: &mut Vec<u8>) -> Result<Answer, Fail> {
-    let mut marked = MarkedReplica::new(alloc)?;
-    sent_counting::<Brand>(alloc, &mut marked, command, Blank::new(1), text)
-}
-
-fn text_once_sent(alloc: Global, lines: &[&str], text: &mut Vec<u8>) -> Result<Answer, Fail> {
-    let edits = edits_of(alloc, lines)?;
-    let command = Command::Take {
-        piece: 1,
-        bytes: Bytes::of(Vec::new(alloc)),
-        edits,
-    };
-    sent(alloc, &command, text)
-}
-
-#[test]
-fn a_step_takes_edits(rt: HostRuntime) -> Result<(), Fail> {
-    let mut text = Vec::new(rt.alloc());
-    let answer = text_once_sent(rt.alloc(), &[SUM[0], SUM[2]], &mut text)?;
-    assert!(rt; answer == Answer::Taken { edits: 2 });
-    assert!(rt;
-        text.as_slice() == b"+1.2 0.0 root main 1.1 plus\n+1.6 1.1 plus right 1.5 true\n".as_slice()
-    );
     Ok(())
 }

@@ -1,3 +1,0 @@
-pub mod MarkingCosts
-pub mod OneRecord
-pub mod MarksSeen

@@ -1,2 +1,0 @@
-pub mod MarkingCost
-pub mod MarksKept
