@@ -36,13 +36,6 @@ use Rattle.mark_incremental.specs.ShortWalks.{MakesAlone, inner as inner_there, 
 use Rattle.mark_incremental.specs.AtConflict.{MakesAtConflict, heads, stays, begins_there, IsStartBelow, IsConflictPaid, IsDemandBelow, StandsAtEdge}
 use Rattle.mark_incremental.proofs.Steps.{kept_demand_of, agree_expression, again}
 
--- one more child is not the edge
-pub absent_past : (e : Edge) (es : List Edge) (n : ℕ) (d : Edge) → n < length es → d ≡ get_or es n d → is_same_edge d e ≡ false → holds_edge e es ≡ holds_edge e (drop n es) → holds_edge e es ≡ holds_edge e (drop (n + 1) es)
-absent_past e es n d within is other so_far =
-    let next : n + 1 ≡ suc n = omega arith in
-    so_far ∙ ap (holds_edge e) (drop-cons es n d within) ∙ ap (λ (x : Edge). is_same_edge x e || holds_edge e (drop (suc n) es)) (sym is)
-    ∙ ap (λ b. b || holds_edge e (drop (suc n) es)) other ∙ ap (λ (k : ℕ). holds_edge e (drop k es)) (sym next)
-
 -- ---- what is made for the target
 
 not_member : (v : Vertex) → IsMember v [] → ⊥

@@ -13,8 +13,8 @@ use crate::way::above_inner;
 use graph_words::{Few, Steps};
 use grove_edits::{Edge, Vertex, is_same_vertex};
 use grove_sorts::position_count;
-use mark_store::{MarkStore, VertexMap};
 use live_graph::LiveGraph;
+use mark_store::{MarkStore, VertexMap};
 use std::sync::ledger::Ledger;
 
 // Whether a vertex has no graph, since it has no positions or is no vertex of the graph.

@@ -5,9 +5,7 @@ ghost use Rattle.grove_edits.specs.declared.edge.Edge.{Edge};
 ghost use Rattle.grove_edits.specs.declared.edit.Edit.{Edit};
 ghost use Rattle.grove_edits.specs.Edit.{edit_edge, edit_kind};
 ghost use Rattle.grove_edits.specs.Graph.{IsSame, graph as graph_of, graph_join, state_of};
-ghost use Rattle.live_graph.specs.Live.{live};
 ghost use Rattle.live_graph.specs.NumberOf.{KeepsNumbersOf};
-ghost use Rattle.graph_words.specs.Whole.{AreLive};
 ghost use Rattle.graph_words.specs.States.{state_in, Entries, HasRoom, KeepsRoom};
 ghost use Rattle.kept_records.specs.Size.{IsSize};
 ghost use Rattle.mark_incremental.specs.Looking.{holds};
@@ -23,8 +21,8 @@ use crate::rooting::set_root;
 use edge_lattice::{State, leq};
 use graph_words::{ParentOf, Steps};
 use grove_edits::{Edge, Edit, EditKind, Vertex};
-use mark_store::Record;
 use live_graph::{Change, LiveGraph};
+use mark_store::Record;
 use std::sync::ledger::Ledger;
 use text_parts::NoMemory;
 
@@ -90,8 +88,6 @@ impl Marks {
         }
         let edge = edit.edge();
         graph.make_room(&edge)?;
-        // The live edges are those whose state is Live.
-        let _edges = graph.edge_count();
         if let Some(applied) = self.apply_short(edit, &edge, graph, steps)? {
             return Ok(applied);
         }
@@ -108,7 +104,6 @@ impl Marks {
         steps: &mut Steps<L>,
     ) -> Result<Option<Applied>, NoMemory>
         requires edge { edit_edge edit.now ≡ edge.now }
-        requires live { AreLive (state_in graph.old) (live graph.old) }
         requires stand { StandFor (state_in graph.old) self.old }
         requires room { HasRoom graph.old (edit_edge edit.now) }
         ensures applied { IfOk result (λ r. IfSome r (λ applied. IsApplied edit.now applied graph.old self.old graph.new self.new)) }
@@ -120,6 +115,8 @@ impl Marks {
         ensures marks_room_stays { KeepMarksRoom self.old self.new }
         ensures ticks { (size : ℕ) → IsSize (edit_edge edit.now) (state_in graph.old) (graph_join (state_in graph.old) (graph_of (edit.now ∷ []))) size → steps.new ≤ steps.old + 23 * size + 31 }
     {
+        // The live edges are those whose state is Live.
+        let _edges = graph.edge_count();
         let before = graph.few(&edge.target, steps);
         let apart = is_apart(
             &edge.target,
@@ -152,7 +149,6 @@ impl Marks {
         steps: &mut Steps<L>,
     ) -> Result<Applied, NoMemory>
         requires edge { edit_edge edit.now ≡ edge.now }
-        requires live { AreLive (state_in graph.old) (live graph.old) }
         requires stand { StandFor (state_in graph.old) self.old }
         requires room { HasRoom graph.old (edit_edge edit.now) }
         ensures applied { IfOk result (λ applied. IsApplied edit.now applied graph.old self.old graph.new self.new) }
@@ -163,6 +159,8 @@ impl Marks {
         ensures marks_room_stays { KeepMarksRoom self.old self.new }
         ensures ticks { (size : ℕ) → IsSize (edit_edge edit.now) (state_in graph.old) (graph_join (state_in graph.old) (graph_of (edit.now ∷ []))) size → steps.new ≤ steps.old + 40 * size + 21 }
     {
+        // The live edges are those whose state is Live.
+        let _edges = graph.edge_count();
         let before = walk_from_ends(self.alloc, self.seed, edge, graph, steps)?;
         let change = raise(edit, graph);
         match self.renew(edge, &before, graph, steps) {
@@ -190,12 +188,7 @@ impl Marks {
     }
 
     /// Takes back an edit that was applied, of which this is the receipt, where nothing has changed since. It takes no memory.
-    pub fn take_back(
-        &mut self,
-        edit: &Edit,
-        applied: &Applied,
-        graph: &mut LiveGraph,
-    )
+    pub fn take_back(&mut self, edit: &Edit, applied: &Applied, graph: &mut LiveGraph)
         requires can { CanTakeBack edit.now applied.now graph.old self.old }
         ensures graph { (before : Entries) (marks : KeptMarks) → WasApplied edit.now applied.now before marks graph.old self.old → IsSame (state_in graph.new) (state_in before) }
         ensures stand { (before : Entries) (marks : KeptMarks) → WasApplied edit.now applied.now before marks graph.old self.old → StandFor (state_in graph.new) self.new }

@@ -24,11 +24,7 @@ pub(crate) struct Receipt<'e> {
 
 impl Marks {
     // Takes back edits, the last one first, of which these are the receipts in the order in which they were applied.
-    fn take_back_all(
-        &mut self,
-        receipts: Vec<Receipt<'_>>,
-        graph: &mut LiveGraph,
-    )
+    fn take_back_all(&mut self, receipts: Vec<Receipt<'_>>, graph: &mut LiveGraph)
         requires led { (before : Held) × HaveLed (reverse receipts.items) before (held graph.old self.old) }
         ensures back { (before : Held) → HaveLed (reverse receipts.entry.items) before (held graph.old self.old)
             → IsAsBefore before (held graph.new self.new) }

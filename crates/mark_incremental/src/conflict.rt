@@ -36,9 +36,9 @@ use ctx_table::CtxTable;
 use graph_words::{Few, Steps};
 use grove_edits::{Edge, Vertex, is_same_vertex};
 use grove_sorts::place_at;
+use live_graph::{Edges, LiveGraph};
 use mark_step::Demand;
 use mark_store::{MarkStore, Record, VertexMap};
-use live_graph::{Edges, LiveGraph};
 use std::alloc::Global;
 use std::sync::ledger::Ledger;
 use text_parts::NoMemory;
@@ -68,20 +68,22 @@ fn sees_alone(edge: &Edge, before: &Few, after: &Few) -> bool
 }
 
 // Whether an edge is not among several.
-fn is_absent(edge: &Edge, children: &Edges<'_>) -> bool
-    ensures { IsTrue result → holds_edge edge.now children.now ≡ false }
+fn is_absent(edge: &Edge, children: Edges<'_>) -> bool
+    ensures { IsTrue result → holds_edge edge.now children.entry ≡ false }
 {
-    for index in 0..children.len() {
-        if children.get(index) == Some(*edge) {
+    let mut left = children;
+    while let Some((child, others)) = left.split_first() {
+        if child.edge() == *edge {
             return false;
         }
+        left = others;
     }
     true
 }
 
 // Whether several children stand at the position of an edge, these, and stood there before an edit of the edge.
-fn were_several(edge: &Edge, children: &Edges<'_>) -> bool
-    ensures { IsTrue result → StoodSeveral edge.now children.now }
+fn were_several(edge: &Edge, children: Edges<'_>) -> bool
+    ensures { IsTrue result → StoodSeveral edge.now children.entry }
 {
     if children.len() > 2 {
         return true;
@@ -108,7 +110,7 @@ pub(crate) fn demand_at_conflict<L: Ledger>(
         return None;
     }
     let there = graph.children(&edge.source, edge.position, steps);
-    if !were_several(edge, &there) {
+    if !were_several(edge, there) {
         return None;
     }
     kept_demand(records, &edge.source)
@@ -201,7 +203,10 @@ impl<'t> Walk<'t> {
         ensures types { KeepsTypes types.old types.new }
         ensures contexts { KeepsContexts ctxs.old ctxs.new }
     {
-        if self.look(types, ctxs, &demand, &edge.target, steps).is_some() {
+        if self
+            .look(types, ctxs, &demand, &edge.target, steps)
+            .is_some()
+        {
             return self.renew_alone(alloc, types, ctxs, &edge.target, &edge.source, steps);
         }
         let mut made = Vec::new(alloc);
@@ -253,7 +258,7 @@ impl Marks {
         graph: &LiveGraph,
         steps: &mut Steps<L>,
     ) -> Result<Option<Vec<(Vertex, Record)>>, NoMemory>
-                requires rooted { AreRoots (live graph.now) self.old.roots }
+        requires rooted { AreRoots (live graph.now) self.old.roots }
         requires well_formed { AllByRecursion IsWellFormed (live graph.now) }
         requires demand { IsDemandOf self.old.types self.old.contexts demand }
         ensures target { (d : Demanded) (place : IsStart (live graph.now) self.old.types self.old.contexts demand (start_at edge.now.source d))
@@ -298,7 +303,7 @@ impl Marks {
         graph: &LiveGraph,
         steps: &mut Steps<L>,
     ) -> Result<Option<OldRecords>, NoMemory>
-                requires rooted { AreRoots (live graph.now) self.old.roots }
+        requires rooted { AreRoots (live graph.now) self.old.roots }
         requires well_formed { AllByRecursion IsWellFormed (live graph.now) }
         requires demand { IsDemandThere self.old.records edge.now.source demand }
         requires several { StoodSeveral edge.now (children_of edge.now.source edge.now.position (live graph.now)) }
@@ -316,8 +321,7 @@ impl Marks {
     {
         let further = came_or_source(&self.records, edge);
         let judged = judged_with(self.alloc, self.seed, &edge.source, &[], &further)?;
-        let Some(made) = self.make_below_conflict(&judged, edge, demand, graph, steps)?
-        else {
+        let Some(made) = self.make_below_conflict(&judged, edge, demand, graph, steps)? else {
             return Ok(None);
         };
         let records = self.replace(made)?;

@@ -18,9 +18,9 @@ use graph_words::{Few, ParentOf, Steps};
 use grove_edits::Vertex;
 use grove_sorts::{Sort, sort_of};
 use judging::{Given, nothing};
+use live_graph::LiveGraph;
 use mark_step::{Demand, Mode};
 use mark_store::{MarkStore, Record, VertexMap};
-use live_graph::LiveGraph;
 use std::sync::ledger::Ledger;
 use type_core::TypeTable;
 
@@ -35,7 +35,7 @@ pub(crate) struct Walk<'t> {
     pub(crate) whole: bool,
     /// These are, where not all are.
     pub(crate) passed: &'t VertexMap<bool>,
-        ghost rooted: { AreRoots (live graph.now) roots.now },
+    ghost rooted: { AreRoots (live graph.now) roots.now },
     ghost well_formed: { AllByRecursion IsWellFormed (live graph.now) } by { Prim.hlevel props },
 }
 

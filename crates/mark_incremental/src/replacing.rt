@@ -38,8 +38,8 @@ use crate::walks_up::WalkUp;
 use graph_words::Steps;
 use grove_edits::{Edge, Vertex};
 use kept_records::whole_trees_renew_the_records;
-use mark_store::{Record, VertexMap};
 use live_graph::LiveGraph;
+use mark_store::{Record, VertexMap};
 use std::sync::ledger::Ledger;
 use text_parts::NoMemory;
 
@@ -54,7 +54,7 @@ impl Marks {
         graph: &LiveGraph,
         steps: &mut Steps<L>,
     ) -> Result<Vec<(Vertex, Record)>, NoMemory>
-                requires rooted { AreRoots (live graph.now) self.old.roots }
+        requires rooted { AreRoots (live graph.now) self.old.roots }
         requires well_formed { AllByRecursion IsWellFormed (live graph.now) }
         ensures trees { IfOk result (λ made. HasMadeTrees (live graph.now) self.new.types self.new.contexts self.old.records (on whole passed.now)
             (filter (λ v. not (is_inner (live graph.now) v)) vertices.now) made.items) }
@@ -112,14 +112,14 @@ impl Marks {
         graph: &LiveGraph,
         steps: &mut Steps<L>,
     ) -> Result<Vec<(Vertex, Option<Record>)>, NoMemory>
-                requires rooted { AreRoots (live graph.now) self.old.roots }
+        requires rooted { AreRoots (live graph.now) self.old.roots }
         requires well_formed { AllByRecursion IsWellFormed (live graph.now) }
-        ensures renewed { (edits : List Edit) (edit : Edit) (old : List Edge) → AreLive (graph edits) old → AreLive (graph_of (edit ∷ edits)) (live graph.now)
-            → CyclesStay old (live graph.now) → AreKept (graph edits) old (records_in self.old)
+        ensures renewed { (edits : List Edit) (edit : Edit) (old : List Edge) → AreLive (graph_of edits) old → AreLive (graph_of (edit ∷ edits)) (live graph.now)
+            → CyclesStay old (live graph.now) → AreKept (graph_of edits) old (records_in self.old)
             → AreWalks old (edit_edge edit) before.now → AreWalks (live graph.now) (edit_edge edit) after.now
             → OnOk result (AreKept (graph_of (edit ∷ edits)) (live graph.now) (records_in self.new)) }
-        ensures ticks { (edits : List Edit) (edit : Edit) (old : List Edge) → AreLive (graph edits) old → AreLive (graph_of (edit ∷ edits)) (live graph.now)
-            → CyclesStay old (live graph.now) → AreKept (graph edits) old (records_in self.old)
+        ensures ticks { (edits : List Edit) (edit : Edit) (old : List Edge) → AreLive (graph_of edits) old → AreLive (graph_of (edit ∷ edits)) (live graph.now)
+            → CyclesStay old (live graph.now) → AreKept (graph_of edits) old (records_in self.old)
             → AreWalks old (edit_edge edit) before.now → AreWalks (live graph.now) (edit_edge edit) after.now
             → (near : List Vertex) → AreNear (edit_edge edit) old (live graph.now) near → steps.new ≤ steps.old + 8 * near_size old (live graph.now) near }
         ensures old { IfOk result (λ old. AreOld self.new.types self.new.contexts old.items self.old.records self.new.records) }
@@ -131,13 +131,7 @@ impl Marks {
         ensures room_stays { KeepMarksRoom self.old self.new }
     {
         let passed = passed_by(self.alloc, self.seed, before, after)?;
-        let made = self.make(
-            false,
-            &passed.vertices,
-            &passed.set,
-            graph,
-            steps,
-        )?;
+        let made = self.make(false, &passed.vertices, &passed.set, graph, steps)?;
         self.replace(made)
     }
 
@@ -152,16 +146,16 @@ impl Marks {
         graph: &LiveGraph,
         steps: &mut Steps<L>,
     ) -> Result<Vec<(Vertex, Option<Record>)>, NoMemory>
-                requires rooted { AreRoots (live graph.now) self.old.roots }
+        requires rooted { AreRoots (live graph.now) self.old.roots }
         requires well_formed { AllByRecursion IsWellFormed (live graph.now) }
-        ensures renewed { (edits : List Edit) (edit : Edit) (old : List Edge) → AreLive (graph edits) old → AreLive (graph_of (edit ∷ edits)) (live graph.now)
+        ensures renewed { (edits : List Edit) (edit : Edit) (old : List Edge) → AreLive (graph_of edits) old → AreLive (graph_of (edit ∷ edits)) (live graph.now)
             → (edit_edge edit).target ≡ target.now → source.now.vertices.items ≡ walk (live graph.now) (edit_edge edit).source
-            → IsOnlyRoot old (live graph.now) root.now → AreKept (graph edits) old (records_in self.old)
+            → IsOnlyRoot old (live graph.now) root.now → AreKept (graph_of edits) old (records_in self.old)
             → OnOk result (AreKept (graph_of (edit ∷ edits)) (live graph.now) (records_in self.new)) }
-        ensures ticks { (edits : List Edit) (edit : Edit) (old : List Edge) → AreLive (graph edits) old → AreLive (graph_of (edit ∷ edits)) (live graph.now)
+        ensures ticks { (edits : List Edit) (edit : Edit) (old : List Edge) → AreLive (graph_of edits) old → AreLive (graph_of (edit ∷ edits)) (live graph.now)
             → (edit_edge edit).target ≡ target.now → source.now.vertices.items ≡ walk (live graph.now) (edit_edge edit).source
             → IsOnlyRoot old (live graph.now) root.now
-            → (size : ℕ) → IsSize (edit_edge edit) (graph edits) (graph_of (edit ∷ edits)) size → steps.new ≤ steps.old + 16 * size + 9 }
+            → (size : ℕ) → IsSize (edit_edge edit) (graph_of edits) (graph_of (edit ∷ edits)) size → steps.new ≤ steps.old + 16 * size + 9 }
         ensures old { IfOk result (λ old. AreOld self.new.types self.new.contexts old.items self.old.records self.new.records) }
         ensures numbers { OnOk result (AreRecordsOf self.new.types self.new.contexts self.new.records) }
         ensures unchanged { OnErr result ((v : Vertex) → kept_in self.new v ≡ kept_in self.old v) }
@@ -172,13 +166,7 @@ impl Marks {
     {
         let passed = passed_with(self.alloc, self.seed, source, target, root)?;
         whole_trees_renew_the_records();
-        let made = self.make(
-            true,
-            &passed.vertices,
-            &passed.set,
-            graph,
-            steps,
-        )?;
+        let made = self.make(true, &passed.vertices, &passed.set, graph, steps)?;
         self.replace(made)
     }
 
@@ -192,17 +180,17 @@ impl Marks {
         graph: &LiveGraph,
         steps: &mut Steps<L>,
     ) -> Result<OldRecords, NoMemory>
-                requires rooted { (v : Vertex) → is_cycle_root (live graph.now) v ≡ (if is_same_vertex root.now v then is_root else holds self.old.roots v) }
+        requires rooted { (v : Vertex) → is_cycle_root (live graph.now) v ≡ (if is_same_vertex root.now v then is_root else holds self.old.roots v) }
         requires was { holds self.old.roots root.now ≡ not is_root }
         requires well_formed { AllByRecursion IsWellFormed (live graph.now) }
-        ensures renewed { (edits : List Edit) (edit : Edit) (old : List Edge) → AreLive (graph edits) old → AreLive (graph_of (edit ∷ edits)) (live graph.now)
+        ensures renewed { (edits : List Edit) (edit : Edit) (old : List Edge) → AreLive (graph_of edits) old → AreLive (graph_of (edit ∷ edits)) (live graph.now)
             → (edit_edge edit).target ≡ target.now → source.now.vertices.items ≡ walk (live graph.now) (edit_edge edit).source
-            → IsOnlyRoot old (live graph.now) root.now → AreKept (graph edits) old (records_in self.old)
+            → IsOnlyRoot old (live graph.now) root.now → AreKept (graph_of edits) old (records_in self.old)
             → OnOk result (AreKept (graph_of (edit ∷ edits)) (live graph.now) (records_in self.new)) }
-        ensures ticks { (edits : List Edit) (edit : Edit) (old : List Edge) → AreLive (graph edits) old → AreLive (graph_of (edit ∷ edits)) (live graph.now)
+        ensures ticks { (edits : List Edit) (edit : Edit) (old : List Edge) → AreLive (graph_of edits) old → AreLive (graph_of (edit ∷ edits)) (live graph.now)
             → (edit_edge edit).target ≡ target.now → source.now.vertices.items ≡ walk (live graph.now) (edit_edge edit).source
             → IsOnlyRoot old (live graph.now) root.now
-            → (size : ℕ) → IsSize (edit_edge edit) (graph edits) (graph_of (edit ∷ edits)) size → steps.new ≤ steps.old + 16 * size + 9 }
+            → (size : ℕ) → IsSize (edit_edge edit) (graph_of edits) (graph_of (edit ∷ edits)) size → steps.new ≤ steps.old + 16 * size + 9 }
         ensures rooted { OnOk result (AreRoots (live graph.now) self.new.roots) }
         ensures old { IfOk result (λ old. WasRenewed old self.old self.new) }
         ensures can_put_back { IfOk result (λ old. CanRenewBack old self.new) }
@@ -237,7 +225,7 @@ impl Marks {
         requires live { AreLive (state_in graph.now) (live graph.now) }
         requires before { WasBefore edge.now (state_in graph.now) self.old before.now }
         ensures stand { OnOk result (StandFor (state_in graph.now) self.new) }
-        ensures ticks { (was : WasBefore edge.now (state_in graph.now) self.old before.now) → (size : ℕ) → IsSize edge.now (graph was.edits) (graph_of (was.edit ∷ was.edits)) size
+        ensures ticks { (was : WasBefore edge.now (state_in graph.now) self.old before.now) → (size : ℕ) → IsSize edge.now (graph_of was.edits) (graph_of (was.edit ∷ was.edits)) size
             → steps.new ≤ steps.old + 28 * size + 15 }
         ensures old { IfOk result (λ old. WasRenewed old self.old self.new) }
         ensures can_put_back { IfOk result (λ old. CanRenewBack old self.new) }
@@ -247,14 +235,7 @@ impl Marks {
         let after = walk_from_ends(self.alloc, self.seed, edge, graph, steps)?;
         if let Some(changed) = changed_root(&edge.target, before, &after) {
             let (root, is_root) = changed;
-            return self.renew_with_root(
-                &edge.target,
-                &root,
-                is_root,
-                &after.source,
-                graph,
-                steps,
-            );
+            return self.renew_with_root(&edge.target, &root, is_root, &after.source, graph, steps);
         }
         let records = self.renew_near(before, &after, graph, steps)?;
         Ok(OldRecords {

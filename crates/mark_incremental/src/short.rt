@@ -36,9 +36,9 @@ use ctx_table::CtxTable;
 use graph_words::{Few, ParentOf, Steps};
 use grove_edits::{Edge, Vertex, is_same_vertex};
 use grove_sorts::{Sort, sort_of};
+use live_graph::LiveGraph;
 use mark_step::{Demand, Mode};
 use mark_store::{MarkStore, Record, VertexMap};
-use live_graph::LiveGraph;
 use std::alloc::Global;
 use std::sync::ledger::Ledger;
 use text_parts::NoMemory;
@@ -213,7 +213,7 @@ impl Marks {
         graph: &LiveGraph,
         steps: &mut Steps<L>,
     ) -> Result<Vec<(Vertex, Record)>, NoMemory>
-                requires rooted { AreRoots (live graph.now) self.old.roots }
+        requires rooted { AreRoots (live graph.now) self.old.roots }
         requires well_formed { AllByRecursion IsWellFormed (live graph.now) }
         requires demand { IsDemandOf self.old.types self.old.contexts demand }
         ensures both { (d : Demanded) → IsStart (live graph.now) self.old.types self.old.contexts demand (start_at start.now d)
@@ -253,7 +253,7 @@ impl Marks {
         graph: &LiveGraph,
         steps: &mut Steps<L>,
     ) -> Result<Option<Vec<(Vertex, Option<Record>)>>, NoMemory>
-                requires rooted { AreRoots (live graph.now) self.old.roots }
+        requires rooted { AreRoots (live graph.now) self.old.roots }
         requires well_formed { AllByRecursion IsWellFormed (live graph.now) }
         ensures renewed { (seen : IsSeenByOne edge.now (live graph.now) self.old) → LeadsUp (live graph.now) edge.now.source way.now.vertices.items way.now.top
             → IfOk result (λ r. IfSome r (λ old. AreKept (graph_of (seen.edit ∷ seen.edits)) (live graph.now) (records_in self.new))) }
@@ -273,14 +273,7 @@ impl Marks {
         };
         let further = came_or_source(&self.records, edge);
         let judged = judged_with(self.alloc, self.seed, &edge.source, &way.vertices, &further)?;
-        let made = self.make_both(
-            &judged,
-            &edge.target,
-            &way.top,
-            demand,
-            graph,
-            steps,
-        )?;
+        let made = self.make_both(&judged, &edge.target, &way.top, demand, graph, steps)?;
         if !may_end(&self.records, &self.roots, &way.top, &made, graph, steps) {
             return Ok(None);
         }
@@ -295,7 +288,7 @@ impl Marks {
         graph: &LiveGraph,
         steps: &mut Steps<L>,
     ) -> Result<Option<Vec<(Vertex, Option<Record>)>>, NoMemory>
-                requires rooted { AreRoots (live graph.now) self.old.roots }
+        requires rooted { AreRoots (live graph.now) self.old.roots }
         requires well_formed { AllByRecursion IsWellFormed (live graph.now) }
         ensures renewed { (seen : IsSeenByOne edge.now (live graph.now) self.old)
             → IfOk result (λ r. IfSome r (λ old. AreKept (graph_of (seen.edit ∷ seen.edits)) (live graph.now) (records_in self.new))) }
@@ -322,7 +315,7 @@ impl Marks {
         graph: &LiveGraph,
         steps: &mut Steps<L>,
     ) -> Result<Option<OldRecords>, NoMemory>
-                requires rooted { AreRoots (live graph.now) self.old.roots }
+        requires rooted { AreRoots (live graph.now) self.old.roots }
         requires well_formed { AllByRecursion IsWellFormed (live graph.now) }
         ensures renewed { (seen : IsSeenByOne edge.now (live graph.now) self.old)
             → IfOk result (λ r. IfSome r (λ old. AreKept (graph_of (seen.edit ∷ seen.edits)) (live graph.now) (records_in self.new))) }
@@ -363,7 +356,7 @@ impl Marks {
         requires live { AreLive (state_in graph.now) (live graph.now) }
         requires before { StoodBefore edge.now (state_in graph.now) self.old before.now apart }
         ensures stand { IfOk result (λ r. IfSome r (λ old. StandFor (state_in graph.now) self.new)) }
-        ensures ticks { (was : StoodBefore edge.now (state_in graph.now) self.old before.now apart) → (size : ℕ) → IsSize edge.now (graph was.edits) (graph_of (was.edit ∷ was.edits)) size
+        ensures ticks { (was : StoodBefore edge.now (state_in graph.now) self.old before.now apart) → (size : ℕ) → IsSize edge.now (graph_of was.edits) (graph_of (was.edit ∷ was.edits)) size
             → steps.new ≤ steps.old + 17 * size + 22 }
         ensures old { IfOk result (λ r. IfSome r (λ old. WasRenewed old self.old self.new)) }
         ensures can_put_back { IfOk result (λ r. IfSome r (λ old. CanRenewBack old self.new)) }

@@ -64,11 +64,7 @@ impl Live {
         ensures stand { StandFor (state_in self.new.graph) self.new.marks }
     {
         let edit = edit(line)?;
-        self.marks.apply(
-            &edit,
-            &mut self.graph,
-            steps,
-        )?;
+        self.marks.apply(&edit, &mut self.graph, steps)?;
         Ok(())
     }
 
@@ -86,22 +82,14 @@ impl Live {
     fn take_back(&mut self, edit: &Edit, applied: &Applied)
         requires can { CanTakeBack edit.now applied.now self.old.graph self.old.marks }
     {
-        self.marks.take_back(
-            edit,
-            applied,
-            &mut self.graph,
-        );
+        self.marks.take_back(edit, applied, &mut self.graph);
     }
 
     // Whether there was memory for all of these edits.
     fn apply_all<L: Ledger>(&mut self, edits: &[Edit], steps: &mut Steps<L>) -> bool
         requires stand { StandFor (state_in self.old.graph) self.old.marks }
     {
-        let applied = self.marks.apply_all(
-            edits,
-            &mut self.graph,
-            steps,
-        );
+        let applied = self.marks.apply_all(edits, &mut self.graph, steps);
         applied.is_ok()
     }
 }
@@ -135,11 +123,7 @@ fn applied_counting<L: Ledger>(live: &mut Live, edit: &Edit, blank: Blank) -> Re
     ensures can { IfOk result (λ applied. CanTakeBack edit.now applied live.new.graph live.new.marks) }
 {
     let mut steps = Steps::<L>::new(blank);
-    let applied = live.marks.apply(
-        edit,
-        &mut live.graph,
-        &mut steps,
-    )?;
+    let applied = live.marks.apply(edit, &mut live.graph, &mut steps)?;
     Ok(applied)
 }
 

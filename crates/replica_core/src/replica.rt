@@ -95,11 +95,7 @@ impl Replica {
 
     /// Takes an edit, and marks again what it concerns. What it asks is joined to the graph, so an edge that was deleted is not inserted
     /// again. Where memory runs out the graph and the kept records stay.
-    pub fn apply<L: Ledger>(
-        &mut self,
-        edit: &Edit,
-        steps: &mut Steps<L>,
-    ) -> Result<(), NoMemory>
+    pub fn apply<L: Ledger>(&mut self, edit: &Edit, steps: &mut Steps<L>) -> Result<(), NoMemory>
         ensures taken { OnOk result (self.new ≡ with_taken (edit.now ∷ []) self.old) }
         ensures unchanged { OnErr result (self.new ≡ self.old) }
         ensures bounded { steps.new ≤ steps.old + edit_cost self.old edit.now }

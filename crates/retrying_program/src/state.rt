@@ -5,8 +5,8 @@ use grove_edits::{Edit, Vertex};
 use grove_printer::print_tree;
 use grove_terms::LentNode;
 use mark_incremental::Marks;
-use replica_core::Replica;
 use marking::{Added, MarkedTree};
+use replica_core::Replica;
 use std::alloc::{AllocFailed, Global};
 
 /// The vertices of some edits, each once, in the order in which they come.

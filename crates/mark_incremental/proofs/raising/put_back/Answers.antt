@@ -9,7 +9,7 @@ use Rattle.mark_incremental.proofs.Raised.{same_graph_from, put_back_same}
 use Rattle.mark_incremental.proofs.raising.put_back.Goals as goal
 
 pub put_back-requires : goal.put_back-requires
-put_back-requires c = subst (HasRoom c.args.graph.now) (sym c.edge.ensures) c.requires
+put_back-requires c = subst (HasRoom c.args.graph.now) (sym c.edge.ensures) c.requires.room
 
 pub returns-in-Raised-clause-put_back : goal.returns-in-Raised-clause-put_back
 returns-in-Raised-clause-put_back c = λ before was e.

@@ -1,5 +1,6 @@
 -- A vertex is opened and goes on from position to position until it comes to that of the edge.
-use Rattle.std.proofs.Common.{◌≡◌, ◌∷◌, suc, drop, length, sym, ap, ◌∙◌, arith}
+use Rattle.std.proofs.Common.{◌≡◌, ◌<◌, ◌∷◌, suc, drop, length, sym, ap, subst, ◌∙◌, arith}
+use Rattle.std.proofs.lemmas.Option.{slice_get_within}
 use Rattle.grove_sorts.specs.Ctor.{positions}
 use Rattle.grove_edits.specs.declared.vertex.Vertex.{Vertex}
 use Rattle.grove_terms.specs.Forest.{edges_under}
@@ -68,3 +69,13 @@ loop-preserved g c =
       types = types-then c.args.types.now c.loop.types c.go_on.new.types c.loop.invariant.types now.types;
       contexts = contexts-then c.args.ctxs.now c.loop.ctxs c.go_on.new.ctxs c.loop.invariant.contexts now.contexts;
     }
+
+pub go_on-requires-clause-next : goal.go_on-requires-clause-next
+go_on-requires-clause-next g c =
+    let source = c.args.edge.now.source in
+    let passed = c.in-Some-pass.passed in
+    let past = c.in-Some-pass.ensures in
+    let vertex : passed.vertex.now ≡ source = past.vertex ∙ c.loop.invariant.vertex in
+    let within : c.loop.frame.state.next < length (positions source.ctor) =
+    slice_get_within (positions source.ctor) c.loop.frame.state.next (c.in-Some.position, c.in-Some.field-0-1) (sym c.in-Some.ensures) in
+    subst (λ (v : Vertex). passed.state.next < length (positions v.ctor)) (sym vertex) (subst (λ (o : OpenVertex). o.next < length (positions source.ctor)) (sym past.state) within)

@@ -10,7 +10,7 @@ use Rattle.mark_incremental.specs.Looking.{on}
 use Rattle.mark_incremental.specs.Walking.{IsUnderWay, AreFramesOf, AreMadeOf, IsHanded}
 use Rattle.mark_incremental.proofs.Growth.{frames_kept, made_kept}
 use Rattle.mark_incremental.proofs.Steps.{on_top, went_on, settled_up}
-use Rattle.mark_incremental.proofs.Stack.{on_ok, on_ok_so, none_first, none_off, off_of, on_of, more_made}
+use Rattle.mark_incremental.proofs.Stack.{on_ok, on_ok_so, none_off, off_of, on_of, more_made}
 use Rattle.mark_incremental.specs.Ticks.{AreCounted, AreMoved}
 use Rattle.mark_incremental.proofs.Ticks.{next_costs, counted_on, counted_up}
 use Rattle.mark_incremental.proofs.Paid.{paid_now, paid_on}
@@ -34,19 +34,19 @@ returns-in_default-clause-counted g c = λ start paid. subst (λ (frs : List Fra
 pub take-requires-clause-frames : goal.take-requires-clause-frames
 take-requires-clause-frames g c = off_of c.args.types.now c.args.ctxs.now c.args.stack.now.items c.pop.new.self.items c.in-Some.frame c.in-Some.ensures.items c.requires.frames
 
-pub returns-in-Some-first-clause-way : goal.returns-in-Some-first-clause-way
-returns-in-Some-first-clause-way g c = λ from before way.
+pub returns-in-Some-split_first-clause-way : goal.returns-in-Some-split_first-clause-way
+returns-in-Some-split_first-clause-way g c = λ from before way.
     c.take.ensures.way from before c.args.made.now.items c.requires.made
     (subst (λ (frs : List Frame). IsUnderWay (live c.args.self.now.graph.now) c.args.types.now c.args.ctxs.now c.args.self.now.records.now (on c.args.self.now.whole c.args.self.now.passed.now) from before frs c.args.made.now.items)
     (on_top c.pop.new.self.items c.args.stack.now.items c.in-Some.frame c.in-Some.ensures.items) way)
 
-pub returns-in-Some-first-clause-made : goal.returns-in-Some-first-clause-made
-returns-in-Some-first-clause-made g c =
+pub returns-in-Some-split_first-clause-made : goal.returns-in-Some-split_first-clause-made
+returns-in-Some-split_first-clause-made g c =
     on_ok c.take.result (AreMadeOf c.take.new.types c.take.new.ctxs c.args.made.now.items)
     (made_kept c.args.types.now c.take.new.types c.args.ctxs.now c.take.new.ctxs c.take.ensures.types c.take.ensures.contexts c.args.made.now.items c.requires.made)
 
-pub returns-in-Some-first-clause-counted : goal.returns-in-Some-first-clause-counted
-returns-in-Some-first-clause-counted g c = λ start paid counted.
+pub returns-in-Some-split_first-clause-counted : goal.returns-in-Some-split_first-clause-counted
+returns-in-Some-split_first-clause-counted g c = λ start paid counted.
     c.take.ensures.counted start paid c.args.made.now.items (subst (λ (frs : List Frame). AreCounted (live c.args.self.now.graph.now) start paid c.args.steps.now frs c.args.made.now.items) (on_top c.pop.new.self.items c.args.stack.now.items c.in-Some.frame c.in-Some.ensures.items) counted)
 
 -- ---- the next position is begun
@@ -60,7 +60,7 @@ returns-then-frame-position_count-clause-way g c = λ from before way.
     (sym (on_top c.pop.new.self.items c.push.new.self.items c.in_ok-go_on.field-0 c.in_ok-push.ensures.items))
     (went_on (live c.args.self.now.graph.now) c.args.self.now.well_formed c.args.types.now c.go_on.new.types c.args.ctxs.now c.go_on.new.ctxs c.in_ok-go_on.ensures.types c.in_ok-go_on.ensures.contexts
     c.args.self.now.records.now c.requires.records (on c.args.self.now.whole c.args.self.now.passed.now) from before c.in-Some.frame c.in_ok-go_on.field-0 (reverse c.pop.new.self.items) c.args.made.now.items
-    (none_first c.in-Some.frame.left c.in_default-first.ensures.value) (subst (λ ctor. c.in-Some.frame.state.next < length (positions ctor)) of.0.ctor some) of c.requires.made
+    c.in_default-split_first.ensures.none (subst (λ ctor. c.in-Some.frame.state.next < length (positions ctor)) of.0.ctor some) of c.requires.made
     c.in_ok-go_on.ensures.was c.in_ok-go_on.ensures.vertex c.in_ok-go_on.ensures.filled c.in_ok-go_on.ensures.begun
     (subst (λ (frs : List Frame). IsUnderWay (live c.args.self.now.graph.now) c.args.types.now c.args.ctxs.now c.args.self.now.records.now (on c.args.self.now.whole c.args.self.now.passed.now) from before frs c.args.made.now.items)
     (on_top c.pop.new.self.items c.args.stack.now.items c.in-Some.frame c.in-Some.ensures.items) way))
@@ -99,7 +99,7 @@ returns-clause-way g c = λ from before way.
     (λ handed.
     settled_up (live c.args.self.now.graph.now) c.args.self.now.well_formed c.args.types.now c.settle.new.types c.args.ctxs.now c.args.ctxs.now c.in_ok-given.ensures.kept (contexts-itself c.args.ctxs.now)
     c.args.self.now.records.now c.requires.records (on c.args.self.now.whole c.args.self.now.passed.now) from before c.in-Some.frame (reverse c.pop.new.self.items) (reverse c.hand_on.new.stack.items) c.args.made.now.items
-    c.settle.new.made.items c.in_ok-given.given (none_first c.in-Some.frame.left c.in_default-first.ensures.value) whole of c.requires.made c.in_ok-given.ensures.settled c.in_ok-given.ensures.given handed
+    c.settle.new.made.items c.in_ok-given.given c.in_default-split_first.ensures.none whole of c.requires.made c.in_ok-given.ensures.settled c.in_ok-given.ensures.given handed
     (subst (λ (frs : List Frame). IsUnderWay (live c.args.self.now.graph.now) c.args.types.now c.args.ctxs.now c.args.self.now.records.now (on c.args.self.now.whole c.args.self.now.passed.now) from before frs c.args.made.now.items)
     (on_top c.pop.new.self.items c.args.stack.now.items c.in-Some.frame c.in-Some.ensures.items) way))
     c.hand_on.ensures.handed
@@ -157,6 +157,6 @@ returns-then-frame-position_count-clause-paid g c = λ from before start paid wa
     paid_on (live c.args.self.now.graph.now) c.args.types.now c.args.ctxs.now c.args.self.now.records.now (on c.args.self.now.whole c.args.self.now.passed.now) from before c.args.made.now.items start paid c.args.steps.now c.go_on.new.steps c.args.stack.now.items c.pop.new.self.items c.in-Some.frame c.in-Some.ensures.items
     way counted c.go_on.ensures.at_most
 
-pub returns-in-Some-first-clause-paid : goal.returns-in-Some-first-clause-paid
-returns-in-Some-first-clause-paid g c = λ from before start paid way counted.
+pub returns-in-Some-split_first-clause-paid : goal.returns-in-Some-split_first-clause-paid
+returns-in-Some-split_first-clause-paid g c = λ from before start paid way counted.
     c.take.ensures.paid from before c.args.made.now.items start paid (subst (λ (frs : List Frame). IsUnderWay (live c.args.self.now.graph.now) c.args.types.now c.args.ctxs.now c.args.self.now.records.now (on c.args.self.now.whole c.args.self.now.passed.now) from before frs c.args.made.now.items) (on_top c.pop.new.self.items c.args.stack.now.items c.in-Some.frame c.in-Some.ensures.items) way) (subst (λ (frs : List Frame). AreCounted (live c.args.self.now.graph.now) start paid c.args.steps.now frs c.args.made.now.items) (on_top c.pop.new.self.items c.args.stack.now.items c.in-Some.frame c.in-Some.ensures.items) counted)

@@ -1,8 +1,9 @@
 -- A child that is not judged again gives what it gives to the vertex above it.
-use Rattle.std.proofs.Common.{◌∷◌, drop, arith, ap, ◌∙◌}
+use Rattle.std.proofs.Common.{◌∷◌, drop, arith, None, Some, ap, subst, ◌∙◌}
 use Rattle.std.specs.Prelude.{reverse}
+use Rattle.grove_edits.specs.declared.vertex.Vertex.{Vertex}
 use Rattle.live_graph.specs.Live.{live}
-use Rattle.mark_incremental.specs.Looking.{on}
+use Rattle.mark_incremental.specs.Looking.{on, IsFound}
 use Rattle.mark_incremental.specs.Walking.{IsUnderWay, IsHanded}
 use Rattle.mark_incremental.proofs.Steps.{handed_passes, first_is, on_top}
 use Rattle.mark_incremental.proofs.Stack.{on_ok_so}
@@ -18,7 +19,7 @@ returns-in_ok-push-in-Some-clause-way g c = λ from before made of_made way.
     (λ handed.
     handed_passes (live c.args.self.now.graph.now) c.args.self.now.well_formed c.args.types.now c.args.ctxs.now c.args.self.now.records.now (on c.args.self.now.whole c.args.self.now.passed.now) from before
     c.args.frame (reverse c.args.stack.now.items) (reverse c.push.new.self.items) (reverse c.hand_on.new.stack.items) made c.args.edge.now (drop 1 c.args.frame.left) c.in-Some.given
-    (first_is c.args.frame.left c.args.edge.now c.requires.first) c.in-Some.ensures.found
+    (first_is c.args.frame.left c.args.edge.now c.requires.first) (subst (λ (v : Vertex). IsFound (live c.args.self.now.graph.now) c.args.types.now c.args.ctxs.now c.args.self.now.records.now (on c.args.self.now.whole c.args.self.now.passed.now) c.args.frame.demand v (Some c.in-Some.given)) c.target.ensures c.in-Some.ensures.found)
     (on_top c.args.stack.now.items c.push.new.self.items c.args.frame c.in_ok-push-in-Some.ensures.items) handed way)
     c.hand_on.ensures.handed
 
@@ -48,3 +49,7 @@ returns-in_err-push-in-Some-clause-paid g c = λ from before made start paid way
 
 pub returns-in-None-clause-paid : goal.returns-in-None-clause-paid
 returns-in-None-clause-paid g c = λ from before made start paid way counted. c.descend.ensures.paid from before made start paid c.args.steps.now c.look.ensures.ticks way counted
+
+pub descend-requires-clause-found : goal.descend-requires-clause-found
+descend-requires-clause-found g c =
+    subst (λ (v : Vertex). IsFound (live c.args.self.now.graph.now) c.args.types.now c.args.ctxs.now c.args.self.now.records.now (on c.args.self.now.whole c.args.self.now.passed.now) c.args.frame.demand v None) c.target.ensures c.in-None.ensures.found

@@ -118,3 +118,14 @@ returns-clause-ticks g c = λ n size.
     let short = c.apply_short.ensures.ticks n (size_over c.args.edit.now (state_in c.args.graph.now) (state_in c.make_room.new.self) n c.make_room.ensures.unchanged size) in
     let whole = c.apply_whole.ensures.ticks n (size_over c.args.edit.now (state_in c.args.graph.now) (state_in c.apply_short.new.graph) n (λ e. back.same e ∙ c.make_room.ensures.unchanged e) size) in
     omega (arith, short, whole)
+
+-- ---- numbers stay
+
+pub returns-in_err-applied-clause-numbers_stay : goal.returns-in_err-applied-clause-numbers_stay
+returns-in_err-applied-clause-numbers_stay g c = λ e n is. c.apply_short.ensures.numbers_stay e n (c.make_room.ensures.numbers_stay e n is)
+
+pub returns-in-Some-clause-numbers_stay : goal.returns-in-Some-clause-numbers_stay
+returns-in-Some-clause-numbers_stay g c = λ e n is. c.apply_short.ensures.numbers_stay e n (c.make_room.ensures.numbers_stay e n is)
+
+pub returns-clause-numbers_stay : goal.returns-clause-numbers_stay
+returns-clause-numbers_stay g c = λ e n is. c.apply_whole.ensures.numbers_stay e n (c.apply_short.ensures.numbers_stay e n (c.make_room.ensures.numbers_stay e n is))

@@ -50,15 +50,18 @@ loop-edit-preserved g c =
       room = let was = c.loop-edit.invariant.room in let same = c.push_reserved.ensures.capacity in omega (arith, was, same);
     }
 
-pub take_back_all-requires-clause-led : goal.take_back_all-requires-clause-led
-take_back_all-requires-clause-led g c =
+pub take_back_all-requires : goal.take_back_all-requires
+take_back_all-requires g c =
     let first = held c.args.graph.now c.args.self.now in
     let now = held c.loop-edit.graph c.loop-edit.self in
-    let failed = held c.apply.new.graph c.apply.new.self in (
-      first,
-      have_led_on (reverse c.loop-edit.receipts.items) first now failed c.loop-edit.invariant.led
-          (as_failed now failed c.in-Err.ensures.unchanged c.in-Err.ensures.kept c.apply.ensures.room_stays c.apply.ensures.marks_room_stays c.apply.ensures.numbers_stay),
-    )
+    let failed = held c.apply.new.graph c.apply.new.self in
+    record {
+      led = (
+        first,
+        have_led_on (reverse c.loop-edit.receipts.items) first now failed c.loop-edit.invariant.led
+            (as_failed now failed c.in-Err.ensures.unchanged c.in-Err.ensures.kept c.apply.ensures.room_stays c.apply.ensures.marks_room_stays c.apply.ensures.numbers_stay),
+      );
+    }
 
 pub returns-in-Err-clause-unchanged : goal.returns-in-Err-clause-unchanged
 returns-in-Err-clause-unchanged g c =

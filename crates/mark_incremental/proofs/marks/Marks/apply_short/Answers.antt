@@ -13,12 +13,12 @@ use Rattle.mark_incremental.proofs.marks.Marks.apply_short.Goals as goal
 pub is_apart-apart-requires : goal.is_apart-apart-requires
 is_apart-apart-requires g c =
     subst (λ (m : KeptMarks). AreRoots (live c.args.graph.now) m.roots) (sym c.self.view_is)
-    (rooted_in (state_in c.args.graph.now) (live c.args.graph.now) c.args.self.now c.requires.stand c.requires.live)
+    (rooted_in (state_in c.args.graph.now) (live c.args.graph.now) c.args.self.now c.requires.stand c.edge_count-edges.ensures.live)
 
 pub renew_if_short-requires-clause-before : goal.renew_if_short-requires-clause-before
 renew_if_short-requires-clause-before g c =
     stood_before c.args.edit.now c.args.edge.now c.requires.edge (state_in c.args.graph.now) (state_in c.raise-change.new.graph) (live c.args.graph.now) c.args.self.now c.few-before.result c.is_apart-apart.result c.requires.stand
-    c.requires.live c.raise-change.ensures.raised.joined c.few-before.ensures.least
+    c.edge_count-edges.ensures.live c.raise-change.ensures.raised.joined c.few-before.ensures.least
     (subst (λ (m : KeptMarks). IsTrue c.is_apart-apart.result → IsApart (live c.args.graph.now) m.records c.args.edge.now.target c.args.edge.now.source) c.self.view_is c.is_apart-apart.ensures.apart)
 
 pub returns-in-Ok-None-clause-back : goal.returns-in-Ok-None-clause-back
@@ -43,42 +43,42 @@ returns-in-Err-clause-numbers_stay g c = λ e n is. c.put_back-in-Err.ensures.nu
 
 pub returns-in-Ok-Some-clause-ticks : goal.returns-in-Ok-Some-clause-ticks
 returns-in-Ok-Some-clause-ticks g c = λ n size.
-    let walk = source_within c.requires.stand.edits c.args.edit.now (state_in c.args.graph.now) c.requires.stand.made c.args.edge.now c.requires.edge n size (live c.args.graph.now) c.requires.live in
+    let walk = source_within c.requires.stand.edits c.args.edit.now (state_in c.args.graph.now) c.requires.stand.made c.args.edge.now c.requires.edge n size (live c.args.graph.now) c.edge_count-edges.ensures.live in
     let way = c.is_apart-apart.ensures.ticks (2 * n) (way_before (live c.args.graph.now) c.args.edge.now.source n walk) in
     let few = few_short c.few-before.result in
     let first = c.few-before.ensures.ticks in
     let short =
     c.renew_if_short.ensures.ticks
     (stood_before c.args.edit.now c.args.edge.now c.requires.edge (state_in c.args.graph.now) (state_in c.raise-change.new.graph) (live c.args.graph.now) c.args.self.now c.few-before.result c.is_apart-apart.result c.requires.stand
-    c.requires.live c.raise-change.ensures.raised.joined c.few-before.ensures.least
+    c.edge_count-edges.ensures.live c.raise-change.ensures.raised.joined c.few-before.ensures.least
     (subst (λ (m : KeptMarks). IsTrue c.is_apart-apart.result → IsApart (live c.args.graph.now) m.records c.args.edge.now.target c.args.edge.now.source) c.self.view_is c.is_apart-apart.ensures.apart))
     n (size_at c.requires.stand.edits c.args.edit.now (state_in c.args.graph.now) c.requires.stand.made c.args.edge.now c.requires.edge n size) in
     omega (arith, way, few, first, short)
 
 pub returns-in-Ok-None-clause-ticks : goal.returns-in-Ok-None-clause-ticks
 returns-in-Ok-None-clause-ticks g c = λ n size.
-    let walk = source_within c.requires.stand.edits c.args.edit.now (state_in c.args.graph.now) c.requires.stand.made c.args.edge.now c.requires.edge n size (live c.args.graph.now) c.requires.live in
+    let walk = source_within c.requires.stand.edits c.args.edit.now (state_in c.args.graph.now) c.requires.stand.made c.args.edge.now c.requires.edge n size (live c.args.graph.now) c.edge_count-edges.ensures.live in
     let way = c.is_apart-apart.ensures.ticks (2 * n) (way_before (live c.args.graph.now) c.args.edge.now.source n walk) in
     let few = few_short c.few-before.result in
     let first = c.few-before.ensures.ticks in
     let short =
     c.renew_if_short.ensures.ticks
     (stood_before c.args.edit.now c.args.edge.now c.requires.edge (state_in c.args.graph.now) (state_in c.raise-change.new.graph) (live c.args.graph.now) c.args.self.now c.few-before.result c.is_apart-apart.result c.requires.stand
-    c.requires.live c.raise-change.ensures.raised.joined c.few-before.ensures.least
+    c.edge_count-edges.ensures.live c.raise-change.ensures.raised.joined c.few-before.ensures.least
     (subst (λ (m : KeptMarks). IsTrue c.is_apart-apart.result → IsApart (live c.args.graph.now) m.records c.args.edge.now.target c.args.edge.now.source) c.self.view_is c.is_apart-apart.ensures.apart))
     n (size_at c.requires.stand.edits c.args.edit.now (state_in c.args.graph.now) c.requires.stand.made c.args.edge.now c.requires.edge n size) in
     omega (arith, way, few, first, short)
 
 pub returns-in-Err-clause-ticks : goal.returns-in-Err-clause-ticks
 returns-in-Err-clause-ticks g c = λ n size.
-    let walk = source_within c.requires.stand.edits c.args.edit.now (state_in c.args.graph.now) c.requires.stand.made c.args.edge.now c.requires.edge n size (live c.args.graph.now) c.requires.live in
+    let walk = source_within c.requires.stand.edits c.args.edit.now (state_in c.args.graph.now) c.requires.stand.made c.args.edge.now c.requires.edge n size (live c.args.graph.now) c.edge_count-edges.ensures.live in
     let way = c.is_apart-apart.ensures.ticks (2 * n) (way_before (live c.args.graph.now) c.args.edge.now.source n walk) in
     let few = few_short c.few-before.result in
     let first = c.few-before.ensures.ticks in
     let short =
     c.renew_if_short.ensures.ticks
     (stood_before c.args.edit.now c.args.edge.now c.requires.edge (state_in c.args.graph.now) (state_in c.raise-change.new.graph) (live c.args.graph.now) c.args.self.now c.few-before.result c.is_apart-apart.result c.requires.stand
-    c.requires.live c.raise-change.ensures.raised.joined c.few-before.ensures.least
+    c.edge_count-edges.ensures.live c.raise-change.ensures.raised.joined c.few-before.ensures.least
     (subst (λ (m : KeptMarks). IsTrue c.is_apart-apart.result → IsApart (live c.args.graph.now) m.records c.args.edge.now.target c.args.edge.now.source) c.self.view_is c.is_apart-apart.ensures.apart))
     n (size_at c.requires.stand.edits c.args.edit.now (state_in c.args.graph.now) c.requires.stand.made c.args.edge.now c.requires.edge n size) in
     omega (arith, way, few, first, short)

@@ -10,7 +10,7 @@ use Rattle.mark_incremental.proofs.marks.Marks.apply_whole.Goals as goal
 pub renew-requires-clause-before : goal.renew-requires-clause-before
 renew-requires-clause-before g c =
     stands_before c.args.edit.now c.args.edge.now c.requires.edge (state_in c.args.graph.now) (state_in c.args.graph.now) (state_in c.raise-change.new.graph) (live c.args.graph.now) c.args.self.now c.in_ok-before.before c.requires.stand
-    (λ e. refl) c.requires.live c.raise-change.ensures.raised.joined c.in_ok-before.ensures.walks
+    (λ e. refl) c.edge_count-edges.ensures.live c.raise-change.ensures.raised.joined c.in_ok-before.ensures.walks
 
 pub returns-in-Ok-clause-applied : goal.returns-in-Ok-clause-applied
 returns-in-Ok-clause-applied g c = record {
@@ -33,28 +33,28 @@ returns-clause-numbers_stay g c = λ e n is. c.put_back.ensures.numbers_stay e n
 
 pub returns-in_err-before-clause-ticks : goal.returns-in_err-before-clause-ticks
 returns-in_err-before-clause-ticks g c = λ n size.
-    let walks = before_within c.requires.stand.edits c.args.edit.now (state_in c.args.graph.now) c.requires.stand.made c.args.edge.now c.requires.edge n size (live c.args.graph.now) c.requires.live in
+    let walks = before_within c.requires.stand.edits c.args.edit.now (state_in c.args.graph.now) c.requires.stand.made c.args.edge.now c.requires.edge n size (live c.args.graph.now) c.edge_count-edges.ensures.live in
     let ticks = c.walk_from_ends.ensures.ticks in
     omega (arith, walks, ticks)
 
 pub returns-in-Ok-clause-ticks : goal.returns-in-Ok-clause-ticks
 returns-in-Ok-clause-ticks g c = λ n size.
-    let walks = before_within c.requires.stand.edits c.args.edit.now (state_in c.args.graph.now) c.requires.stand.made c.args.edge.now c.requires.edge n size (live c.args.graph.now) c.requires.live in
+    let walks = before_within c.requires.stand.edits c.args.edit.now (state_in c.args.graph.now) c.requires.stand.made c.args.edge.now c.requires.edge n size (live c.args.graph.now) c.edge_count-edges.ensures.live in
     let ticks = c.walk_from_ends.ensures.ticks in
     let renewed =
     c.renew.ensures.ticks
     (stands_before c.args.edit.now c.args.edge.now c.requires.edge (state_in c.args.graph.now) (state_in c.args.graph.now) (state_in c.raise-change.new.graph) (live c.args.graph.now) c.args.self.now c.in_ok-before.before
-    c.requires.stand (λ e. refl) c.requires.live c.raise-change.ensures.raised.joined c.in_ok-before.ensures.walks)
+    c.requires.stand (λ e. refl) c.edge_count-edges.ensures.live c.raise-change.ensures.raised.joined c.in_ok-before.ensures.walks)
     n (size_at c.requires.stand.edits c.args.edit.now (state_in c.args.graph.now) c.requires.stand.made c.args.edge.now c.requires.edge n size) in
     omega (arith, walks, ticks, renewed)
 
 pub returns-clause-ticks : goal.returns-clause-ticks
 returns-clause-ticks g c = λ n size.
-    let walks = before_within c.requires.stand.edits c.args.edit.now (state_in c.args.graph.now) c.requires.stand.made c.args.edge.now c.requires.edge n size (live c.args.graph.now) c.requires.live in
+    let walks = before_within c.requires.stand.edits c.args.edit.now (state_in c.args.graph.now) c.requires.stand.made c.args.edge.now c.requires.edge n size (live c.args.graph.now) c.edge_count-edges.ensures.live in
     let ticks = c.walk_from_ends.ensures.ticks in
     let renewed =
     c.renew.ensures.ticks
     (stands_before c.args.edit.now c.args.edge.now c.requires.edge (state_in c.args.graph.now) (state_in c.args.graph.now) (state_in c.raise-change.new.graph) (live c.args.graph.now) c.args.self.now c.in_ok-before.before
-    c.requires.stand (λ e. refl) c.requires.live c.raise-change.ensures.raised.joined c.in_ok-before.ensures.walks)
+    c.requires.stand (λ e. refl) c.edge_count-edges.ensures.live c.raise-change.ensures.raised.joined c.in_ok-before.ensures.walks)
     n (size_at c.requires.stand.edits c.args.edit.now (state_in c.args.graph.now) c.requires.stand.made c.args.edge.now c.requires.edge n size) in
     omega (arith, walks, ticks, renewed)

@@ -4,12 +4,12 @@ use Rattle.mark_incremental.specs.Receipts.{held}
 use Rattle.mark_incremental.proofs.Receipts.{first_led, have_led_on, taken_back}
 use Rattle.mark_incremental.proofs.marks.Marks.take_back_all.Goals as goal
 
-pub take_back-requires-clause-can : goal.take_back-requires-clause-can
-take_back-requires-clause-can c =
+pub take_back-requires : goal.take_back-requires
+take_back-requires c =
     let now = held c.loop-last.graph c.loop-last.self in
     let first = c.requires.led.0 in
     let led = first_led c.loop-last.left.items c.pop.new.self.items c.in-Some.last first now c.in-Some.ensures.items (c.loop-last.invariant.led first c.requires.led.1) in
-    led.2.can
+    record { can = led.2.can }
 
 pub loop-last-preserved : goal.loop-last-preserved
 loop-last-preserved c = record {
