@@ -96,6 +96,12 @@ fn has(text: &[u8], part: &[u8]) -> bool {
     memmem::find(text, part).is_some()
 }
 
+// Whether these calls were let start and no other one, and none started because it was asked for too often.
+fn lets_start(gate: &Holding<'_>, calls: u64) -> bool {
+    let started = gate.started.load(Ordering::SeqCst);
+    started == calls && gate.asks.load(Ordering::SeqCst) < 1_000_000
+}
+
 // The calls 1 to 4 of an author.
 fn four_calls(author: u32) -> u64 {
     call_of(author, 1) | call_of(author, 2) | call_of(author, 3) | call_of(author, 4)
@@ -127,8 +133,8 @@ fn each_line_is_asked_for_by_its_number(rt: HostRuntime) -> Result<(), Fail> {
     let mut text = Vec::new(rt.alloc());
     report(&rt, rt.alloc(), THREE_BLOCKS, &gate, &mut text)?;
     let all = four_calls(1) | four_calls(2);
+    assert!(rt; lets_start(&gate, all));
     assert!(rt; gate.asked.load(Ordering::SeqCst) == all);
-    assert!(rt; gate.started.load(Ordering::SeqCst) == all);
     assert!(rt; gate.asks.load(Ordering::SeqCst) == 8);
     Ok(())
 }
@@ -190,7 +196,7 @@ fn two_authors_meet(rt: HostRuntime) -> Result<(), Fail> {
     let gate = holding(&holds);
     let mut text = Vec::new(rt.alloc());
     report(&rt, rt.alloc(), MEETING, &gate, &mut text)?;
-    assert!(rt; gate.started.load(Ordering::SeqCst) == four_calls(1) | four_calls(2));
+    assert!(rt; lets_start(&gate, four_calls(1) | four_calls(2)));
     for line in [
         b"\n2 construct 3.1 left num:2 = made 2.1\n".as_slice(),
         b"\n1 construct 3.1 left num:1 = refused 5 occupied 2.2\n".as_slice(),
@@ -239,7 +245,7 @@ fn cut_before_turn(rt: HostRuntime) -> Result<(), Fail> {
     let mut text = Vec::new(rt.alloc());
     report(&rt, rt.alloc(), CUTTING, &gate, &mut text)?;
     let all = four_calls(1) | call_of(1, 5) | call_of(1, 6) | four_calls(2);
-    assert!(rt; gate.started.load(Ordering::SeqCst) == all);
+    assert!(rt; lets_start(&gate, all));
     for part in [
         b"block 1\njournal a 5\n2 construct 0.0 main num:2 = refused 5 occupied 3.2\n".as_slice(),
         b"\n1 cut 3.4 = done\n1 cut 3.6 = done\n1 construct 3.1 left num:1 = made 1.1\n".as_slice(),
@@ -295,6 +301,6 @@ fn all_authors_of_all_replicas_are_at_work_at_once(rt: HostRuntime) -> Result<()
     let gate = holding(&holds);
     let mut text = Vec::new(rt.alloc());
     report(&rt, rt.alloc(), CROWD, &gate, &mut text)?;
-    assert!(rt; gate.started.load(Ordering::SeqCst) == first | second);
+    assert!(rt; lets_start(&gate, first | second));
     Ok(())
 }

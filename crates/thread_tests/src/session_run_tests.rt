@@ -359,12 +359,14 @@ struct Watch<B: Naming> {
     ghost at: { seat.board ≡ B.board },
 }
 
-/// Lets each call of author 1 start once just the slots that its calls before cut are Deleted. It keeps which of them it let start.
+/// Lets each call of author 1 start once just the slots that its calls before cut are Deleted. It keeps which of them it let start, and how
+/// often it was asked for them.
 #[derive(Drop)]
 struct Watching<'a, B: Naming> {
     board: &'a Board,
     watch: Mutex<Watch<B>>,
     started: AtomicU64,
+    asks: AtomicU64,
     ghost at: { board.now ≡ B.board },
     ghost slots: { 2 < length board.now.opening },
 }
@@ -374,6 +376,7 @@ impl<'a, B: Naming + Send + Sync> Gate for Watching<'a, B> {
         if author != 1 {
             return true;
         }
+        self.asks.fetch_add(1, Ordering::SeqCst);
         let Some(mut watch) = self.watch.try_lock() else {
             return false;
         };
@@ -388,7 +391,7 @@ impl<'a, B: Naming + Send + Sync> Gate for Watching<'a, B> {
     }
 }
 
-// The journals that the block leaves, and which calls of author 1 the gate let start.
+// The journals that the block leaves, and which calls of author 1 the gate let start, if it let each that it was asked for.
 fn cut_as<B: Naming + Send + Sync, R: Threads + Wait + Sync>(
     rt: &R,
     alloc: Global,
@@ -413,10 +416,14 @@ fn cut_as<B: Naming + Send + Sync, R: Threads + Wait + Sync>(
             of: PhantomData,
         }),
         started: AtomicU64::new(0),
+        asks: AtomicU64::new(0),
     };
     let mut cuts = cuts_at(alloc, sources, board, seat)?;
     let machines = counters(alloc)?;
     let journals = journals_of(rt, alloc, session, machines, sources, &mut cuts, &gate)?;
+    if gate.asks.load(Ordering::SeqCst) >= 1_000_000 {
+        return Err(Fail::from("a gate that is ready at last"));
+    }
     Ok((journals, gate.started.load(Ordering::SeqCst)))
 }
 
