@@ -11,7 +11,7 @@ use std::thread::Threads;
 
 // A set of one call of an author, of which both numbers are below 8. Sets are joined by `|`.
 fn call_of(author: u32, call: u64) -> u64 {
-    1u64.rotate_left(author % 8 * 8 + (call % 8) as u32)
+    1u64.rotate_left(author.wrapping_mul(8).wrapping_add(call as u32 % 8))
 }
 
 /// Holds some calls, each until it was asked for all of a set, and lets the others start at once.
@@ -40,7 +40,7 @@ impl<'a> Gate for Holding<'a> {
     }
 }
 
-fn holding(holds: &[(u64, u64)]) -> Holding<'_> {
+fn gate_of(holds: &[(u64, u64)]) -> Holding<'_> {
     Holding {
         holds,
         asked: AtomicU64::new(0),
@@ -129,7 +129,7 @@ end
 
 #[test]
 fn each_line_is_asked_for_by_its_number(rt: HostRuntime) -> Result<(), Fail> {
-    let gate = holding(&[]);
+    let gate = gate_of(&[]);
     let mut text = Vec::new(rt.alloc());
     report(&rt, rt.alloc(), THREE_BLOCKS, &gate, &mut text)?;
     let all = four_calls(1) | four_calls(2);
@@ -150,7 +150,7 @@ end
 #[test]
 fn a_gate_that_is_never_ready_is_asked_a_million_times(rt: HostRuntime) -> Result<(), Fail> {
     let holds = [(call_of(1, 1), call_of(2, 1))];
-    let gate = holding(&holds);
+    let gate = gate_of(&holds);
     let mut text = Vec::new(rt.alloc());
     report(&rt, rt.alloc(), ONE_LINE, &gate, &mut text)?;
     assert!(rt; gate.asks.load(Ordering::SeqCst) == 1_000_000);
@@ -193,7 +193,7 @@ fn two_authors_meet(rt: HostRuntime) -> Result<(), Fail> {
         (call_of(1, 3), call_of(2, 4)),
         (call_of(2, 4), call_of(1, 4)),
     ];
-    let gate = holding(&holds);
+    let gate = gate_of(&holds);
     let mut text = Vec::new(rt.alloc());
     report(&rt, rt.alloc(), MEETING, &gate, &mut text)?;
     assert!(rt; lets_start(&gate, four_calls(1) | four_calls(2)));
@@ -241,7 +241,7 @@ fn cut_before_turn(rt: HostRuntime) -> Result<(), Fail> {
         (call_of(2, 3), call_of(1, 6)),
         (call_of(1, 6), call_of(2, 4)),
     ];
-    let gate = holding(&holds);
+    let gate = gate_of(&holds);
     let mut text = Vec::new(rt.alloc());
     report(&rt, rt.alloc(), CUTTING, &gate, &mut text)?;
     let all = four_calls(1) | call_of(1, 5) | call_of(1, 6) | four_calls(2);
@@ -298,7 +298,7 @@ fn calls_of_all(call: u64) -> u64 {
 fn all_authors_of_all_replicas_are_at_work_at_once(rt: HostRuntime) -> Result<(), Fail> {
     let (first, second) = (calls_of_all(1), calls_of_all(2));
     let holds = [(first, first), (second, second)];
-    let gate = holding(&holds);
+    let gate = gate_of(&holds);
     let mut text = Vec::new(rt.alloc());
     report(&rt, rt.alloc(), CROWD, &gate, &mut text)?;
     assert!(rt; lets_start(&gate, first | second));
