@@ -3,6 +3,8 @@
 #![tactic(auto)]
 
 #[cfg(test)]
+mod gate_tests;
+#[cfg(test)]
 mod grove_tools_tests;
 #[cfg(test)]
 mod grove_top_tests;

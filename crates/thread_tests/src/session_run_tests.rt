@@ -3,7 +3,6 @@ ghost use Rattle.std.specs.List.{AllByRecursion};
 ghost use Rattle.grove_edits.specs.declared.answer.Answer.TheVariants.{Done};
 ghost use Rattle.grove_edits.specs.Graph.{Ascends};
 ghost use Rattle.edge_board.specs.Seats.{BoardOf};
-ghost use Rattle.author_desk.specs.declared.cuts.Cuts.TheVariants.{Empty};
 ghost use Rattle.author_desk.specs.Cuts.{opening_edits, CanRaise, HasPartsFor};
 ghost use Rattle.session_script.specs.Session.{IsSession};
 
@@ -22,7 +21,7 @@ use std::sync::atomic::{AtomicU64, Ordering};
 use std::sync::ledger::Ledger;
 use std::sync::{Mutex, Wait};
 use std::test::Fail;
-use std::thread::Threads;
+use std::thread::{self, Threads};
 
 /// Counts its steps, and tells before each how many there were.
 #[derive(Drop)]
@@ -73,16 +72,25 @@ fn loaded(alloc: Global, session: &Session) -> Result<EditList, Fail> {
     Ok(edits)
 }
 
-// What machines that count journal of the session's first item, if it is a block.
-fn journals_of<R: Threads + Wait + Sync, G: Gate>(
+// Two machines that have not counted yet.
+fn counters(alloc: Global) -> Result<Vec<Counter>, NoMemory>
+    ensures { IfOk result (λ machines. length machines.items ≡ 2) }
+{
+    Ok(vec![in alloc; Counter { steps: 0 }, Counter { steps: 0 }]?)
+}
+
+// What two machines journal of the session's first item, if it is a block.
+fn journals_of<R: Threads + Wait + Sync, M: Machine<Command = Command, Reply = Answer>, G: Gate>(
     rt: &R,
     alloc: Global,
     session: &Session,
+    machines: Vec<M>,
     sources: &[EditList],
     cuts: &mut Vec<Cuts<'_>>,
     gate: &G,
-) -> Result<Vec<Journal<Counter>>, Fail>
+) -> Result<Vec<Journal<M>>, Fail>
     requires session { IsSession session.now }
+    requires machines { length machines.items ≡ 2 }
     requires replicas { length session.now.replicas ≡ 2 }
     requires authors { length session.now.authors ≡ 2 }
     requires sources { length sources.now ≡ 2 }
@@ -96,7 +104,6 @@ fn journals_of<R: Threads + Wait + Sync, G: Gate>(
     if block.lines.len() > 100 {
         return Err(Fail::from("few lines"));
     }
-    let machines = vec![in alloc; Counter { steps: 0 }, Counter { steps: 0 }]?;
     let first_calls = [1, 1];
     let (_, journals) = run_block(
         rt,
@@ -144,13 +151,6 @@ fn cuts_at<'a>(
     Ok(cuts)
 }
 
-// Two replicas that opened without edges.
-fn no_cuts(alloc: Global) -> Result<Vec<Cuts<'static>>, NoMemory>
-    ensures { IfOk result (λ cuts. cuts.items ≡ Empty ∷ Empty ∷ []) }
-{
-    Ok(vec![in alloc; Cuts::Empty, Cuts::Empty]?)
-}
-
 // What an actor's call of this index among its own asks: the number of the edge that is cut or of the piece, and that of its edits.
 fn shown(
     journals: &[Journal<Counter>],
@@ -183,7 +183,16 @@ fn authors_act_and_pieces_come_where_they_belong(rt: HostRuntime) -> Result<(), 
     let opening = [State::Deleted, State::Live, State::Live];
     let (board, seat) = Board::new(rt.alloc(), &opening, 3)?;
     let mut cuts = cuts_at(rt.alloc(), &sources, &board, seat)?;
-    let journals = journals_of(&rt, rt.alloc(), &session, &sources, &mut cuts, &OpenGate)?;
+    let machines = counters(rt.alloc())?;
+    let journals = journals_of(
+        &rt,
+        rt.alloc(),
+        &session,
+        machines,
+        &sources,
+        &mut cuts,
+        &OpenGate,
+    )?;
     assert!(rt; journals.len() == 2);
     for (replica, actor, index, want) in [
         (0, Actor::Author(1), 0, Some((2, 0))),
@@ -202,55 +211,130 @@ fn authors_act_and_pieces_come_where_they_belong(rt: HostRuntime) -> Result<(), 
     Ok(())
 }
 
-// A block in which two authors act on one replica, twice each.
-const MEETING: &[u8] =
-    b"session\nreplica a\nreplica b\nauthor 1 a\nauthor 2 a\nblock\n1 cut 1.2\n1 cut 1.3\n2 cut 2.2\n2 cut 2.3\nend\n";
+// A block in which two authors act and all edits of a replica are sent to it and to the other one.
+const SENDING: &[u8] =
+    b"session\nreplica a\nreplica b\nauthor 1 a\nauthor 2 b\nblock\n1 cut 1.2\n2 cut 2.2\nsend a a skip 0 take 9 forward once cut 65536\nsend a b skip 0 take 9 forward once cut 65536\nend\nload a +3.2 0.0 root main 3.1 plus\nload a +3.4 3.1 plus left 3.3 num:7\nload a +3.6 3.1 plus right 3.5 num:8\n";
 
-/// Lets the second call of each of two authors start once that of the other was asked for. It counts how often it was asked for each.
+// Two authors and two sends, each of which holds until all others are at work.
+const AT_WORK: u64 = 0b1111;
+
+/// Who was seen at work, and who has seen all others so.
 #[derive(Drop)]
 struct Meeting {
-    first: AtomicU64,
-    second: AtomicU64,
+    came: AtomicU64,
+    met: AtomicU64,
 }
 
-impl Gate for Meeting {
-    fn ready(&self, author: u32, call: u64) -> bool {
-        if call != 2 {
-            return true;
+impl Meeting {
+    // Whether all are at work, now that this one is.
+    fn come(&self, own: u64) -> bool {
+        let all = self.came.fetch_or(own, Ordering::SeqCst) | own == AT_WORK;
+        if all {
+            self.met.fetch_or(own, Ordering::SeqCst);
         }
-        if author == 1 {
-            self.first.fetch_add(1, Ordering::SeqCst);
-            self.second.load(Ordering::SeqCst) > 0
-        } else {
-            self.second.fetch_add(1, Ordering::SeqCst);
-            self.first.load(Ordering::SeqCst) > 0
+        all
+    }
+
+    // Waits for all, and gives up after very many times.
+    fn wait(&self, own: u64) {
+        for _ in 0..1_000_000u64 {
+            if self.come(own) {
+                return;
+            }
+            thread::yield_now();
         }
     }
 }
 
+impl Gate for Meeting {
+    fn ready(&self, author: u32, _call: u64) -> bool {
+        self.come(1u64.rotate_left(author % 2))
+    }
+}
+
+/// A counter whose steps wait, where they take edits, until all are at work.
+#[derive(Drop)]
+struct Waiting<'a> {
+    steps: u64,
+    own: u64,
+    meeting: &'a Meeting,
+}
+
+impl<'a> Machine for Waiting<'a> {
+    type Command = Command;
+
+    type Effect = u64;
+
+    type Reply = Answer;
+
+    ghost after = { λ waiting _ _. record waiting { steps = (waiting.steps + 1) % 2 ^ 64 } };
+
+    ghost effect = { λ waiting _ _. waiting.steps };
+
+    ghost reply = { λ _ _ _. Done };
+
+    ghost cost = { λ _ _ _. 0 };
+
+    fn step<L: Ledger>(
+        &mut self,
+        _alloc: Global,
+        _actor: Actor,
+        command: &Command,
+        _steps: &mut Steps<L>,
+    ) -> Result<(u64, Answer), NoRoom> {
+        if let Command::Take { .. } = command {
+            self.meeting.wait(self.own);
+        }
+        let before = self.steps;
+        self.steps = before.wrapping_add(1);
+        Ok((before, Answer::Done))
+    }
+}
+
+// Two such machines, by whom they are seen at work.
+fn waiting_machines(alloc: Global, meeting: &Meeting) -> Result<Vec<Waiting<'_>>, NoMemory>
+    ensures { IfOk result (λ machines. length machines.items ≡ 2) }
+{
+    let mut machines = Vec::with_capacity(alloc, 2)?;
+    for own in [0b100, 0b1000] {
+        machines.push(Waiting {
+            steps: 0,
+            own,
+            meeting,
+        })?;
+    }
+    Ok(machines)
+}
+
 #[test]
-fn two_authors_meet(rt: HostRuntime) -> Result<(), Fail> {
-    let Ok(session) = read_session(rt.alloc(), MEETING) else {
+fn authors_and_sends_of_all_replicas_are_at_work_at_once(rt: HostRuntime) -> Result<(), Fail> {
+    let Ok(session) = read_session(rt.alloc(), SENDING) else {
         return Err(Fail::from("a session"));
     };
     if session.replicas.len() != 2 || session.authors.len() != 2 {
         return Err(Fail::from("two replicas and two authors"));
     }
-    let sources = vec![in rt.alloc(); EditList::new(rt.alloc()), EditList::new(rt.alloc())]?;
-    let gate = Meeting {
-        first: AtomicU64::new(0),
-        second: AtomicU64::new(0),
+    let edits = loaded(rt.alloc(), &session)?.into_canonical();
+    let sources = vec![in rt.alloc(); edits, EditList::new(rt.alloc())]?;
+    let opening = [State::Live, State::Live, State::Live];
+    let (board, seat) = Board::new(rt.alloc(), &opening, 3)?;
+    let mut cuts = cuts_at(rt.alloc(), &sources, &board, seat)?;
+    let meeting = Meeting {
+        came: AtomicU64::new(0),
+        met: AtomicU64::new(0),
     };
-    let mut cuts = no_cuts(rt.alloc())?;
-    let journals = journals_of(&rt, rt.alloc(), &session, &sources, &mut cuts, &gate)?;
-    for author in [1u32, 2] {
-        assert!(rt; shown(&journals, 0, Actor::Author(author), 0) == Some((2, 0)));
-        assert!(rt; shown(&journals, 0, Actor::Author(author), 1) == Some((3, 0)));
-    }
-    for asked in [&gate.first, &gate.second] {
-        let asked = asked.load(Ordering::SeqCst);
-        assert!(rt; 0 < asked && asked < 1_000_000);
-    }
+    let machines = waiting_machines(rt.alloc(), &meeting)?;
+    let journals = journals_of(
+        &rt,
+        rt.alloc(),
+        &session,
+        machines,
+        &sources,
+        &mut cuts,
+        &meeting,
+    )?;
+    assert!(rt; journals.len() == 2 && journals[0].len() == 2 && journals[1].len() == 2);
+    assert!(rt; meeting.met.load(Ordering::SeqCst) == AT_WORK);
     Ok(())
 }
 
@@ -275,11 +359,13 @@ struct Watch<B: Naming> {
     ghost at: { seat.board ≡ B.board },
 }
 
-/// Lets author 1's third call start once the slots of both children are Deleted. It counts how often it was asked for that.
+/// Lets each call of author 1 start once just the slots that its calls before cut are Deleted. It keeps which of them it let start, and how
+/// often it was asked for them.
 #[derive(Drop)]
 struct Watching<'a, B: Naming> {
     board: &'a Board,
     watch: Mutex<Watch<B>>,
+    started: AtomicU64,
     asks: AtomicU64,
     ghost at: { board.now ≡ B.board },
     ghost slots: { 2 < length board.now.opening },
@@ -287,20 +373,25 @@ struct Watching<'a, B: Naming> {
 
 impl<'a, B: Naming + Send + Sync> Gate for Watching<'a, B> {
     fn ready(&self, author: u32, call: u64) -> bool {
-        if author != 1 || call != 3 {
+        if author != 1 {
             return true;
         }
         self.asks.fetch_add(1, Ordering::SeqCst);
         let Some(mut watch) = self.watch.try_lock() else {
             return false;
         };
-        let left = self.board.read(&mut watch.seat, 1);
-        let right = self.board.read(&mut watch.seat, 2);
-        left == State::Deleted && right == State::Deleted
+        let left = self.board.read(&mut watch.seat, 1) == State::Deleted;
+        let right = self.board.read(&mut watch.seat, 2) == State::Deleted;
+        let is_due = left == (1 < call) && right == (2 < call);
+        if is_due {
+            let own = 1u64.rotate_left((call % 64) as u32);
+            self.started.fetch_or(own, Ordering::SeqCst);
+        }
+        is_due
     }
 }
 
-// The journals that the block leaves, and how often the gate was asked for author 1's third call.
+// The journals that the block leaves, and which calls of author 1 the gate let start, if it let each that it was asked for.
 fn cut_as<B: Naming + Send + Sync, R: Threads + Wait + Sync>(
     rt: &R,
     alloc: Global,
@@ -324,11 +415,16 @@ fn cut_as<B: Naming + Send + Sync, R: Threads + Wait + Sync>(
             seat: watch,
             of: PhantomData,
         }),
+        started: AtomicU64::new(0),
         asks: AtomicU64::new(0),
     };
     let mut cuts = cuts_at(alloc, sources, board, seat)?;
-    let journals = journals_of(rt, alloc, session, sources, &mut cuts, &gate)?;
-    Ok((journals, gate.asks.load(Ordering::SeqCst)))
+    let machines = counters(alloc)?;
+    let journals = journals_of(rt, alloc, session, machines, sources, &mut cuts, &gate)?;
+    if gate.asks.load(Ordering::SeqCst) >= 1_000_000 {
+        return Err(Fail::from("a gate that is ready at last"));
+    }
+    Ok((journals, gate.started.load(Ordering::SeqCst)))
 }
 
 // The same, at a board that is made for it.
@@ -370,8 +466,8 @@ fn cut_before_turn(rt: HostRuntime) -> Result<(), Fail> {
     if session.replicas.len() != 2 || session.authors.len() != 2 {
         return Err(Fail::from("two replicas and two authors"));
     }
-    let (journals, asks) = cut(&rt, rt.alloc(), &session)?;
-    assert!(rt; 0 < asks && asks < 1_000_000);
+    let (journals, started) = cut(&rt, rt.alloc(), &session)?;
+    assert!(rt; started == 0b1110);
     assert!(rt; journals.len() == 2 && journals[0].len() == 4);
     // Author 2's entry is before the three of author 1, or behind them.
     let first = if is_cut(&journals[0], 0, 4) { 0 } else { 1 };

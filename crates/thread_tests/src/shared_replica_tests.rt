@@ -15,7 +15,14 @@ use std::thread::{Threads, join};
 // A number that the machine below has no memory for.
 const TOO_MUCH: u64 = u64::MAX;
 
-/// A sum. A command is added to it, and the answer is the sum then.
+// Takes so long that whoever waits for its turn meanwhile falls asleep.
+fn linger() {
+    for _ in 0..5_000u32 {
+        thread::yield_now();
+    }
+}
+
+/// A sum. A command is added to it, and the answer is the sum then. Each hundredth number takes long.
 #[derive(Drop)]
 struct Sum {
     total: u64,
@@ -45,6 +52,9 @@ impl Machine for Sum {
     ) -> Result<(u64, u64), NoMemory> {
         if *command == TOO_MUCH {
             return Err(NoMemory);
+        }
+        if *command % 100 == 0 {
+            linger();
         }
         steps.tick();
         self.total = self.total.wrapping_add(*command);
