@@ -186,12 +186,12 @@ fn open(alloc: Global, disk: FuseDisk) -> Result<EditLog<FuseDisk>, FuseDisk> {
 }
 
 /// More calls of a disk than a run of all edits makes.
-const MOST_CALLS: u64 = 700;
+const MOST_CALLS: u64 = 240;
 
 #[test]
 fn each_acknowledged_edit_is_found(rt: HostRuntime) -> Result<(), Fail> {
-    let edits = edits(rt.alloc(), 200)?;
-    assert_eq!(rt; stop_everywhere(rt.alloc(), edits.as_slice())?, 200);
+    let edits = edits(rt.alloc(), 50)?;
+    assert_eq!(rt; stop_everywhere(rt.alloc(), edits.as_slice())?, 50);
     Ok(())
 }
 
