@@ -4,7 +4,7 @@ use Rattle.std.specs.List.{AllByRecursion, flat_map}
 use Rattle.grove_edits.specs.declared.action.Action.{Action}
 use Rattle.grove_edits.specs.declared.edit.Edit.{Edit}
 use Rattle.author_desk.specs.Lines.{slots_named, slots_cut, is_opening_cut}
-use Rattle.author_desk.specs.Turns.{in_first_turn, turns_of, IsTurn}
+use Rattle.author_desk.specs.Turns.{in_first_turn, turns_of, IsTurn, EndsAtOther, AreLongest}
 
 abbrev pub AreOpeningCuts : List Edit → List Action → Type 0
 AreOpeningCuts es lines = AllByRecursion (λ line. is_opening_cut es line ≡ true) lines
@@ -70,3 +70,40 @@ all_runs es (x ∷ xs) = by_test (is_opening_cut es x) refl (all_runs es xs) whe
   by_test : (b : Bool) → is_opening_cut es x ≡ b → AllByRecursion (IsTurn es) (turns_of es xs) → AllByRecursion (IsTurn es) (cond b (in_first_turn x (turns_of es xs)) ((x ∷ []) ∷ turns_of es xs))
   by_test true is rest = with_cut es x (turns_of es xs) is rest
   by_test false is rest = (tt, rest)
+
+longest_with : (es : List Edit) (x : Action) (ts : List (List Action)) → AllByRecursion (IsTurn es) ts → AreLongest es ts → AreLongest es (in_first_turn x ts)
+longest_with es x [] all h = tt
+longest_with es x (t ∷ []) all h = tt
+longest_with es x ([] ∷ u ∷ ts) all h = absurd all.0
+longest_with es x ((y ∷ ys) ∷ u ∷ ts) all h = h
+
+longest_behind : (es : List Edit) (x : Action) (ts : List (List Action)) → is_opening_cut es x ≡ false → AreLongest es ts → AreLongest es ((x ∷ []) ∷ ts)
+longest_behind es x [] is h = tt
+longest_behind es x (t ∷ ts) is h = (is, h)
+
+pub all_longest : (es : List Edit) (xs : List Action) → AreLongest es (turns_of es xs)
+all_longest es [] = tt
+all_longest es (x ∷ xs) = by_test (is_opening_cut es x) refl (all_longest es xs) where
+  by_test : (b : Bool) → is_opening_cut es x ≡ b → AreLongest es (turns_of es xs) → AreLongest es (cond b (in_first_turn x (turns_of es xs)) ((x ∷ []) ∷ turns_of es xs))
+  by_test true is rest = longest_with es x (turns_of es xs) (all_runs es xs) rest
+  by_test false is rest = longest_behind es x (turns_of es xs) is rest
+
+-- a turn before others begins the turns of all lines
+first_is : (es : List Edit) (t : List Action) (ts : List (List Action)) (rest : List Action) → IsTurn es t → EndsAtOther es t → ts ≡ turns_of es rest → t ∷ ts ≡ turns_of es (t ++ rest)
+first_is es [] ts rest run ends is = absurd run
+first_is es (x ∷ []) ts rest run ends is = ap (λ us. (x ∷ []) ∷ us) is ∙ sym (other_first es x rest ends)
+first_is es (x ∷ y ∷ ys) ts rest run ends is = ap (in_first_turn x) (first_is es (y ∷ ys) ts rest run.1 ends is) ∙ sym (cut_first es x (y ∷ (ys ++ rest)) run.0)
+
+-- and so does the last one, wherever it ends
+last_is : (es : List Edit) (t : List Action) → IsTurn es t → t ∷ [] ≡ turns_of es (t ++ [])
+last_is es [] run = absurd run
+last_is es (x ∷ []) run = by_test (is_opening_cut es x) where
+  by_test : (b : Bool) → (x ∷ []) ∷ [] ≡ cond b ((x ∷ []) ∷ []) ((x ∷ []) ∷ [])
+  by_test true = refl
+  by_test false = refl
+last_is es (x ∷ y ∷ ys) run = ap (in_first_turn x) (last_is es (y ∷ ys) run.1) ∙ sym (cut_first es x (y ∷ (ys ++ [])) run.0)
+
+pub only_turns : (es : List Edit) (ts : List (List Action)) → AllByRecursion (IsTurn es) ts → AreLongest es ts → ts ≡ turns_of es (flat_map (λ turn. turn) ts)
+only_turns es [] all h = refl
+only_turns es (t ∷ []) all h = last_is es t all.0
+only_turns es (t ∷ u ∷ ts) all h = first_is es t (u ∷ ts) (flat_map (λ turn. turn) (u ∷ ts)) all.0 h.0 (only_turns es (u ∷ ts) all.1 h.1)

@@ -6,10 +6,12 @@ use Rattle.author_desk.specs.declared.cuts.Cuts.TheVariants.{Empty, On}
 use Rattle.author_desk.specs.Lines.{slots_named, slots_cut}
 use Rattle.author_desk.specs.Cuts.{opening_edits, CanRaise, Raises, KeepsSeat}
 use Rattle.author_desk.proofs.FirstTurn.{slots_more}
+use Rattle.author_desk.proofs.SeenStates.{most_itself, raised_later, raised_all}
+use Rattle.edge_board.proofs.States.{most_then}
 
 pub raises_none : (c : Cuts) → Raises c c []
 raises_none Empty = refl
-raises_none (On opening board seat) = (seat, refl, record { board = refl; parts = refl; marks = sym (append-nil seat.marks) })
+raises_none (On opening board seat) = (seat, refl, record { board = refl; parts = refl; marks = sym (append-nil seat.marks); seen = most_itself seat.seen; seen_raised = tt })
 
 pub raises_both : (c c' c'' : Cuts) (xs ys : List ℕ) → Raises c c' xs → Raises c' c'' ys → Raises c c'' (xs ++ ys)
 raises_both Empty c' c'' xs ys h h' = subst (λ z. Raises z c'' ys) h h'
@@ -21,6 +23,8 @@ raises_both (On opening board seat) c' c'' xs ys h h' =
         board = k.2.board ∙ h.2.board;
         parts = k.2.parts ∙ h.2.parts;
         marks = k.2.marks ∙ (ap (λ marks. marks ++ ys) h.2.marks ∙ append_assoc seat.marks xs ys);
+        seen = most_then seat.seen h.0.seen k.0.seen h.2.seen k.2.seen;
+        seen_raised = raised_all k.0.seen xs ys (raised_later h.0.seen k.0.seen xs k.2.seen h.2.seen_raised) k.2.seen_raised;
       },
     )
 

@@ -1,6 +1,10 @@
 -- What contracts see of the cuts of an author: the opening edges, the board, and what its seat raised.
 use Rattle.std.specs.Prelude.{◌≡◌, ℕ, ◌<◌, List, [], ◌∷◌, ◌++◌, length, Option, Some, None}
+use Rattle.std.specs.List.{AllByRecursion}
 use mathlib.Core.List.{IsPrefix}
+use Rattle.edge_lattice.specs.declared.state.State.{State}
+use Rattle.edge_lattice.specs.declared.state.State.TheVariants.{Deleted}
+use Rattle.edge_board.specs.States.{state_at, AreAtMost}
 use Rattle.grove_edits.specs.declared.action.Action.{Action}
 use Rattle.grove_edits.specs.declared.edit.Edit.{Edit}
 use Rattle.grove_edits.specs.Graph.{Ascends}
@@ -47,11 +51,18 @@ TakesIn cuts Empty after = after ≡ cuts
 TakesIn Empty (On opening board seat) after = ⊥
 TakesIn (On opening board seat) (On opening' board' seat') after = after ≡ On opening board (joined_board_seat seat seat')
 
--- the seat raised these slots, and nothing else; it is at its board and has its parts as before
+-- these slots were seen raised
+abbrev pub AreSeenRaised : List State → List ℕ → Type 0
+AreSeenRaised seen slots = AllByRecursion (λ slot. state_at seen slot ≡ Deleted) slots
+
+-- the seat raised these slots, and nothing else; it is at its board and has its parts as before. It has seen these slots raised, and in no
+-- slot less than before, so whatever it reads later is at least that
 pub record SeatRaises (before after : BoardStanding) (slots : List ℕ) : Type 0 where
   pub board : after.board ≡ before.board
   pub parts : after.parts ≡ before.parts
   pub marks : after.marks ≡ before.marks ++ slots
+  pub seen : AreAtMost before.seen after.seen
+  pub seen_raised : AreSeenRaised after.seen slots
 
 -- the same of the seat of some cuts, whose opening edges and board stay
 abbrev pub Raises : Cuts → Cuts → List ℕ → Type 0

@@ -1,5 +1,5 @@
 -- In which turns the lines of an author are entered: a cut of opening edges goes with the line behind it.
-use Rattle.std.specs.Prelude.{◌≡◌, if◌then◌else◌, IsTrue, List, [], ◌∷◌, map}
+use Rattle.std.specs.Prelude.{◌≡◌, if◌then◌else◌, false, IsTrue, List, [], ◌∷◌, map}
 use mathlib.Core.List.{IsPrefix}
 use Rattle.grove_edits.specs.declared.action.Action.{Action}
 use Rattle.grove_edits.specs.declared.command.Command.{Command}
@@ -23,6 +23,18 @@ abbrev pub IsTurn : List Edit → List Action → Type 0
 IsTurn opening [] = ⊥
 IsTurn opening (line ∷ []) = Unit {0}
 IsTurn opening (line ∷ next ∷ lines) = IsTrue (is_opening_cut opening line) × IsTurn opening (next ∷ lines)
+
+-- the last line is no opening cut
+abbrev pub EndsAtOther : List Edit → List Action → Type 0
+EndsAtOther opening [] = ⊥
+EndsAtOther opening (line ∷ []) = is_opening_cut opening line ≡ false
+EndsAtOther opening (line ∷ next ∷ lines) = EndsAtOther opening (next ∷ lines)
+
+-- each turn but the last ends at a line that is no opening cut
+abbrev pub AreLongest : List Edit → List (List Action) → Type 0
+AreLongest opening [] = Unit {0}
+AreLongest opening (turn ∷ []) = Unit {0}
+AreLongest opening (turn ∷ next ∷ turns) = EndsAtOther opening turn × AreLongest opening (next ∷ turns)
 
 abbrev pub commands_of : {R : Type 0} → List (Call Command R) → List Command
 commands_of calls = map (λ call. call.command) calls

@@ -12,24 +12,31 @@ use Rattle.session_report.specs.Taken.{Journals, taken}
 use Rattle.session_report.specs.Legal.{next_show}
 use Rattle.session_report.specs.Report.{IsSection, AreSections, IsItemText, AreItemTexts, IsReport, replica_heading, show_heading}
 
--- replicas whose edits make the same graph show the same
-same_section_of : (name : Ident) (a b : List Edit) (x y : List ℕ) → IsSame (graph a) (graph b) → IsSection name a x → IsSection name b y → x ≡ y
-same_section_of name a b x y same of_a of_b =
-    of_a.written
-    ∙ ap (λ (t : List ℕ). replica_heading name ++ t)
-    (one_print_text (graph b) of_a.printed of_b.printed (printed_along (graph a) (graph b) of_a.printed same of_a.is_print_text) of_b.is_print_text)
-    ∙ sym of_b.written
+-- graphs that are the same have the same print text
+same_printed : (name other : Ident) (a b : List Edit) (x y : List ℕ) → IsSame (graph a) (graph b) → (of_a : IsSection name a x) → (of_b : IsSection other b y) → of_a.printed ≡ of_b.printed
+same_printed name other a b x y same of_a of_b =
+    one_print_text (graph b) of_a.printed of_b.printed (printed_along (graph a) (graph b) of_a.printed same of_a.is_print_text) of_b.is_print_text
 
--- so do those that took the same edits
-pub same_section : (name : Ident) (a b : List Edit) (x y : List ℕ) → HasSameEdits a b → IsSection name a x → IsSection name b y → x ≡ y
-same_section name a b x y same = same_section_of name a b x y (graph-same_edits a b same.0 same.1)
+-- a replica has one section
+one_section : (name : Ident) (a : List Edit) (x y : List ℕ) → IsSection name a x → IsSection name a y → x ≡ y
+one_section name a x y of_x of_y =
+    of_x.written ∙ ap (λ (t : List ℕ). replica_heading name ++ t) (same_printed name name a a x y (λ e. refl) of_x of_y) ∙ sym of_y.written
+
+-- replicas that took the same edits show the same below their names
+pub same_section : (name other : Ident) (a b : List Edit) (x y : List ℕ) → HasSameEdits a b → IsSection name a x → IsSection other b y
+    → (shown : List ℕ) × (x ≡ replica_heading name ++ shown) × (y ≡ replica_heading other ++ shown)
+same_section name other a b x y same of_a of_b = (
+  of_a.printed,
+  of_a.written,
+  of_b.written ∙ ap (λ (t : List ℕ). replica_heading other ++ t) (sym (same_printed name other a b x y (graph-same_edits a b same.0 same.1) of_a of_b)),
+)
 
 module _ {M : Type 0} where
   one_sections : (journals : Journals M) (before : List Item) (replica : ℕ) (names : List Ident) (x y : List ℕ)
       → AreSections journals before replica names x → AreSections journals before replica names y → x ≡ y
   one_sections journals before replica [] x y a b = a ∙ sym b
   one_sections journals before replica (name ∷ names) x y a b =
-      let mine : a.0 ≡ b.0 = same_section_of name (taken journals replica before) (taken journals replica before) a.0 b.0 (λ e. refl) a.2 b.2 in
+      let mine : a.0 ≡ b.0 = one_section name (taken journals replica before) a.0 b.0 a.2 b.2 in
       let rest : a.1 ≡ b.1 = one_sections journals before (replica + 1) names a.1 b.1 a.3 b.3 in
       a.4 ∙ ap (λ (t : List ℕ). t ++ a.1) mine ∙ ap (λ (t : List ℕ). b.0 ++ t) rest ∙ sym b.4
 

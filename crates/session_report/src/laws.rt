@@ -1,4 +1,4 @@
-ghost use Rattle.std.specs.Prelude.{◌≡◌, ℕ, List, map, slice_get, Some};
+ghost use Rattle.std.specs.Prelude.{◌≡◌, ℕ, List, ◌++◌, map, slice_get, Some};
 ghost use Rattle.grove_sorts.specs.declared.ident.Ident.{Ident};
 ghost use Rattle.grove_edits.specs.declared.edit.Edit.{Edit};
 ghost use Rattle.grove_edits.specs.Graph.{HasSameEdits};
@@ -10,7 +10,7 @@ ghost use Rattle.replica_exchange.specs.Send.{sent_edits};
 ghost use Rattle.session_run.specs.Calls.{Stage, SendsHere};
 ghost use Rattle.session_report.specs.Journal.{Entries, IsLegal, asked, edits_of, entries_by};
 ghost use Rattle.session_report.specs.Taken.{Journals, taken};
-ghost use Rattle.session_report.specs.Report.{IsReport, IsSection};
+ghost use Rattle.session_report.specs.Report.{IsReport, IsSection, replica_heading};
 ghost use Rattle.session_report.specs.Summary.{IsSummary};
 
 use grove_edits::{Answer, Command, EditList};
@@ -27,10 +27,11 @@ pub fn one_summary<M: Machine<Command = Command, Effect = EditList, Reply = Answ
 {}
 
 /// Law: replicas that took the same edits, by loads, by actions and by what was sent to them, in any order and with any repeats,
-/// have the same section, in one report or in two.
+/// have the same section below the line with their names, in one report or in two.
 pub fn same_edits_same_section<M: Machine<Command = Command, Effect = EditList, Reply = Answer>>()
-    ensures { (journals others : Journals M) (a b : ℕ) (before earlier : List Item) (name : Ident) (x y : List ℕ)
-        → HasSameEdits (taken journals a before) (taken others b earlier) → IsSection name (taken journals a before) x → IsSection name (taken others b earlier) y → x ≡ y }
+    ensures { (journals others : Journals M) (a b : ℕ) (before earlier : List Item) (name other : Ident) (x y : List ℕ)
+        → HasSameEdits (taken journals a before) (taken others b earlier) → IsSection name (taken journals a before) x → IsSection other (taken others b earlier) y
+        → (shown : List ℕ) × (x ≡ replica_heading name ++ shown) × (y ≡ replica_heading other ++ shown) }
 {}
 
 /// Law: the journal of a block at a replica follows from who asks what in it, and in which order.

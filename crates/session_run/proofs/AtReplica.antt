@@ -1,14 +1,18 @@
 -- Which seats the workers at a replica take, which slots they raise, and which of their calls stand together.
-use Rattle.std.proofs.Common.{◌≡◌, ◌≢◌, ℕ, zero, suc, ◌+◌, ◌<◌, ◌≤◌, ◌==◌, ◌&&◌, Bool, true, false, ◌⊎◌, inl, inr, List, [], ◌∷◌, ◌++◌, length, sum_by, get_or, cond, refl, sym, ap, ap₂, subst, ◌∙◌, append-nil, arith}
+use Rattle.std.proofs.Common.{◌≡◌, ◌≢◌, ℕ, zero, suc, ◌+◌, ◌<◌, ◌≤◌, ◌==◌, ◌&&◌, Bool, true, false, ◌⊎◌, inl, inr, List, [], ◌∷◌, ◌++◌, length, map, sum_by, get_or, cond, refl, sym, ap, ap₂, subst, ◌∙◌, append-nil, arith}
 use Rattle.std.specs.Prelude.{if◌then◌else◌, ◌||◌}
 use Rattle.std.specs.List.{AllByRecursion, flat_map, list_any}
 use Rattle.std.proofs.lemmas.Bool.{eqb-true, eq-eqb}
 use Rattle.std.proofs.lemmas.Grind.{flat_map-append}
+use Rattle.std.proofs.lemmas.List.{length-map}
 use Rattle.std.proofs.lemmas.List.Sums.{sum_by-append, sum_by-cons}
 use Rattle.grove_edits.specs.declared.action.Action.{Action}
+use Rattle.grove_edits.specs.declared.actor.Actor.TheVariants as actor
 use Rattle.grove_edits.specs.declared.command.Command.{Command}
+use Rattle.grove_edits.specs.declared.command.Command.TheVariants.{Act}
 use Rattle.grove_edits.specs.declared.edit.Edit.{Edit}
 use Rattle.shared_replica.specs.declared.journal.Entry.{Entry}
+use Rattle.shared_replica.specs.Passes.{Call, calls_by, all_calls}
 use Rattle.session_script.specs.declared.author.Declared.{Declared}
 use Rattle.session_script.specs.declared.line.Line.{Line}
 use Rattle.session_script.specs.declared.line.Line.TheVariants as line
@@ -16,17 +20,21 @@ use Rattle.session_script.specs.declared.line.SendLine.{SendLine}
 use Rattle.author_desk.specs.declared.cuts.Cuts.{Cuts}
 use Rattle.author_desk.specs.Cuts.{HasPartsFor}
 use Rattle.author_desk.specs.Lines.{slots_cut}
-use Rattle.author_desk.specs.Turns.{turns_of}
+use Rattle.author_desk.specs.Together.{AreRunsOf}
+use Rattle.author_desk.specs.Turns.{turns_of, commands_of}
+use Rattle.author_desk.proofs.FirstTurn.{all_lines}
+use Rattle.author_desk.proofs.Standing.{are_runs}
 use Rattle.session_run.specs.declared.author_lines.AuthorLines.{AuthorLines}
 use Rattle.session_run.specs.declared.block.Plan.{Plan}
 use Rattle.session_run.specs.declared.worker.Worker.{Worker}
 use Rattle.session_run.specs.declared.worker.Worker.TheVariants as worker
-use Rattle.session_run.specs.Boards.{is_line_of, is_at_work, authors_at_work, CanCutAt, slots_by, slots_at, LinesStand, TurnsStand}
-use Rattle.session_run.specs.Calls.{Stage, actions_of}
+use Rattle.session_run.specs.Boards.{is_line_of, is_at_work, authors_at_work, CanCutAt, slots_by, slots_at, TurnsStand}
+use Rattle.session_run.specs.Calls.{Stage, actions_of, ActsHere, AreCalls}
 use Rattle.session_run.specs.Workers.{told, told_in, seats_of, slots_of, AreLinesOf, IsAuthorWorker, IsPieceWorker, AreForAuthors, AreForSends}
-use Rattle.session_run.specs.Passes.{StandsIn}
+use Rattle.session_run.specs.Passes.{LinesStand, StandsIn}
 use Rattle.session_run.specs.Plans.{FitsPlan}
 use Rattle.session_run.proofs.Seats.{fewer_parts}
+use Rattle.session_run.proofs.Worked.{commands_of_turns}
 
 first_of : {X : Type 0} {x y : X} {xs ys : List X} → x ∷ xs ≡ y ∷ ys → x ≡ y
 first_of is = cc
@@ -176,21 +184,21 @@ front_of P [] ys all = tt
 front_of P (x ∷ xs) ys all = (all.0, front_of P xs ys all.1)
 
 module _ {M E R : Type 0} (stage : Stage) (opening : List Edit) (journal : List (Entry M Command E R)) where
-  -- the turns of an author stand together, if it acts on the replica
+  -- the turns of an author stand in order, if it acts on the replica
   abbrev StandsHere : Declared → Type 0
-  StandsHere declared = declared.replica ≡ stage.replica → AllByRecursion (LinesStand declared.author journal) (turns_of opening (actions_of declared.author stage.lines))
+  StandsHere declared = declared.replica ≡ stage.replica → LinesStand declared.author journal (turns_of opening (actions_of declared.author stage.lines))
 
   author_stands : (lines : AuthorLines) (declared : Declared) (one : Worker) → told lines ≡ told_in stage.lines declared → IsAuthorWorker lines one → StandsIn opening journal one → StandsHere declared
   author_stands lines declared (worker.Author mine) are is stands =
-      λ here. subst (λ (t : Declared × List Action). AllByRecursion (LinesStand t.0.author journal) (turns_of opening t.1)) are
-      (subst (λ (l : AuthorLines). AllByRecursion (LinesStand l.declared.author journal) (turns_of opening l.actions.items)) is stands)
+      λ here. subst (λ (t : Declared × List Action). LinesStand t.0.author journal (turns_of opening t.1)) are
+      (subst (λ (l : AuthorLines). LinesStand l.declared.author journal (turns_of opening l.actions.items)) is stands)
   author_stands lines declared (worker.Send number pieces) are is stands = absurd is
 
   idle_stands : (lines : AuthorLines) (declared : Declared) → told lines ≡ told_in stage.lines declared → (lines.declared.replica ≢ stage.replica) ⊎ (lines.actions.items ≡ []) → StandsHere declared
   idle_stands lines declared are idle = by_case (idle_author stage opening lines declared are idle) where
     by_case : (declared.replica ≢ stage.replica) ⊎ (actions_of declared.author stage.lines ≡ []) → StandsHere declared
     by_case (inl away) = λ here. absurd (away here)
-    by_case (inr none) = λ here. subst (λ lines. AllByRecursion (LinesStand declared.author journal) (turns_of opening lines)) (sym none) tt
+    by_case (inr none) = λ here. subst (λ lines. LinesStand declared.author journal (turns_of opening lines)) (sym none) ([], refl, tt)
 
   all_stand : (authors : List Declared) (all : List AuthorLines) (workers : List Worker) → AreLinesOf authors stage.lines all → AreForAuthors stage.replica all workers
       → AllByRecursion (StandsIn opening journal) workers → AllByRecursion StandsHere authors
@@ -201,8 +209,21 @@ module _ {M E R : Type 0} (stage : Stage) (opening : List Edit) (journal : List 
       let h = subst (AllByRecursion (StandsIn opening journal)) works.5 stand in
       (author_stands l d works.0 (first_of are) works.3 h.0, all_stand authors all works.1 (rest_of are) works.4 h.1)
 
+  -- the turns of an author are all its calls
+  are_turns : (author : ℕ) → ActsHere stage author → AreCalls stage journal → LinesStand author journal (turns_of opening (actions_of author stage.lines))
+      → (turns : List (List (Call Command R))) × (map commands_of turns ≡ map (map Act) (turns_of opening (actions_of author stage.lines))) × AreRunsOf (actor.Author author) journal turns
+  are_turns author here calls h =
+      let lines = actions_of author stage.lines in
+      let turns : List (List (Call Command R)) = h.0 in
+      let all : commands_of (all_calls turns) ≡ map Act lines = commands_of_turns turns (turns_of opening lines) h.1 ∙ ap (map Act) (all_lines opening lines) in
+      let many : length (calls_by (actor.Author author) journal) ≡ length (all_calls turns) =
+      sym (length-map (calls_by (actor.Author author) journal) (λ (call : Call Command R). call.command))
+      ∙ (ap length (calls.authors author here) ∙ (sym (ap length all) ∙ length-map (all_calls turns) (λ (call : Call Command R). call.command))) in
+      (turns, h.1, are_runs (actor.Author author) journal turns many h.2)
+
   pub turns_stand : (all : List AuthorLines) (fronts backs workers : List Worker) → AreLinesOf stage.authors stage.lines all → AreForAuthors stage.replica all fronts → workers ≡ fronts ++ backs
-      → AllByRecursion (StandsIn opening journal) workers → TurnsStand stage opening journal
-  turns_stand all fronts backs workers are for_authors both stand = λ author here.
-      at_contained StandsHere stage.authors (record { author = author; replica = stage.replica }) here.0
-      (all_stand stage.authors all fronts are for_authors (front_of (StandsIn opening journal) fronts backs (subst (AllByRecursion (StandsIn opening journal)) both stand))) here.1 here.2 refl
+      → AllByRecursion (StandsIn opening journal) workers → AreCalls stage journal → TurnsStand stage opening journal
+  turns_stand all fronts backs workers are for_authors both stand calls = λ author here.
+      are_turns author here calls
+      (at_contained StandsHere stage.authors (record { author = author; replica = stage.replica }) here.0
+      (all_stand stage.authors all fronts are for_authors (front_of (StandsIn opening journal) fronts backs (subst (AllByRecursion (StandsIn opening journal)) both stand))) here.1 here.2 refl)

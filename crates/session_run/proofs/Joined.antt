@@ -11,7 +11,8 @@ use Rattle.shared_replica.specs.declared.journal.Entry.{Entry}
 use Rattle.shared_replica.specs.Passes.{Call, Passing, kept_pass, given_pass, joined_pass, all_made, calls_by, AreNamed, StandsOnce}
 use Rattle.session_run.specs.declared.worker.Worker.{Worker}
 use Rattle.session_run.specs.Workers.{actor_of, CanWork, AreCommandsOf}
-use Rattle.session_run.specs.Passes.{commands_in, Makes, Keeps, HaveRun, IsJournalOf}
+use Rattle.author_desk.specs.Turns.{commands_of}
+use Rattle.session_run.specs.Passes.{Makes, Keeps, HaveRun, IsJournalOf}
 
 -- ---- the last of some workers
 
@@ -31,7 +32,7 @@ length_front (w ∷ front) last = ap suc (length_front front last)
 
 module _ {R : Type 0} where
   pub have_run_last : (front : List Worker) (last : Worker) (made : List (Actor × List (Call Command R))) (actor : Actor) (calls : List (Call Command R)) → HaveRun front made
-      → actor ≡ actor_of last → AreCommandsOf last (commands_in calls) → HaveRun (front ++ last ∷ []) (made ++ (actor, calls) ∷ [])
+      → actor ≡ actor_of last → AreCommandsOf last (commands_of calls) → HaveRun (front ++ last ∷ []) (made ++ (actor, calls) ∷ [])
   have_run_last [] last [] actor calls ran is are = (is, are, tt)
   have_run_last [] last (t ∷ ts) actor calls ran is are = absurd ran
   have_run_last (w ∷ front) last [] actor calls ran is are = absurd ran

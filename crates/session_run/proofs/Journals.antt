@@ -22,7 +22,8 @@ use Rattle.session_run.specs.declared.worker.Worker.{Worker}
 use Rattle.session_run.specs.declared.worker.Worker.TheVariants as worker
 use Rattle.session_run.specs.Calls.{Stage, actions_of, sends_of, takes, AreTakes, ActsHere, SendsHere, MayCall, commands_by, AreCalls}
 use Rattle.session_run.specs.Workers.{told, told_in, authors_told, AreLinesOf, actor_of, AreCommandsOf, IsAuthorWorker, IsPieceWorker, AreForAuthors, AreForSends}
-use Rattle.session_run.specs.Passes.{commands_in, HaveRun, IsJournalOf}
+use Rattle.author_desk.specs.Turns.{commands_of}
+use Rattle.session_run.specs.Passes.{HaveRun, IsJournalOf}
 use Rattle.session_run.proofs.Taken.{are_takes}
 
 -- ---- actors
@@ -116,7 +117,7 @@ module _ {R : Type 0} where
   -- the actor stands nowhere, and there is no command; or it stands once, with calls of these commands
   abbrev Stands : Actor → List Command → Made R → Type 0
   Stands actor commands made =
-      ((IsNamed actor made → ⊥) × (commands ≡ [])) ⊎ ((calls : List (Call Command R)) × StandsOnce actor calls made × (commands_in calls ≡ commands))
+      ((IsNamed actor made → ⊥) × (commands ≡ [])) ⊎ ((calls : List (Call Command R)) × StandsOnce actor calls made × (commands_of calls ≡ commands))
 
   named_append : (actor : Actor) (xs ys : Made R) → IsNamed actor (xs ++ ys) → IsNamed actor xs ⊎ IsNamed actor ys
   named_append actor [] ys is = inr is
@@ -127,7 +128,7 @@ module _ {R : Type 0} where
   stands_other actor commands t ts other (inl none) = inl ((λ is. elim is [ inl here ↦ other here | inr there ↦ none.0 there ]), none.1)
   stands_other actor commands t ts other (inr once) = inr (once.0, inr ((λ same. other (sym same)), once.1), once.2)
 
-  stands_here : (actor : Actor) (t : Actor × List (Call Command R)) (ts : Made R) → t.0 ≡ actor → (IsNamed actor ts → ⊥) → Stands actor (commands_in t.1) (t ∷ ts)
+  stands_here : (actor : Actor) (t : Actor × List (Call Command R)) (ts : Made R) → t.0 ≡ actor → (IsNamed actor ts → ⊥) → Stands actor (commands_of t.1) (t ∷ ts)
   stands_here actor t ts same none = inr (t.1, inl (same, refl, none), refl)
 
   stands_behind : (actor : Actor) (commands : List Command) (xs ys : Made R) → (IsNamed actor xs → ⊥) → Stands actor commands ys → Stands actor commands (xs ++ ys)
@@ -169,7 +170,7 @@ module _ {R : Type 0} where
   pub record Begins (one : Worker) (rest : List Worker) (made : Made R) : Type 0 where
     pub calls : List (Call Command R)
     pub others : Made R
-    pub are : AreCommandsOf one (commands_in calls)
+    pub are : AreCommandsOf one (commands_of calls)
     pub ran : HaveRun rest others
     pub whole : made ≡ (actor_of one, calls) ∷ others
 
@@ -231,7 +232,7 @@ module _ {R : Type 0} where
       let one = works.0 in
       let b = begins workers one works.1 made works.5 ran in
       let none = not_named replica author all works.1 b.others works.4 b.ran (subst (λ n. AllByRecursion (λ m. n ≡ m → ⊥) (authors_told all)) mine differ.0) in
-      let commands : commands_in b.calls ≡ map Act lines.actions.items = author_commands l one (commands_in b.calls) works.3 b.are ∙ ap (λ (x : AuthorLines). map Act x.actions.items) same in
+      let commands : commands_of b.calls ≡ map Act lines.actions.items = author_commands l one (commands_of b.calls) works.3 b.are ∙ ap (λ (x : AuthorLines). map Act x.actions.items) same in
       subst (Stands (actors.Author author) (map Act lines.actions.items)) (sym b.whole)
       (subst (λ (cs : List Command). Stands (actors.Author author) cs ((actor_of one, b.calls) ∷ b.others)) commands
       (stands_here (actors.Author author) (actor_of one, b.calls) b.others (author_of l one works.3 ∙ ap actors.Author mine) none))
@@ -276,9 +277,9 @@ module _ {R : Type 0} where
       let next = send_named sources replica (first + 1) sends works.1 b.others who works.4 b.ran named in
       let number = send_number (first + 0) ((first + 1) + next.index) next.is in
       absurd (omega (arith, number)) in (
-        commands_in b.calls,
-        subst (λ (x : SendLine). AreTakes sources x (commands_in b.calls)) same (send_commands sources first s one (commands_in b.calls) works.3 b.are),
-        subst (Stands who (commands_in b.calls)) (sym b.whole) (stands_here who (actor_of one, b.calls) b.others mine none),
+        commands_of b.calls,
+        subst (λ (x : SendLine). AreTakes sources x (commands_of b.calls)) same (send_commands sources first s one (commands_of b.calls) works.3 b.are),
+        subst (Stands who (commands_of b.calls)) (sym b.whole) (stands_here who (actor_of one, b.calls) b.others mine none),
       )
   send_stands sources replica first (s ∷ sends) (suc index) send workers made at here (inl away) ran =
       let number : (first + 1) + index ≡ first + suc index = omega arith in
@@ -342,8 +343,8 @@ module _ {M E R : Type 0} where
 
   commands_are : (actor : Actor) (commands : List Command) (journal : List (Entry M Command E R)) (all : List (Actor × List (Call Command R))) → Stands actor commands all → AreNamed journal all
       → ((calls : List (Call Command R)) → StandsOnce actor calls all → calls_by actor journal ≡ calls) → commands_by actor journal ≡ commands
-  commands_are actor commands journal all (inl none) named exact = ap commands_in (not_in_journal actor journal all none.0 named) ∙ sym none.1
-  commands_are actor commands journal all (inr once) named exact = ap commands_in (exact once.0 once.1) ∙ once.2
+  commands_are actor commands journal all (inl none) named exact = ap commands_of (not_in_journal actor journal all none.0 named) ∙ sym none.1
+  commands_are actor commands journal all (inr once) named exact = ap commands_of (exact once.0 once.1) ∙ once.2
 
   -- no entry is the host's, so each is of an actor who may call
   all_may : (stage : Stage) (journal : List (Entry M Command E R)) (made : List (Actor × List (Call Command R))) → AreNamed journal ((actors.Host, []) ∷ made) → calls_by actors.Host journal ≡ []

@@ -3,7 +3,8 @@ use Rattle.std.proofs.Common.{◌≡◌, ℕ, suc, ◌+◌, ◌≤◌, List, [],
 use Rattle.std.proofs.lemmas.List.{map-append}
 use Rattle.grove_edits.specs.declared.command.Command.{Command}
 use Rattle.shared_replica.specs.Passes.{Call, Passing, Enters, EntersInTurns, all_calls}
-use Rattle.session_run.specs.Passes.{commands_in, Makes}
+use Rattle.author_desk.specs.Turns.{commands_of}
+use Rattle.session_run.specs.Passes.{Makes}
 
 module _ {M E R : Type 0} where
   pub makes_none : (pass : Passing M Command E R) → Makes pass pass []
@@ -36,7 +37,7 @@ module _ {M E R : Type 0} where
   pub record HasMade (before after : Passing M Command E R) (commands : List Command) : Type 0 where
     pub calls : List (Call Command R)
     pub makes : Makes before after calls
-    pub are : commands_in calls ≡ commands
+    pub are : commands_of calls ≡ commands
 
   pub none_made : (pass : Passing M Command E R) → HasMade pass pass []
   none_made pass = record { calls = []; makes = makes_none pass; are = refl }
@@ -57,6 +58,6 @@ module _ {M E R : Type 0} where
       let many : length h.calls ≡ length commands = sym (length-commands h.calls) ∙ ap length h.are in
       omega arith
     where
-      length-commands : (calls : List (Call Command R)) → length (commands_in calls) ≡ length calls
+      length-commands : (calls : List (Call Command R)) → length (commands_of calls) ≡ length calls
       length-commands [] = refl
       length-commands (c ∷ cs) = ap suc (length-commands cs)

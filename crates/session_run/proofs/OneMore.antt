@@ -1,38 +1,31 @@
 -- Workers, of which the last one ran beside the others.
-use Rattle.std.proofs.Common.{◌≡◌, ℕ, ◌≤◌, List, [], ◌∷◌, ◌++◌, Result, Ok, refl, sym, ap, ap₂, subst, ◌∙◌, append_assoc, append-nil, arith}
+use Rattle.std.proofs.Common.{◌≡◌, ℕ, ◌≤◌, List, [], ◌∷◌, ◌++◌, Result, Ok, refl, sym, ap, ap₂, subst, ◌∙◌, append-nil, arith}
 use Rattle.std.specs.List.{AllByRecursion, flat_map}
 use Rattle.std.specs.Result.{result_and}
 use Rattle.std.proofs.lemmas.Grind.{flat_map-append}
 use mathlib.Core.List.{IsPrefix}
-use Rattle.grove_edits.specs.declared.actor.Actor.{Actor}
+use Rattle.grove_edits.specs.declared.actor.Actor.TheVariants as actor
 use Rattle.grove_edits.specs.declared.action.Action.{Action}
 use Rattle.grove_edits.specs.declared.command.Command.{Command}
 use Rattle.grove_edits.specs.declared.edit.Edit.{Edit}
 use Rattle.shared_replica.specs.declared.journal.Entry.{Entry}
-use Rattle.shared_replica.specs.Passes.{Call, Passing, kept_pass, given_pass, joined_pass}
+use Rattle.shared_replica.specs.Passes.{Passing, kept_pass, given_pass, joined_pass}
 use Rattle.author_desk.specs.declared.cuts.Cuts.{Cuts}
 use Rattle.author_desk.specs.Cuts.{opening_edits, HasPartsFor, TakesIn, Raises}
-use Rattle.author_desk.specs.Together.{StandTogether}
+use Rattle.author_desk.specs.Together.{StandInOrder}
 use Rattle.author_desk.proofs.Raising.{raises_none}
+use Rattle.author_desk.proofs.Standing.{stand_before}
 use Rattle.session_run.specs.declared.worker.Worker.{Worker}
 use Rattle.session_run.specs.declared.worker.Worker.TheVariants as worker
-use Rattle.session_run.specs.Boards.{LinesStand}
 use Rattle.session_run.specs.Workers.{actor_of, calls_of, seats_of, slots_of, HandsTo}
-use Rattle.session_run.specs.Passes.{HasWorked, HaveWorked, StandsIn}
+use Rattle.session_run.specs.Passes.{LinesStand, HasWorked, HaveWorked, StandsIn}
 use Rattle.session_run.proofs.Joined.{have_run_last, keeps_joined, joined_last, and_ok}
 use Rattle.session_run.proofs.Seats.{handed_opening, given_opening, seat_whole, raised_by_both}
 use Rattle.session_run.proofs.Worked.{seat_kept}
 
 module _ {M E R : Type 0} where
-  together_later : (actor : Actor) (journal longer : List (Entry M Command E R)) (calls : List (Call Command R)) → IsPrefix journal longer → StandTogether actor journal calls → StandTogether actor longer calls
-  together_later actor journal longer calls later h =
-      let earlier : List (Entry M Command E R) = h.0 in
-      let entries : List (Entry M Command E R) = h.1 in
-      (earlier, entries, h.2 ++ later.0, sym later.1 ∙ (ap (λ es. es ++ later.0) h.3 ∙ (append_assoc earlier (entries ++ h.2) later.0 ∙ ap (λ es. earlier ++ es) (append_assoc entries h.2 later.0))), h.4, h.5)
-
-  lines_later : (author : ℕ) (journal longer : List (Entry M Command E R)) (turns : List (List Action)) → IsPrefix journal longer → AllByRecursion (LinesStand author journal) turns → AllByRecursion (LinesStand author longer) turns
-  lines_later author journal longer [] later h = tt
-  lines_later author journal longer (t ∷ ts) later h = ((h.0.0, h.0.1, together_later _ journal longer h.0.0 later h.0.2), lines_later author journal longer ts later h.1)
+  lines_later : (author : ℕ) (journal longer : List (Entry M Command E R)) (lines : List (List Action)) → IsPrefix journal longer → LinesStand author journal lines → LinesStand author longer lines
+  lines_later author journal longer lines later h = (h.0, h.1, subst (λ es. StandInOrder (actor.Author author) es h.0) later.1 (stand_before (actor.Author author) journal later.0 h.0 h.2))
 
   -- what stands in a journal stands in what it grows to
   stands_later : (opening : List Edit) (journal longer : List (Entry M Command E R)) (w : Worker) → IsPrefix journal longer → StandsIn opening journal w → StandsIn opening longer w

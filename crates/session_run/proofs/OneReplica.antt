@@ -32,7 +32,8 @@ module _ {M E R : Type 0} (after : M → Actor → Command → M) (effect : M �
     has_run = λ stage of. has_run after effect reply stage plan replica first r.0 r.1 authors sends workers of can for_authors for_sends both journal replays;
     raised = λ stage of.
         subst (Raises cuts cuts') (slots_of_workers (at_replica stage replica) (opening_edits cuts) plan.sources.now plan.first_send plan.sends.now plan.lines.now authors sends workers of.lines for_authors for_sends both) raised;
-    stand = λ stage of. turns_stand (at_replica stage replica) (opening_edits cuts) r.1 plan.lines.now authors sends workers of.lines for_authors both stand;
+    stand = λ stage of. turns_stand (at_replica stage replica) (opening_edits cuts) r.1 plan.lines.now authors sends workers of.lines for_authors both stand
+        (has_run after effect reply stage plan replica first r.0 r.1 authors sends workers of can for_authors for_sends both journal replays).calls;
   }
 
   module _ (plan : Plan) (replica : ℕ) (first : M) (firsts all_firsts : List M) (own own' : Cuts) (cuts cuts' all all' : List Cuts)

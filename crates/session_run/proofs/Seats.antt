@@ -1,6 +1,9 @@
 -- A seat of which a part is handed to a worker, and which takes it in again.
 use Rattle.std.proofs.Common.{◌≡◌, ℕ, ◌+◌, ◌≤◌, List, [], ◌∷◌, ◌++◌, sum_by, refl, sym, ap, subst, ◌∙◌, append_assoc, append-nil, arith}
 use Rattle.edge_board.specs.Seats.{BoardStanding}
+use Rattle.edge_board.specs.States.{joined_states}
+use Rattle.edge_board.proofs.States.{most_then}
+use Rattle.author_desk.proofs.SeenStates.{joined_left, joined_right, raised_later, raised_all}
 use Rattle.author_desk.specs.declared.cuts.Cuts.{Cuts}
 use Rattle.author_desk.specs.declared.cuts.Cuts.TheVariants.{Empty, On}
 use Rattle.author_desk.specs.Cuts.{opening_edits, CanRaise, HasPartsFor, HandsOver, CanTakeIn, TakesIn, Raises, KeepsSeat}
@@ -98,6 +101,9 @@ raised_by_both (worker.Author lines) (On opening board seat) c1 own c2 own2 c3 x
         board = k.2.board;
         parts = omega arith;
         marks = ap (λ marks. marks ++ k'.0.marks) k.2.marks ∙ (ap (λ marks. (seat.marks ++ xs) ++ marks) k'.2.marks ∙ append_assoc seat.marks xs ys);
+        seen = most_then seat.seen k.0.seen (joined_states k.0.seen k'.0.seen) k.2.seen (joined_left k.0.seen k'.0.seen);
+        seen_raised = raised_all (joined_states k.0.seen k'.0.seen) xs ys (raised_later k.0.seen (joined_states k.0.seen k'.0.seen) xs (joined_left k.0.seen k'.0.seen) k.2.seen_raised)
+            (raised_later k'.0.seen (joined_states k.0.seen k'.0.seen) ys (joined_right k.0.seen k'.0.seen) k'.2.seen_raised);
       },
     )
 raised_by_both (worker.Send number pieces) c c1 own c2 own2 c3 xs ys has h raises raises' none takes =

@@ -1,8 +1,7 @@
 -- What a block needs of the boards of its replicas, which slots it raises, and which calls stand next to each other in its journals.
 use Rattle.std.specs.Prelude.{◌≡◌, ℕ, ◌==◌, ◌&&◌, Bool, false, if◌then◌else◌, List, [], map, slice_get, Some}
-use Rattle.std.specs.List.{AllByRecursion, count_by, flat_map, list_any}
+use Rattle.std.specs.List.{count_by, flat_map, list_any}
 use Rattle.grove_edits.specs.declared.edit.Edit.{Edit}
-use Rattle.grove_edits.specs.declared.action.Action.{Action}
 use Rattle.grove_edits.specs.declared.actor.Actor.TheVariants as actor
 use Rattle.grove_edits.specs.declared.command.Command.{Command}
 use Rattle.grove_edits.specs.declared.command.Command.TheVariants.{Act}
@@ -14,7 +13,7 @@ use Rattle.session_script.specs.declared.line.Line.TheVariants as line
 use Rattle.author_desk.specs.declared.cuts.Cuts.{Cuts}
 use Rattle.author_desk.specs.Cuts.{opening_edits, CanRaise, HasPartsFor}
 use Rattle.author_desk.specs.Lines.{slots_cut}
-use Rattle.author_desk.specs.Together.{StandTogether}
+use Rattle.author_desk.specs.Together.{AreRunsOf}
 use Rattle.author_desk.specs.Turns.{turns_of, commands_of}
 use Rattle.session_run.specs.Calls.{Stage, actions_of, ActsHere}
 
@@ -46,10 +45,9 @@ abbrev pub slots_at : Stage → List Edit → List ℕ
 slots_at stage opening = flat_map (slots_by stage opening) stage.authors
 
 module _ {M E R : Type 0} where
-  -- calls of these lines stand in the journal as entries of the author, in order and next to each other
-  abbrev pub LinesStand : ℕ → List (Entry M Command E R) → List Action → Type 0
-  LinesStand author journal lines = (calls : List (Call Command R)) × (commands_of calls ≡ map Act lines) × StandTogether (actor.Author author) journal calls
-
-  -- each turn of each author at the replica stands so: the cuts of opening edges before a line, and this line
+  -- The entries of each author at the replica are its turns, in order: the cuts of opening edges before a line, and this line, next to
+  -- each other. Between two turns, also of the same lines, there are entries of others alone
   abbrev pub TurnsStand : Stage → List Edit → List (Entry M Command E R) → Type 0
-  TurnsStand stage opening journal = (author : ℕ) → ActsHere stage author → AllByRecursion (LinesStand author journal) (turns_of opening (actions_of author stage.lines))
+  TurnsStand stage opening journal =
+      (author : ℕ) → ActsHere stage author
+      → (turns : List (List (Call Command R))) × (map commands_of turns ≡ map (map Act) (turns_of opening (actions_of author stage.lines))) × AreRunsOf (actor.Author author) journal turns

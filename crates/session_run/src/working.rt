@@ -8,8 +8,9 @@ ghost use Rattle.replica_exchange.specs.Send.{joined, edits_by_piece};
 ghost use Rattle.shared_replica.specs.Passes.{Call};
 ghost use Rattle.session_run.specs.Calls.{takes};
 ghost use Rattle.author_desk.specs.Cuts.{CanRaise};
+ghost use Rattle.author_desk.specs.Turns.{commands_of};
 ghost use Rattle.session_run.specs.Workers.{actor_of, calls_of, CanWork};
-ghost use Rattle.session_run.specs.Passes.{commands_in, Makes, HasWorked};
+ghost use Rattle.session_run.specs.Passes.{Makes, HasWorked};
 
 use crate::worker::Worker;
 use author_desk::{Cuts, run_lines};
@@ -69,7 +70,7 @@ fn run_pieces<R: Wait, M: Machine<Command = Command>>(
     requires calls { length pieces.now ≤ pass.old.calls }
     requires edits { (edits : List Edit) × (joined pieces.now ≡ text_of edits) }
     ensures { (calls : List (Call Command M.Reply)) × Makes pass.old pass.new calls
-        × OnOk result ((edits : List Edit) → joined pieces.now ≡ text_of edits → commands_in calls ≡ takes 1 pieces.now (edits_by_piece edits pieces.now)) }
+        × OnOk result ((edits : List Edit) → joined pieces.now ≡ text_of edits → commands_of calls ≡ takes 1 pieces.now (edits_by_piece edits pieces.now)) }
 {
     let mut taker = Taker::new(alloc);
     for index in 0..pieces.len() {

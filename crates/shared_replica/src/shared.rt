@@ -99,6 +99,7 @@ impl<M: Machine> Shared<M> {
         requires calls { length commands.items ≤ pass.old.calls }
         ensures entered { OnOk result (EntersAll pass.old pass.new commands.items) }
         ensures rest { IfErr result (λ refused. (taken : List M.Command) × (taken ++ refused.state.items ≡ commands.items) × EntersAll pass.old pass.new taken) }
+        ensures some_back { IfErr result (λ refused. 1 ≤ length refused.state.items) }
         ensures steps { AreSteps M.after M.effect M.reply self.now.first.machine pass.new.seen }
         ensures stand { StandIn pass.new.seen pass.new.actor pass.new.made }
     {

@@ -119,6 +119,7 @@ impl<M: Machine> Solo<M> {
         requires room { length self.old.journal + length commands.items ≤ self.old.calls }
         ensures entered { OnOk result (self.new ≡ with_steps M.after M.effect M.reply self.old actor commands.items) }
         ensures rest { IfErr result (λ refused. (taken : List M.Command) × (taken ++ refused.state.items ≡ commands.items) × (self.new ≡ with_steps M.after M.effect M.reply self.old actor taken)) }
+        ensures some_back { IfErr result (λ refused. 1 ≤ length refused.state.items) }
         ensures replays { (first : M) → Replays M.after M.effect M.reply first self.old.journal self.old.machine → Replays M.after M.effect M.reply first self.new.journal self.new.machine }
     {
         commands.reverse();
@@ -130,13 +131,6 @@ impl<M: Machine> Solo<M> {
             }
         }
         Ok(())
-    }
-
-    /// How many entries there are.
-    pub fn len(&self) -> usize
-        ensures length { result ≡ length self.now.journal }
-    {
-        self.entries.len()
     }
 
     /// The machine and the journal.

@@ -26,10 +26,6 @@ impl Kept for Page {
 
     ghost grown = { λ title page. page.title ≡ title };
 
-    fn len(&self) -> u64 {
-        self.numbers.len() as u64
-    }
-
     ghost from_itself = { λ page empty. refl };
 }
 
@@ -115,6 +111,6 @@ fn both_threads_have_their_turns(rt: HostRuntime) -> Result<(), Fail> {
             twos = twos.wrapping_add(1);
         }
     }
-    assert!(rt; wrote && page.title == 9 && page.len() == 4 && ones == 2 && twos == 2);
+    assert!(rt; wrote && page.title == 9 && page.numbers.len() == 4 && ones == 2 && twos == 2);
     Ok(())
 }

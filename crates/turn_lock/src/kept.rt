@@ -1,4 +1,4 @@
-ghost use Rattle.std.specs.Prelude.{◌≡◌, List, [], length};
+ghost use Rattle.std.specs.Prelude.{◌≡◌, List, []};
 
 /// A state that stores a list of entries. It is sent from thread to thread.
 pub trait Kept: Send + Drop {
@@ -16,10 +16,6 @@ pub trait Kept: Send + Drop {
 
     /// The list leads from these data to the present ones.
     ghost grown: { Self.First → Self → Type 0 };
-
-    /// The length of the list.
-    fn len(&self) -> u64
-        ensures length { result ≡ length (list self.now) };
 
     /// A state with an empty list has grown from its own data.
     ghost from_itself: { (state : Self) → list state ≡ [] → grown (now state) state };

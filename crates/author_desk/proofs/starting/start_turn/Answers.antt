@@ -1,10 +1,25 @@
-use Rattle.std.proofs.Common.{◌≡◌, ◌+◌, length, take, false, refl, sym, ap, ◌∙◌, subst, arith}
+use Rattle.std.proofs.Common.{◌≡◌, ◌+◌, length, take, true, false, refl, sym, ap, ◌∙◌, subst, arith}
 use Rattle.author_desk.specs.Lines.{slots_cut, is_opening_cut}
 use Rattle.author_desk.specs.Cuts.{opening_edits, Raises}
-use Rattle.author_desk.proofs.FirstTurn.{turn_at, one_turn}
+use Rattle.author_desk.proofs.FirstTurn.{turn_at, one_turn, cuts_more}
 use Rattle.author_desk.proofs.Raising.{still, raises_line}
 use Rattle.author_desk.proofs.UnderWay.{starts}
 use Rattle.author_desk.proofs.starting.start_turn.Goals as goal
+
+pub loop-index-preserved : goal.loop-index-preserved
+loop-index-preserved g c =
+    let cuts = c.args.cuts.now in
+    let lines = c.args.lines.now in
+    let index = c.loop-index.index in
+    let line = c.index-lines-index.result in
+    let i = c.loop-index.invariant in
+    let at = sym c.index-lines-index.is in
+    let same = (still cuts c.loop-index.cuts (slots_cut (opening_edits cuts) (take index lines)) c.requires.cuts i.1).1 in
+    let yes : c.raise_edges.result ≡ true = c.if-not-raise_edges.false in
+    let cut = ap (λ es. is_opening_cut es line) (sym same) ∙ (sym c.raise_edges.ensures.is_cut ∙ yes) in (
+      cuts_more (opening_edits cuts) lines index (index + 1) line c.loop-index-test.true refl at i.0 cut,
+      raises_line cuts c.loop-index.cuts c.raise_edges.new.cuts lines index line c.requires.cuts c.loop-index-test.true at i.1 c.raise_edges.ensures.raised,
+    )
 
 pub returns-then-not-raise_edges-clause-started : goal.returns-then-not-raise_edges-clause-started
 returns-then-not-raise_edges-clause-started g c =
