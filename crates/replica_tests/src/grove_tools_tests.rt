@@ -107,7 +107,10 @@ fn edits_on(alloc: Global, disk: Option<MemoryDisk>) -> Option<usize> {
 fn edits_are_kept_in_a_log(rt: HostRuntime) -> Result<(), Fail> {
     let (status, text, count) = kept(&rt, rt.alloc(), DELETED_WINS)?;
     assert_eq!(rt; status, ToolStatus::Done);
-    assert_eq!(rt; text.as_slice(), b"-1.2 0.0 root main 1.1 num:7\n".as_slice());
+    assert_eq!(rt;
+        text.as_slice(),
+        b"-1.2 0.0 root main 1.1 num:7\n".as_slice()
+    );
     assert_eq!(rt; count, Some(4));
     Ok(())
 }

@@ -62,7 +62,10 @@ fn twice(alloc: Global) -> Result<MemoryDisk, Fail> {
 fn an_edit_appended_twice(rt: HostRuntime) -> Result<(), Fail> {
     let disk = twice(rt.alloc())?;
     assert_eq!(rt; disk.as_slice().len(), 69);
-    assert_eq!(rt; disk.as_slice().get(..5), Some([1, 0, 0, 0, 0x1d].as_slice()));
+    assert_eq!(rt;
+        disk.as_slice().get(..5),
+        Some([1, 0, 0, 0, 0x1d].as_slice())
+    );
     assert_eq!(rt; disk.as_slice().get(5..33), Some(DELETION));
     Ok(())
 }
@@ -223,7 +226,7 @@ fn stop_at(alloc: Global, edits: &[Edit], tear: Tear, calls: u64) -> Result<usiz
 
 // A disk that holds the file stops while it is opened, and crashes.
 fn stopped_again(alloc: Global, file: &[u8], tear: Tear, calls: u64) -> Result<MemoryDisk, Fail> {
-    let mut disk = FuseDisk::with_tear(alloc, calls + 2, 40000, tear)?;
+    let mut disk = FuseDisk::with_tear(alloc, calls.saturating_add(2), 40000, tear)?;
     if file.len() > 30000 || disk.write_at(0, file).is_err() || disk.sync().is_err() {
         return Err(Fail::from("no such file"));
     }

@@ -217,13 +217,7 @@ fn two_senders_fifo(rt: HostRuntime) -> Result<(), Fail> {
     let first = edits(rt.alloc(), 1, 300)?;
     let second = edits(rt.alloc(), 2, 200)?;
     let begun = Instant::now(&rt)?;
-    let arrived = arrives(
-        &rt,
-        rt.alloc(),
-        begun,
-        first.as_slice(),
-        second.as_slice(),
-    )?;
+    let arrived = arrives(&rt, rt.alloc(), begun, first.as_slice(), second.as_slice())?;
     assert_eq!(rt; arrived, (true, 0));
     Ok(())
 }
