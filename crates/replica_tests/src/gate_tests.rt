@@ -11,7 +11,7 @@ use std::thread::Threads;
 
 // A set of one call of an author, of which both numbers are below 8. Sets are joined by `|`.
 fn call_of(author: u32, call: u64) -> u64 {
-    1u64.rotate_left(author.wrapping_mul(8).wrapping_add(call as u32 % 8))
+    1u64.rotate_left(author.wrapping_mul(8).wrapping_add((call % 8) as u32))
 }
 
 /// Holds some calls, each until it was asked for all of a set, and lets the others start at once.
