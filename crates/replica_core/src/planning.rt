@@ -80,6 +80,8 @@ fn handed_in(alloc: Global, edits: &EditList) -> Result<(EditList, Answer), NoMe
     ensures answer { IfOk result (λ taken. taken.1 ≡ Answer.Taken (length edits.now)) }
 {
     let mut copy = EditList::new(alloc);
+    // A step of a journal often has one edit, and room for more would be kept with it.
+    copy.reserve(edits.len())?;
     copy.extend_from_slice(edits.as_slice())?;
     let answer = Answer::Taken {
         edits: edits.len() as u64,
