@@ -119,7 +119,7 @@ impl Running {
         )?;
         let (replicas, sources) = open_block_on_each(alloc, replicas)?;
         let number = blocks + 1;
-        let (replicas, made) = run_on_boards(
+        let (replicas, made, _held) = run_on_boards(
             rt,
             alloc,
             replicas,

@@ -33,7 +33,7 @@ returns g c =
     let authors = c.args.session.now.authors in
     record {
       journals = made;
-      have_run = subst (λ (rs : List Content). HaveRun c.args.session.now c.args.block.now (c.args.self.sends + 1) rs made c.in_ok-replicas-2.replicas.items) c.in_ok-replicas.ensures.opened c.in_ok-replicas-2.ensures;
+      have_run = subst (λ (rs : List Content). HaveRun c.args.session.now c.args.block.now (c.args.self.sends + 1) rs made c.in_ok-replicas-2.replicas.items) c.in_ok-replicas.ensures.opened c.in_ok-replicas-2.ensures.ran;
       kept = c.in_ok-append_journals.ensures;
       text =
           c.in_ok-append_block.ensures.appended
