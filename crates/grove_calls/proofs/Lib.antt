@@ -5,3 +5,4 @@ pub mod OneDue
 pub mod WordsAre
 pub mod Numbers
 pub mod Asked
+pub mod JudgedLines

@@ -6,3 +6,4 @@ pub mod Due
 pub mod Served
 pub mod Spelled
 pub mod Exit
+pub mod Judged

@@ -30,6 +30,8 @@ use Rattle.session_report.specs.Taken.{Journals, entries_at, taken}
 use Rattle.session_report.specs.Legal.{next_block, next_send, stage_at, IsLegalAt, AreLegalFor}
 use Rattle.session_report.specs.Report.{IsSection, AreSections, IsItemText, AreItemTexts, block_heading, show_heading, journals_text}
 use Rattle.session_answers.specs.BlockJournals.{block_journals}
+use Rattle.session_answers.specs.Numbers.{next_numbers, numbers_behind}
+use Rattle.session_answers.proofs.Numbers.{numbers_stay, numbers_more}
 use Rattle.session_answers.specs.Running.{HaveTaken, IsBehind, HasLoaded, HaveRun, HasRunBlock, HasShown, AreShown, sources_of, stage_of}
 use Rattle.session_answers.specs.declared.running.Running.{Running}
 use Rattle.session_answers.proofs.Agreeing.{Agree, blocks, blocks-cons, blocks-append, taken-agree, item_texts-agree, legal_at-agree}
@@ -291,7 +293,7 @@ no_item : (before after : List Item) (block : Block) → [] ≡ before ++ item.B
 no_item before after block is = omega (arith, ap length is, length-append before (item.Block block ∷ after))
 
 pub begin_behind : (session : Session) (running : Running) → running.replicas.items ≡ replicate (length session.replicas) no_edits → running.journals ≡ [] → running.text.items ≡ []
-    → running.blocks ≡ 0 → running.sends ≡ 0 → running.shows ≡ 0 → length running.calls.items ≡ length session.authors → IsBehind session [] running
+    → running.blocks ≡ 0 → running.sends ≡ 0 → running.shows ≡ 0 → running.calls.items ≡ next_numbers [] session.authors → IsBehind session [] running
 begin_behind session running replicas journals text blocks sends shows calls = record {
   replicas = subst (λ js. HaveTaken session.replicas js [] running.replicas.items) (sym journals)
       (subst (HaveTaken session.replicas [] []) (sym replicas)
@@ -326,7 +328,7 @@ module _ (session : Session) (before : List Item) (old new : Running) (behind : 
     blocks = counted (λ (x : Item). cond (is_block x) 1 0) before (item.Load number edit) old.blocks new.blocks behind.blocks (has.blocks ∙ omega arith);
     sends = counted send_count before (item.Load number edit) old.sends new.sends behind.sends (has.sends ∙ omega arith);
     shows = counted (λ (x : Item). cond (is_show x) 1 0) before (item.Load number edit) old.shows new.shows behind.shows (has.shows ∙ omega arith);
-    calls = ap (λ calls. length calls.items) has.calls ∙ behind.calls;
+    calls = ap (λ calls. calls.items) has.calls ∙ (behind.calls ∙ numbers_stay before (item.Load number edit) session.authors (λ author. refl));
   }
 
   pub show_behind : HasShown session old new → IsBehind session (before ++ item.Show ∷ []) new
@@ -341,7 +343,7 @@ module _ (session : Session) (before : List Item) (old new : Running) (behind : 
     blocks = counted (λ (x : Item). cond (is_block x) 1 0) before item.Show old.blocks new.blocks behind.blocks (has.blocks ∙ omega arith);
     sends = counted send_count before item.Show old.sends new.sends behind.sends (has.sends ∙ omega arith);
     shows = counted (λ (x : Item). cond (is_show x) 1 0) before item.Show old.shows new.shows behind.shows has.shows;
-    calls = ap (λ calls. length calls.items) has.calls ∙ behind.calls;
+    calls = ap (λ calls. calls.items) has.calls ∙ (behind.calls ∙ numbers_stay before item.Show session.authors (λ author. refl));
   }
 
   pub block_behind : (block : Block) → IsSession session → AllByRecursion (IsLine session) block.lines → HasRunBlock session block old new → IsBehind session (before ++ item.Block block ∷ []) new
@@ -361,5 +363,5 @@ module _ (session : Session) (before : List Item) (old new : Running) (behind : 
         blocks = counted (λ (x : Item). cond (is_block x) 1 0) before (item.Block block) old.blocks new.blocks behind.blocks has.blocks;
         sends = counted send_count before (item.Block block) old.sends new.sends behind.sends has.sends;
         shows = counted (λ (x : Item). cond (is_show x) 1 0) before (item.Block block) old.shows new.shows behind.shows (has.shows ∙ omega arith);
-        calls = has.calls ∙ behind.calls;
+        calls = has.calls ∙ (ap (numbers_behind block.lines session.authors) behind.calls ∙ numbers_more before block session.authors);
       }

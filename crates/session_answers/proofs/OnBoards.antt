@@ -1,21 +1,25 @@
 -- Cuts at the boards of a block: they are as the block needs them, and their seats come back whole.
-use Rattle.std.proofs.Common.{◌≡◌, ◌⊎◌, inl, inr, ℕ, zero, suc, ◌+◌, ◌<◌, List, [], ◌∷◌, ◌++◌, length, map, take, get_or, slice_get, Option, Some, None, refl, sym, ap, subst, ◌∙◌, arith, length-append}
+use Rattle.std.proofs.Common.{◌≡◌, ◌⊎◌, inl, inr, ℕ, zero, suc, ◌+◌, ◌<◌, List, [], ◌∷◌, ◌++◌, length, map, take, get_or, slice_get, Option, Some, None, refl, sym, ap, ap₂, subst, ◌∙◌, arith, length-append, append_assoc, append-nil}
 use Rattle.std.specs.Option.{option_map}
 use Rattle.std.specs.List.{AllByRecursion, AllZip}
-use Rattle.std.proofs.lemmas.List.{map-append, take_more}
-use Rattle.std.proofs.lemmas.Option.{same_Some, slice_get-map}
+use Rattle.std.proofs.lemmas.List.{map-append, take_more, length-map}
+use Rattle.std.proofs.lemmas.Option.{same_Some, none-some, slice_get_within, slice_get-map}
 use Rattle.edge_lattice.specs.declared.state.State.{State}
 use Rattle.grove_edits.specs.declared.edit.Edit.{Edit}
 use Rattle.grove_edits.specs.Graph.{Ascends}
+use Rattle.edge_board.specs.States.{raised}
 use Rattle.edge_board.specs.Seats.{BoardOf, BoardStanding, first_board_seat}
 use Rattle.author_desk.specs.declared.cuts.Cuts.{Cuts}
 use Rattle.author_desk.specs.declared.cuts.Cuts.TheVariants.{Empty, On}
-use Rattle.author_desk.specs.Cuts.{opening_edits, seat_of, KeepsSeat}
+use Rattle.author_desk.specs.Cuts.{opening_edits, seat_of, Raises, KeepsSeat}
 use Rattle.session_script.specs.declared.author.Declared.{Declared}
 use Rattle.session_script.specs.declared.line.Line.{Line}
 use Rattle.session_run.specs.Calls.{Stage}
-use Rattle.session_run.specs.Boards.{CanCutAt}
-use Rattle.session_answers.specs.Boards.{states_of, parts_at, IsBoardFor, AreBoards, board_of, IsWholeSeat}
+use Rattle.session_script.specs.declared.item.Block.{Block}
+use Rattle.session_script.specs.declared.session.Session.{Session}
+use Rattle.session_run.specs.Boards.{CanCutAt, slots_at}
+use Rattle.session_answers.specs.Running.{stage_of}
+use Rattle.session_answers.specs.Boards.{states_of, parts_at, IsBoardFor, AreBoards, board_of, IsWholeSeat, held_by, all_held, IsHeld, AreHeld}
 
 -- ---- lists, place by place
 
@@ -153,3 +157,83 @@ pub all_whole_among : (owns backs : List Cuts) (boards : List (Option BoardOf)) 
 all_whole_among owns backs boards seats same_boards same_seats firsts long keep =
     subst (λ (bs : List (Option BoardOf)). AllZip IsWholeSeat bs seats) same_boards
     (subst (λ (ss : List (Option BoardStanding)). AllZip IsWholeSeat (map board_of owns) ss) (sym same_seats) (all_whole owns backs firsts long keep))
+
+held_behind : (own back : Cuts) (slots : List ℕ) (parts : ℕ) → IsBoardFor (opening_edits own) parts (board_of own) → seat_of own ≡ option_map first_board_seat (board_of own) → Raises own back slots
+    → IsHeld (opening_edits own) slots (held_by (board_of own) (seat_of back))
+held_behind Empty back slots parts for first raises = refl
+held_behind (On opening board seat) back slots parts for first raises =
+    let same : seat ≡ first_board_seat board.now = same_Some seat (first_board_seat board.now) first in
+    let marks : raises.0.marks ≡ slots = raises.2.marks ∙ ap (λ (s : BoardStanding). s.marks ++ slots) same in
+    subst (λ (b : Cuts). IsHeld opening.now slots (held_by (Some board.now) (seat_of b))) (sym raises.1)
+    (ap₂ raised for.1 marks)
+
+held_at : (boards : List (Option BoardOf)) (seats : List (Option BoardStanding)) (k : ℕ) (board : Option BoardOf) (seat : Option BoardStanding) → slice_get boards k ≡ Some board → slice_get seats k ≡ Some seat
+    → slice_get (all_held boards seats) k ≡ Some (held_by board seat)
+held_at [] seats k board seat is is' = absurd (none-some board is)
+held_at (b ∷ bs) [] k board seat is is' = absurd (none-some seat is')
+held_at (b ∷ bs) (s ∷ ss) zero board seat is is' = ap₂ (λ (x : Option BoardOf) (y : Option BoardStanding). Some (held_by x y)) (same_Some b board is) (same_Some s seat is')
+held_at (b ∷ bs) (s ∷ ss) (suc k) board seat is is' = held_at bs ss k board seat is is'
+
+length-all_held : (boards : List (Option BoardOf)) (seats : List (Option BoardStanding)) → length seats ≡ length boards → length (all_held boards seats) ≡ length boards
+length-all_held [] seats long = refl
+length-all_held (b ∷ bs) [] long = absurd (omega arith)
+length-all_held (b ∷ bs) (s ∷ ss) long = ap (λ n. suc n) (length-all_held bs ss (omega arith))
+
+found_at : {A : Type 0} (xs : List A) (k : ℕ) → k < length xs → (x : A) × (slice_get xs k ≡ Some x)
+found_at [] k within = absurd (omega arith)
+found_at (x ∷ xs) zero within = (x, refl)
+found_at (x ∷ xs) (suc k) within = found_at xs k (omega arith)
+
+-- behind a block the boards hold what was raised
+pub all_are_held : (session : Session) (block : Block) (first_send : ℕ) (sources : List (List Edit)) (owns backs : List Cuts) (boards : List (Option BoardOf)) (seats : List (Option BoardStanding)) (held : List (Option (List State)))
+    → AreBoards session.authors block.lines sources boards → map opening_edits owns ≡ sources → map board_of owns ≡ boards → map seat_of owns ≡ map (option_map first_board_seat) boards → seats ≡ map seat_of backs
+    → length backs ≡ length owns
+    → ((k : ℕ) (own back : Cuts) → slice_get owns k ≡ Some own → slice_get backs k ≡ Some back → Raises own back (slots_at (stage_of session block first_send sources k) (opening_edits own)))
+    → held ≡ all_held boards seats → AreHeld session block first_send sources held
+all_are_held session block first_send sources owns backs boards seats held are openings at firsts same long raise is = record {
+  as_many = ap length is ∙ (length-all_held boards seats (many_seats ∙ sym many_boards) ∙ (many_boards ∙ sym many_sources));
+  each = λ k opening states is_opening is_states.
+      let within = slice_get_within sources k opening is_opening in
+      let sources_many = many_sources in
+      let own = found_at owns k (omega arith) in
+      let back = found_at backs k (omega arith) in
+      let opens : opening ≡ opening_edits own.0 = same_Some opening (opening_edits own.0) (sym is_opening ∙ found_in_map opening_edits owns sources k own.0 openings own.1) in
+      let board = found_in_map board_of owns boards k own.0 at own.1 in
+      let seat = ap (λ ss. slice_get ss k) same ∙ found_in_map seat_of backs (map seat_of backs) k back.0 refl back.1 in
+      let first = same_Some (seat_of own.0) (option_map first_board_seat (board_of own.0))
+      (sym (found_in_map seat_of owns (map (option_map first_board_seat) boards) k own.0 firsts own.1) ∙ found_in_map (option_map first_board_seat) boards (map (option_map first_board_seat) boards) k (board_of own.0) refl board) in
+      let holds : states ≡ held_by (board_of own.0) (seat_of back.0) =
+      same_Some states (held_by (board_of own.0) (seat_of back.0)) (sym is_states ∙ (ap (λ hs. slice_get hs k) is ∙ held_at boards seats k (board_of own.0) (seat_of back.0) board seat)) in
+      let for = are.each k (opening_edits own.0) (board_of own.0) (found_in_map opening_edits owns sources k own.0 openings own.1) board in
+      let slots = slots_at (stage_of session block first_send sources k) (opening_edits own.0) in
+      subst (λ (es : List Edit). IsHeld es (slots_at (stage_of session block first_send sources k) es) states) (sym opens)
+      (subst (IsHeld (opening_edits own.0) slots) (sym holds)
+      (held_behind own.0 back.0 slots (parts_at session.authors block.lines k) for first (raise k own.0 back.0 own.1 back.1)));
+}
+  where
+    many_sources : length sources ≡ length owns
+    many_sources = sym (ap length openings) ∙ length-map owns opening_edits
+
+    many_boards : length boards ≡ length owns
+    many_boards = sym (ap length at) ∙ length-map owns board_of
+
+    many_seats : length seats ≡ length owns
+    many_seats = ap length same ∙ (length-map backs seat_of ∙ long)
+
+-- one board more is closed
+pub held_more : (boards more all_boards : List (Option BoardOf)) (seats others all_seats : List (Option BoardStanding)) (board : Option BoardOf) (seat : Option BoardStanding) (done new : List (Option (List State)))
+    → boards ≡ board ∷ more → seats ≡ seat ∷ others → new ≡ done ++ held_by board seat ∷ [] → done ++ all_held boards seats ≡ all_held all_boards all_seats → new ++ all_held more others ≡ all_held all_boards all_seats
+held_more boards more all_boards seats others all_seats board seat done new first second is before =
+    ap (λ hs. hs ++ all_held more others) is
+    ∙ (append_assoc done (held_by board seat ∷ []) (all_held more others) ∙ (ap (λ hs. done ++ hs) (sym (ap₂ all_held first second)) ∙ before))
+
+-- none is left to be closed
+pub held_end : (boards : List (Option BoardOf)) (seats : List (Option BoardStanding)) (done all : List (Option (List State))) → (length boards ≡ 0) ⊎ (length seats ≡ 0) → done ++ all_held boards seats ≡ all → done ≡ all
+held_end [] seats done all none is = sym (append-nil done) ∙ is
+held_end (b ∷ bs) [] done all none is = sym (append-nil done) ∙ is
+held_end (b ∷ bs) (s ∷ ss) done all (inl none) is = absurd (omega arith)
+held_end (b ∷ bs) (s ∷ ss) done all (inr none) is = absurd (omega arith)
+
+pub either_ends : {S T : Type 0} {A : S → Type 0} {B : T → Type 0} {X Y : Type 0} → ((u : S) × A u) ⊎ ((u : T) × B u) → ((u : S) → A u → X) → ((u : T) → B u → Y) → X ⊎ Y
+either_ends (inl first) f g = inl (f first.0 first.1)
+either_ends (inr second) f g = inr (g second.0 second.1)

@@ -1,15 +1,21 @@
--- The boards of a block: what each is made of, and how cuts stand on it.
-use Rattle.std.specs.Prelude.{◌≡◌, ℕ, ◌+◌, ◌≤◌, List, [], length, map, slice_get, Option, Some, None}
+-- The boards of a block: what each is made of, how cuts stand on it, and what it holds behind the block.
+use Rattle.std.specs.Prelude.{◌≡◌, ℕ, ◌+◌, ◌≤◌, List, [], ◌∷◌, length, map, slice_get, Option, Some, None}
+use Rattle.std.specs.Global.{Vec}
+use Rattle.std.specs.Option.{option_map}
 use Rattle.edge_lattice.specs.declared.state.State.{State}
 use Rattle.grove_edits.specs.declared.edit.Edit.{Edit}
 use Rattle.grove_edits.specs.Edit.{edit_kind}
 use Rattle.grove_edits.specs.Graph.{state_of}
+use Rattle.edge_board.specs.States.{raised}
 use Rattle.edge_board.specs.Seats.{BoardOf, BoardStanding}
 use Rattle.author_desk.specs.declared.cuts.Cuts.{Cuts}
 use Rattle.author_desk.specs.declared.cuts.Cuts.TheVariants.{Empty, On}
 use Rattle.session_script.specs.declared.author.Declared.{Declared}
 use Rattle.session_script.specs.declared.line.Line.{Line}
-use Rattle.session_run.specs.Boards.{authors_at_work}
+use Rattle.session_script.specs.declared.item.Block.{Block}
+use Rattle.session_script.specs.declared.session.Session.{Session}
+use Rattle.session_run.specs.Boards.{authors_at_work, slots_at}
+use Rattle.session_answers.specs.Running.{stage_of}
 
 -- the states that edits give their edges
 abbrev pub states_of : List Edit → List State
@@ -40,3 +46,30 @@ abbrev pub IsWholeSeat : Option BoardOf → Option BoardStanding → Type 0
 IsWholeSeat None seat = seat ≡ None
 IsWholeSeat (Some board) None = ⊥
 IsWholeSeat (Some board) (Some seat) = (seat.board ≡ board) × (seat.parts ≡ board.parts)
+
+-- what a board holds that was closed by a seat: the states that it opened with, with the marks of the seat raised
+abbrev pub held_by : Option BoardOf → Option BoardStanding → Option (List State)
+held_by None seat = None
+held_by (Some board) None = None
+held_by (Some board) (Some seat) = Some (raised board.opening seat.marks)
+
+abbrev pub all_held : List (Option BoardOf) → List (Option BoardStanding) → List (Option (List State))
+all_held [] seats = []
+all_held (board ∷ boards) [] = []
+all_held (board ∷ boards) (seat ∷ seats) = held_by board seat ∷ all_held boards seats
+
+-- what the board of a replica that opened with some edits holds, where these slots were raised: the states of the edits, and Deleted in the
+-- slots. A replica that opened with no edits has no board
+abbrev pub IsHeld : List Edit → List ℕ → Option (List State) → Type 0
+IsHeld opening slots None = opening ≡ []
+IsHeld opening slots (Some states) = states ≡ raised (states_of opening) slots
+
+-- what the boards of a block hold behind it: in each the slots are raised that the replica's authors cut, and no others
+pub record AreHeld (session : Session) (block : Block) (first_send : ℕ) (sources : List (List Edit)) (held : List (Option (List State))) : Type 0 where
+  pub as_many : length held ≡ length sources
+  pub each : (replica : ℕ) (opening : List Edit) (states : Option (List State)) → slice_get sources replica ≡ Some opening → slice_get held replica ≡ Some states
+      → IsHeld opening (slots_at (stage_of session block first_send sources replica) opening) states
+
+-- the states of boards, wherever they are kept
+abbrev pub states_in : Option (Vec State) → Option (List State)
+states_in held = option_map (λ states. states.items) held

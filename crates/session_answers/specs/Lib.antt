@@ -1,4 +1,5 @@
 pub mod BlockJournals
 pub mod Boards
+pub mod Numbers
 pub mod Running
 pub mod Summarizing

@@ -17,6 +17,7 @@ use Rattle.session_report.specs.Taken.{Journals, taken}
 use Rattle.session_report.specs.Legal.{AreLegalFor}
 use Rattle.session_report.specs.Report.{IsSection, AreItemTexts, block_heading, show_heading, journals_text}
 use Rattle.session_answers.specs.BlockJournals.{block_journals}
+use Rattle.session_answers.specs.Numbers.{next_numbers, numbers_behind}
 use Rattle.session_answers.specs.declared.running.Running.{Running}
 
 -- the replicas have taken what the journals and the loads so far say
@@ -24,7 +25,8 @@ pub record HaveTaken (names : List Ident) (journals : Journals Content) (before 
   pub all : length replicas ≡ length names
   pub each : (number : ℕ) (replica : Content) → slice_get replicas number ≡ Some replica → replica.edits ≡ with_edits (taken journals number before) []
 
--- the items are over: their journals are legal, what is written of them is the text, and so many of each kind were counted
+-- the items are over: their journals are legal, what is written of them is the text, so many of each kind were counted, and the next line of
+-- each author has its number in the whole session
 pub record IsBehind (session : Session) (before : List Item) (running : Running) : Type 0 where
   pub replicas : HaveTaken session.replicas running.journals before running.replicas.items
   pub legal : AreLegalFor session before running.journals
@@ -32,7 +34,7 @@ pub record IsBehind (session : Session) (before : List Item) (running : Running)
   pub blocks : running.blocks ≡ count_by is_block before
   pub sends : running.sends ≡ sum_by send_count before
   pub shows : running.shows ≡ count_by is_show before
-  pub calls : length running.calls.items ≡ length session.authors
+  pub calls : running.calls.items ≡ next_numbers before session.authors
 
 -- a replica took an edit
 pub record HasLoaded (number : ℕ) (edit : Edit) (before after : Running) : Type 0 where
@@ -71,7 +73,7 @@ pub record HasRunBlock (session : Session) (block : Block) (before after : Runni
   pub blocks : after.blocks ≡ before.blocks + 1
   pub sends : after.sends ≡ before.sends + count_by is_send block.lines
   pub shows : after.shows ≡ before.shows
-  pub calls : length after.calls.items ≡ length before.calls.items
+  pub calls : after.calls.items ≡ numbers_behind block.lines session.authors before.calls.items
 
 -- the sections of replicas with their names, in order
 abbrev pub AreShown : List (Ident × Content) → List ℕ → Type 0

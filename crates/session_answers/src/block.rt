@@ -1,12 +1,14 @@
 //! Runs a block of a session.
-ghost use Rattle.std.specs.Prelude.{◌≡◌, ◌+◌, ◌<◌, ◌^◌, length, IfOk};
+ghost use Rattle.std.specs.Prelude.{◌≡◌, ◌+◌, ◌<◌, ◌^◌, length, map, IfOk};
 ghost use Rattle.std.specs.List.{AllByRecursion, count_by};
 ghost use Rattle.session_script.specs.Session.{IsSession, is_send};
 ghost use Rattle.grove_edits.specs.Graph.{Ascends};
 ghost use Rattle.session_run.specs.Run.{CanRun};
+ghost use Rattle.session_answers.specs.Boards.{AreHeld, states_in};
 ghost use Rattle.session_answers.specs.Running.{sources_of, HaveRun};
 
 use crate::boards::{boards_of, close_all, cuts_on, seats_of};
+use edge_lattice::State;
 use grove_edits::EditList;
 use grove_io::Gate;
 use replica_core::Replica;
@@ -18,7 +20,8 @@ use std::sync::Wait;
 use std::thread::Threads;
 use text_parts::NoMemory;
 
-/// Runs a block on replicas that have opened it with these lists. Their boards last as long as the block.
+/// Runs a block on replicas that have opened it with these lists. Their boards last as long as the block. Answers the replicas, their
+/// journals, and what their boards held as they were closed behind the block.
 pub(crate) fn run_on_boards<R: Threads + Wait + Sync, G: Gate>(
     rt: &R,
     alloc: Global,
@@ -29,7 +32,7 @@ pub(crate) fn run_on_boards<R: Threads + Wait + Sync, G: Gate>(
     first_send: u32,
     first_calls: &[u64],
     gate: &G,
-) -> Result<(Vec<Replica>, Vec<Journal<Replica>>), NoMemory>
+) -> Result<(Vec<Replica>, Vec<Journal<Replica>>, Vec<Option<Vec<State>>>), NoMemory>
     requires session { IsSession session.now }
     requires lines { AllByRecursion (CanRun session.now.authors (length session.now.replicas)) block.now.lines }
     requires replicas { length replicas.items ≡ length session.now.replicas }
@@ -38,11 +41,12 @@ pub(crate) fn run_on_boards<R: Threads + Wait + Sync, G: Gate>(
     requires sends { first_send + count_by is_send block.now.lines < 2 ^ 32 }
     requires first_calls { length first_calls.now ≡ length session.now.authors }
     requires calls { AllByRecursion (λ first. first + length block.now.lines < 2 ^ 64) first_calls.now }
-    ensures { IfOk result (λ ran. HaveRun session.now block.now first_send replicas.items ran.1.items ran.0.items) }
+    ensures ran { IfOk result (λ ran. HaveRun session.now block.now first_send replicas.items ran.1.items ran.0.items) }
+    ensures closed { IfOk result (λ ran. AreHeld session.now block.now first_send sources.now (map states_in ran.2.items)) }
 {
     let (boards, seats) = boards_of(alloc, sources, &session.authors, block.lines.as_slice())?;
     let mut cuts = cuts_on(alloc, sources, &boards, seats)?;
-    let ran = run_block(
+    let (replicas, journals) = run_block(
         rt,
         alloc,
         replicas,
@@ -55,6 +59,6 @@ pub(crate) fn run_on_boards<R: Threads + Wait + Sync, G: Gate>(
         gate,
     )?;
     let whole = seats_of(alloc, cuts)?;
-    close_all(boards, whole);
-    Ok(ran)
+    let held = close_all(alloc, boards, whole)?;
+    Ok((replicas, journals, held))
 }

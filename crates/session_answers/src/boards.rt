@@ -5,7 +5,7 @@ ghost use Rattle.std.specs.Option.{option_map};
 ghost use Rattle.edge_board.specs.Seats.{first_board_seat};
 ghost use Rattle.author_desk.specs.Cuts.{opening_edits, seat_of};
 ghost use Rattle.grove_edits.specs.Graph.{state_of};
-ghost use Rattle.session_answers.specs.Boards.{states_of as are_states_of, parts_at as all_parts_at, IsBoardFor, AreBoards, board_of as board_under, IsWholeSeat};
+ghost use Rattle.session_answers.specs.Boards.{states_of as are_states_of, parts_at as all_parts_at, IsBoardFor, AreBoards, board_of as board_under, IsWholeSeat, held_by, all_held, states_in};
 
 use author_desk::Cuts;
 use edge_board::{Board, BoardSeat};
@@ -138,19 +138,28 @@ pub(crate) fn seats_of(
     Ok(seats)
 }
 
-/// Closes boards, each by its whole seat.
-pub(crate) fn close_all(boards: Vec<Option<Board>>, seats: Vec<Option<BoardSeat>>)
+/// Closes boards, each by its whole seat, and answers what they hold.
+pub(crate) fn close_all(
+    alloc: Global,
+    boards: Vec<Option<Board>>,
+    seats: Vec<Option<BoardSeat>>,
+) -> Result<Vec<Option<Vec<State>>>, NoMemory>
     requires { AllZip IsWholeSeat boards.items seats.items }
+    ensures { IfOk result (λ held. map states_in held.items ≡ all_held boards.items seats.items) }
 {
+    let mut held = Vec::with_capacity(alloc, boards.len())?;
     for (board, seat) in boards.into_iter().zip(seats) {
-        close(board, seat);
+        held.push(close(board, seat))?;
     }
+    Ok(held)
 }
 
-fn close(board: Option<Board>, seat: Option<BoardSeat>)
+fn close(board: Option<Board>, seat: Option<BoardSeat>) -> Option<Vec<State>>
     requires { IsWholeSeat board seat }
+    ensures { states_in result ≡ held_by board seat }
 {
-    if let (Some(board), Some(seat)) = (board, seat) {
-        let _states = board.close(seat);
+    match (board, seat) {
+        (Some(board), Some(seat)) => Some(board.close(seat)),
+        _ => None,
     }
 }

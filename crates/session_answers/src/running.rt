@@ -105,15 +105,21 @@ impl Running {
             blocks,
             sends,
             shows,
-            mut calls,
+            calls,
         } = self;
         // So many lines have no place in memory.
         if !can_number(&calls, block.lines.len()) {
             return Err(NoMemory);
         }
+        let behind = count_lines(
+            alloc,
+            &calls,
+            session.authors.as_slice(),
+            block.lines.as_slice(),
+        )?;
         let (replicas, sources) = open_block_on_each(alloc, replicas)?;
         let number = blocks + 1;
-        let (replicas, made) = run_on_boards(
+        let (replicas, made, _held) = run_on_boards(
             rt,
             alloc,
             replicas,
@@ -124,11 +130,6 @@ impl Running {
             &calls,
             gate,
         )?;
-        count_lines(
-            &mut calls,
-            session.authors.as_slice(),
-            block.lines.as_slice(),
-        );
         append_block(number, session.replicas.as_slice(), &made, &mut text)?;
         append_journals(number, made, &mut journals)?;
         Ok(Running {
@@ -138,7 +139,7 @@ impl Running {
             blocks: number,
             sends: sends + sends_in(block),
             shows,
-            calls,
+            calls: behind,
         })
     }
 

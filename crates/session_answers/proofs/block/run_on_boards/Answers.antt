@@ -3,9 +3,9 @@ use Rattle.std.specs.Option.{option_map}
 use Rattle.edge_board.specs.Seats.{first_board_seat}
 use Rattle.session_script.specs.declared.line.Line.{Line}
 use Rattle.session_run.proofs.OfSessions.{sends_counted}
-use Rattle.session_answers.specs.Boards.{AreBoards}
+use Rattle.session_answers.specs.Boards.{AreBoards, states_in}
 use Rattle.session_answers.specs.Running.{stage_of}
-use Rattle.session_answers.proofs.OnBoards.{all_empty_without, can_cut, all_whole_among}
+use Rattle.session_answers.proofs.OnBoards.{all_empty_without, can_cut, all_whole_among, all_are_held}
 use Rattle.session_answers.proofs.Steps.{have_run}
 use Rattle.session_answers.proofs.block.run_on_boards.Goals as goal
 
@@ -32,7 +32,15 @@ close_all-requires g c =
     let firsts = c.in_ok-cuts.ensures.seats ∙ c.in_ok-boards.ensures.seats ∙ ap (map (option_map first_board_seat)) (sym boards) in
     all_whole_among c.in_ok-cuts.cuts.items c.run_block.new.cuts.items c.in_ok-boards.boards.items c.in_ok-whole.whole.items boards c.in_ok-whole.ensures firsts c.run_block.ensures.cuts c.run_block.ensures.seats
 
-pub returns : goal.returns
-returns g c =
-    have_run c.args.session.now c.args.block.now c.args.first_send c.args.replicas.items c.args.replicas.items c.in_ok-ran.ran.0.items c.in_ok-ran.ran.1.items c.args.sources.now refl
-    c.requires.sources c.in_ok-ran.ensures.machines c.in_ok-ran.ensures.journals c.in_ok-ran.ensures.each
+pub returns-clause-ran : goal.returns-clause-ran
+returns-clause-ran g c =
+    have_run c.args.session.now c.args.block.now c.args.first_send c.args.replicas.items c.args.replicas.items c.in_ok-replicas.replicas.items c.in_ok-replicas.journals.items c.args.sources.now refl
+    c.requires.sources c.in_ok-replicas.ensures.machines c.in_ok-replicas.ensures.journals c.in_ok-replicas.ensures.each
+
+pub returns-clause-closed : goal.returns-clause-closed
+returns-clause-closed g c =
+    all_are_held c.args.session.now c.args.block.now c.args.first_send c.args.sources.now c.in_ok-cuts.cuts.items c.run_block.new.cuts.items c.in_ok-boards.boards.items c.in_ok-whole.whole.items
+    (map states_in c.in_ok-held.held.items)
+    (subst (λ (lines : List Line). AreBoards c.args.session.now.authors lines c.args.sources.now c.in_ok-boards.boards.items) c.as_slice.ensures c.in_ok-boards.ensures.boards)
+    c.in_ok-cuts.ensures.opening (c.in_ok-cuts.ensures.boards ∙ c.deref.ensures.value) (c.in_ok-cuts.ensures.seats ∙ c.in_ok-boards.ensures.seats) c.in_ok-whole.ensures c.run_block.ensures.cuts
+    c.in_ok-replicas.ensures.raised c.in_ok-held.ensures

@@ -1,5 +1,8 @@
-use Rattle.std.proofs.Common.{◌+◌, take, Some, ap, ◌∙◌}
+use Rattle.std.proofs.Common.{ℕ, ◌+◌, List, length, take, Some, ap, ◌∙◌}
+use Rattle.std.proofs.lemmas.List.{length-map}
+use Rattle.session_script.specs.declared.author.Declared.{Declared}
 use Rattle.session_script.specs.declared.item.Item.{Item}
+use Rattle.session_answers.specs.Numbers.{next_number}
 use Rattle.session_answers.specs.Running.{IsBehind, HasLoaded, HasRunBlock, HasShown}
 use Rattle.session_answers.proofs.Items.{if_ok, load_within, block_within, show_within, lines_can_run, few_sends, after_load, after_block, after_show}
 use Rattle.session_answers.proofs.running.Running.run_item.Goals as goal
@@ -11,6 +14,10 @@ load-requires g c =
 pub run_block-requires-clause-lines : goal.run_block-requires-clause-lines
 run_block-requires-clause-lines g c κs within =
     lines_can_run c.args.session.now c.args.index c.args.self c.requires.session c.requires.behind c.in-Block.block (c.requires.item ∙ ap (λ (x : Item). Some x) c.in-Block.is)
+
+pub run_block-requires-clause-calls : goal.run_block-requires-clause-calls
+run_block-requires-clause-calls g c κs within =
+    ap (λ (ns : List ℕ). length ns) c.requires.behind.calls ∙ length-map c.args.session.now.authors (λ (declared : Declared). next_number (take c.args.index c.args.session.now.items) declared.author)
 
 pub run_block-requires-clause-few_blocks : goal.run_block-requires-clause-few_blocks
 run_block-requires-clause-few_blocks g c κs within =
