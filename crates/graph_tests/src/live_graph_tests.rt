@@ -343,7 +343,8 @@ fn check_root_children<L: Ledger, R: Abort>(rt: &R, blank: Blank, graph: &LiveGr
     let Some((first, others)) = children.split_first() else {
         return;
     };
-    assert!(rt; first == edge(1, 5));
+    assert!(rt; first.edge() == edge(1, 5));
+    assert!(rt; *first.target() == edge(1, 5).target);
     assert!(rt; others.get(0) == Some(edge(2, 6)));
     assert!(rt; others.len() == 1);
     let parents = graph.few(&edge(1, 5).target, &mut steps);
