@@ -1,6 +1,5 @@
-use edit_journal::{EditLog, MemoryDisk};
 use grove_io::{MemorySink, MemorySource};
-use grove_tools::{ToolOutcome, ToolStatus, run_tool};
+use grove_tools::{ToolStatus, run_tool};
 use seeded_hash::HashSeed;
 use std::alloc::Global;
 use std::sync::Wait;
@@ -75,42 +74,5 @@ fn a_read_fault_writes_nothing(rt: HostRuntime) -> Result<(), Fail> {
     assert_eq!(rt; status, ToolStatus::ReadFault);
     assert_eq!(rt; text.as_slice(), b"".as_slice());
     assert_eq!(rt; entries, None);
-    Ok(())
-}
-
-/// How a call ended, what it wrote, and how many edits the log has on the disk that it handed out, or none at all.
-type Kept = (ToolStatus, Vec<u8>, Option<usize>);
-
-// What `keep` does with a text.
-fn kept<R: Threads + Wait + Sync>(rt: &R, alloc: Global, text: &[u8]) -> Result<Kept, Fail> {
-    let mut words = Vec::new(alloc);
-    words.push(String::from_str(alloc, "keep")?)?;
-    let mut source = MemorySource::new(text.to_vec(alloc)?, 7, Vec::new(alloc));
-    let mut sink = MemorySink::new(alloc, 4096, 4096, Vec::new(alloc))?;
-    let outcome = run_tool(rt, alloc, HashSeed::FIXED, &words, &mut source, &mut sink);
-    let ToolOutcome {
-        status,
-        relayed: _,
-        kept,
-    } = outcome;
-    Ok((status, sink.taken().to_vec(alloc)?, edits_on(alloc, kept)))
-}
-
-fn edits_on(alloc: Global, disk: Option<MemoryDisk>) -> Option<usize> {
-    match EditLog::open(alloc, disk?) {
-        Ok((_, edits)) => Some(edits.len()),
-        Err(_) => None,
-    }
-}
-
-#[test]
-fn edits_are_kept_in_a_log(rt: HostRuntime) -> Result<(), Fail> {
-    let (status, text, count) = kept(&rt, rt.alloc(), DELETED_WINS)?;
-    assert_eq!(rt; status, ToolStatus::Done);
-    assert_eq!(rt;
-        text.as_slice(),
-        b"-1.2 0.0 root main 1.1 num:7\n".as_slice()
-    );
-    assert_eq!(rt; count, Some(4));
     Ok(())
 }
