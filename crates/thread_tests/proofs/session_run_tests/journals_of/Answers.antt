@@ -45,5 +45,5 @@ run_block-requires-clause-lines g c κs within =
     let block = c.in-Some-Block.block in
     let first : slice_get session.items 0 ≡ Some (Block block) = search rules in
     let can = block_can_run session [] (drop 1 session.items) block c.requires.session (first_item session.items (Block block) first) in
-    let two : length session.replicas ≡ length c.in_ok-machines.machines.items = c.requires.replicas ∙ sym (ap length c.in_ok-machines.ensures.items) in
+    let two : length session.replicas ≡ length c.args.machines.items = c.requires.replicas ∙ sym c.requires.machines in
     subst (λ (n : ℕ). AllByRecursion (CanRun session.authors n) block.lines) two can
