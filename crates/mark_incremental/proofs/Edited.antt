@@ -28,10 +28,10 @@ use Rattle.kept_records.specs.Change.{CyclesStay, is_on_walks}
 use Rattle.kept_records.specs.Renewal.{MakesTrees, AreAllInTrees, put}
 use Rattle.kept_records.proofs.OneSize.{live_along, kept_along}
 use Rattle.mark_store.specs.declared.record.Record.{Record}
-use Rattle.mark_store.specs.Places.{Places, value_at}
+use Rattle.mark_store.specs.Places.{Places, value_at, holds}
 use Rattle.mark_incremental.specs.declared.passing.Ends.{Ends}
 use Rattle.mark_incremental.specs.Reading.{kept_by, IsRecordOf, records_at, AreRecordsOf}
-use Rattle.mark_incremental.specs.Looking.{on, holds, AreRoots}
+use Rattle.mark_incremental.specs.Looking.{on, AreRoots}
 use Rattle.mark_incremental.specs.Walking.{meant, HasMadeTrees, LeavesRight}
 use Rattle.mark_incremental.specs.Passing.{AreWalks, HoldsThese}
 use Rattle.mark_incremental.specs.Standing.{KeptMarks, StandFor, records_in, put_in}
