@@ -17,7 +17,6 @@ use Rattle.graph_words.specs.Whole.{AreLive}
 use Rattle.grove_terms.proofs.OneGrove.{one_live}
 use Rattle.grove_terms.proofs.WellSorted.{live_well_formed}
 use Rattle.type_core.specs.Typ.{Typ}
-use Rattle.graph_words.specs.States.{Entries, state_in}
 use Rattle.judging.proofs.Kept.{types-itself, contexts-itself}
 use Rattle.type_core.specs.TypeTable.{KeepsTypes}
 use Rattle.ctx_table.specs.Context.{Context}

@@ -1,6 +1,6 @@
 -- The vertices of a set, of which the first are listed.
 use Rattle.std.proofs.Common.{◌≡◌, Bool, true, false, cond, List, [], ◌∷◌, ◌++◌, is_some, refl, sym, ap, ◌∙◌}
-use Rattle.std.specs.Prelude.{◌||◌, Option, Some, None, unwrap_or}
+use Rattle.std.specs.Prelude.{◌||◌, Some, None, unwrap_or}
 use Rattle.grove_edits.specs.declared.vertex.Vertex.{Vertex}
 use Rattle.grove_edits.specs.Vertex.{is_same_vertex, stands_in}
 use Rattle.grove_edits.proofs.Vertices.{same_vertex_laws}

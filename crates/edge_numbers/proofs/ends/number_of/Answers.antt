@@ -1,5 +1,5 @@
 use Rattle.std.proofs.Common.{sym, ◌∙◌}
-use Rattle.edge_numbers.proofs.Vertices.{number_only, number_found, numbers_found, once_from_set}
+use Rattle.edge_numbers.proofs.Vertices.{number_only, numbers_found, once_from_set}
 use Rattle.edge_numbers.proofs.ends.number_of.Goals as goal
 
 pub returns-then-is_at-clause-only : goal.returns-then-is_at-clause-only

@@ -1,4 +1,4 @@
-use Rattle.std.proofs.Common.{sym, ap, ◌∙◌, None}
+use Rattle.std.proofs.Common.{ap, ◌∙◌, None}
 use Rattle.std.specs.Prelude.{unwrap_or}
 use Rattle.mark_store.specs.Places.{place_at}
 use Rattle.mark_store.proofs.Lookups.{lookup_is_place}

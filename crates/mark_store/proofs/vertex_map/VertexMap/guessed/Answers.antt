@@ -1,4 +1,4 @@
-use Rattle.std.proofs.Common.{Some, sym, ap, ◌∙◌}
+use Rattle.std.proofs.Common.{sym, ap, ◌∙◌}
 use Rattle.mark_store.specs.Places.{place_at}
 use Rattle.mark_store.proofs.Lookups.{found_there}
 use Rattle.mark_store.proofs.vertex_map.VertexMap.guessed.Goals as goal
