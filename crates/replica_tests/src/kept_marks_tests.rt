@@ -55,32 +55,42 @@ fn kept(marked: &mut Replica, line: &str) -> Result<Option<Told>, Fail> {
     }))
 }
 
-// A replica that took the edits of lines, and then those of later ones in a block that opened in between.
-fn taken_counting<L: Ledger>(
+// Takes the edits of lines, and then those of later ones in a block that opens in between.
+fn take_counting<L: Ledger>(
     alloc: Global,
+    marked: &mut Replica,
     lines: &[&str],
     later: &[&str],
     blank: Blank,
-) -> Result<Replica, Fail>
+) -> Result<(), Fail>
     requires name { blank.name ≡ L.name }
     requires parts { blank.parts ≡ L.parts }
     requires some { 0 < blank.parts }
 {
     let mut steps = Steps::<L>::new(blank);
-    let mut marked = Replica::new(alloc)?;
-    take(alloc, &mut marked, lines, &mut steps)?;
+    take(alloc, marked, lines, &mut steps)?;
     marked.begin_block(alloc)?;
-    take(alloc, &mut marked, later, &mut steps)?;
-    Ok(marked)
+    take(alloc, marked, later, &mut steps)
 }
 
-fn taken(alloc: Global, lines: &[&str], last: &str) -> Result<Replica, Fail> {
-    taken_counting::<Brand>(alloc, lines, &[last], Blank::new(1))
+fn take_both(alloc: Global, marked: &mut Replica, lines: &[&str], last: &str) -> Result<(), Fail> {
+    take_counting::<Brand>(alloc, marked, lines, &[last], Blank::new(1))
+}
+
+fn kept_once_taken(
+    alloc: Global,
+    marked: &mut Replica,
+    lines: &[&str],
+    last: &str,
+    line: &str,
+) -> Result<Option<Told>, Fail> {
+    take_both(alloc, marked, lines, last)?;
+    kept(marked, line)
 }
 
 fn mark_after(alloc: Global, lines: &[&str], last: &str, line: &str) -> Result<Option<Mark>, Fail> {
-    let mut marked = taken(alloc, lines, last)?;
-    let told = kept(&mut marked, line);
+    let mut marked = Replica::new(alloc)?;
+    let told = kept_once_taken(alloc, &mut marked, lines, last, line);
     drop(marked);
     Ok(told?.map(|told| told.mark))
 }
@@ -112,27 +122,38 @@ fn nothing_is_kept_of_what_is_no_vertex(rt: HostRuntime) -> Result<(), Fail> {
     Ok(())
 }
 
-// A replica that took the edits of lines, and then an action of the first author.
-fn acted_counting<L: Ledger>(
+// Takes the edits of lines, and then an action of the first author.
+fn act_counting<L: Ledger>(
     alloc: Global,
+    marked: &mut Replica,
     lines: &[&str],
     action: &Action,
     blank: Blank,
-) -> Result<Replica, Fail>
+) -> Result<(), Fail>
     requires name { blank.name ≡ L.name }
     requires parts { blank.parts ≡ L.parts }
     requires some { 0 < blank.parts }
 {
     let mut steps = Steps::<L>::new(blank);
-    let mut marked = Replica::new(alloc)?;
-    take(alloc, &mut marked, lines, &mut steps)?;
+    take(alloc, marked, lines, &mut steps)?;
     marked.begin_block(alloc)?;
     let (_edits, _answer) = marked.act(alloc, 1, action, &mut steps)?;
-    Ok(marked)
+    Ok(())
 }
 
-fn acted(alloc: Global, lines: &[&str], action: &Action) -> Result<Replica, Fail> {
-    acted_counting::<Brand>(alloc, lines, action, Blank::new(1))
+fn act(alloc: Global, marked: &mut Replica, lines: &[&str], action: &Action) -> Result<(), Fail> {
+    act_counting::<Brand>(alloc, marked, lines, action, Blank::new(1))
+}
+
+fn kept_of_acted(
+    alloc: Global,
+    marked: &mut Replica,
+    lines: &[&str],
+    action: &Action,
+    line: &str,
+) -> Result<Option<Told>, Fail> {
+    act(alloc, marked, lines, action)?;
+    kept(marked, line)
 }
 
 fn kept_once_acted(
@@ -141,8 +162,8 @@ fn kept_once_acted(
     action: &Action,
     line: &str,
 ) -> Result<Option<Told>, Fail> {
-    let mut marked = acted(alloc, lines, action)?;
-    let told = kept(&mut marked, line);
+    let mut marked = Replica::new(alloc)?;
+    let told = kept_of_acted(alloc, &mut marked, lines, action, line);
     drop(marked);
     told
 }

@@ -69,7 +69,9 @@ fn cut_counting<L: Ledger>(
 
 fn cut(alloc: Global, opened: &[&str], later: &[&str], text: &mut Vec<u8>) -> Result<bool, Fail> {
     let mut replica = Replica::new(alloc)?;
-    cut_counting::<Brand>(alloc, &mut replica, opened, later, Blank::new(1), text)
+    let told = cut_counting::<Brand>(alloc, &mut replica, opened, later, Blank::new(1), text);
+    drop(replica);
+    told
 }
 
 const FIRST: &str = "+3.2 0.0 root main 3.1 num:7";
@@ -135,7 +137,9 @@ fn opened_counting<L: Ledger>(
 
 fn opened(alloc: Global, lines: &[&str]) -> Result<(bool, usize), Fail> {
     let mut replica = Replica::new(alloc)?;
-    opened_counting::<Brand>(alloc, &mut replica, lines, Blank::new(1))
+    let told = opened_counting::<Brand>(alloc, &mut replica, lines, Blank::new(1));
+    drop(replica);
+    told
 }
 
 #[test]
@@ -202,7 +206,9 @@ fn text_once_sent(
     text: &mut Vec<u8>,
 ) -> Result<Answer, Fail> {
     let mut replica = Replica::new(alloc)?;
-    sent_counting::<Brand>(alloc, &mut replica, lines, further, Blank::new(1), text)
+    let told = sent_counting::<Brand>(alloc, &mut replica, lines, further, Blank::new(1), text);
+    drop(replica);
+    told
 }
 
 // A sent edit of a deleted edge comes to nothing.
