@@ -1,7 +1,8 @@
-ghost use Rattle.std.specs.Prelude.{IfOk};
+ghost use Rattle.std.specs.Prelude.{ℕ, IfOk};
 ghost use Rattle.session_script.specs.Session.{IsSession};
 ghost use Rattle.session_report.specs.Legal.{AreLegal};
 ghost use Rattle.session_report.specs.Report.{IsReport};
+ghost use Rattle.session_answers.specs.Numbers.{IsNumberOf};
 ghost use Rattle.session_answers.specs.Running.{IsBehind};
 
 use crate::running::Running;
@@ -23,7 +24,8 @@ pub struct Ran {
 }
 
 /// Runs a session: its items one after the other, on replicas that are empty as it begins. What they look up they find by hashes
-/// under a seed, and what the session leaves is the same whatever the seed is. The gate says when the calls of authors may start.
+/// under a seed, and what the session leaves is the same whatever the seed is. The gate says when the calls of authors may start, and is asked for the numbers
+/// that their lines have in the session, and for no others.
 pub fn run_session<R: Threads + Wait + Sync, G: Gate>(
     rt: &R,
     alloc: Global,
@@ -31,7 +33,8 @@ pub fn run_session<R: Threads + Wait + Sync, G: Gate>(
     session: &Session,
     gate: &G,
 ) -> Result<Ran, NoMemory>
-    requires { IsSession session.now }
+    requires session { IsSession session.now }
+    requires asked { (author number : ℕ) → IsNumberOf session.now author number → G.may_ask gate.now author number }
     ensures legal { IfOk result (λ ran. AreLegal session.now ran.journals) }
     ensures report { IfOk result (λ ran. IsReport session.now ran.journals ran.text.items) }
 {
@@ -47,7 +50,8 @@ pub(crate) fn run_items<R: Threads + Wait + Sync, G: Gate>(
     session: &Session,
     gate: &G,
 ) -> Result<Running, NoMemory>
-    requires { IsSession session.now }
+    requires session { IsSession session.now }
+    requires asked { (author number : ℕ) → IsNumberOf session.now author number → G.may_ask gate.now author number }
     ensures { IfOk result (IsBehind session.now session.now.items) }
 {
     let mut running = Running::new(alloc, seed, session)?;

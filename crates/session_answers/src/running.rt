@@ -1,7 +1,9 @@
-ghost use Rattle.std.specs.Prelude.{◌≡◌, ◌+◌, ◌<◌, ◌^◌, [], length, take, slice_get, Some, IfOk};
+ghost use Rattle.std.specs.Prelude.{◌≡◌, ℕ, ◌+◌, ◌<◌, ◌^◌, [], length, take, slice_get, Some, IfOk};
 ghost use Rattle.std.specs.List.{AllByRecursion, count_by};
 ghost use Rattle.session_script.specs.Session.{IsSession, is_send};
+ghost use Rattle.session_run.specs.Asked.{IsNumberIn};
 ghost use Rattle.session_run.specs.Run.{CanRun};
+ghost use Rattle.session_answers.specs.Numbers.{IsNumberOf};
 ghost use Rattle.session_answers.specs.Running.{IsBehind, HasLoaded, HasRunBlock, HasShown};
 
 use crate::block::run_on_boards;
@@ -65,6 +67,7 @@ impl Running {
         requires session { IsSession session.now }
         requires item { slice_get session.now.items index ≡ Some item.now }
         requires behind { IsBehind session.now (take index session.now.items) self }
+        requires asked { (author number : ℕ) → IsNumberOf session.now author number → G.may_ask gate.now author number }
         ensures { IfOk result (IsBehind session.now (take (index + 1) session.now.items)) }
     {
         match item {
@@ -94,6 +97,7 @@ impl Running {
         requires lines { AllByRecursion (CanRun session.now.authors (length session.now.replicas)) block.now.lines }
         requires replicas { length self.replicas.items ≡ length session.now.replicas }
         requires calls { length self.calls.items ≡ length session.now.authors }
+        requires asked { (author number : ℕ) → IsNumberIn session.now.authors self.calls.items block.now.lines author number → G.may_ask gate.now author number }
         requires few_blocks { self.blocks < 64 }
         requires few_sends { self.sends + 1 + count_by is_send block.now.lines < 2 ^ 32 }
         ensures { IfOk result (HasRunBlock session.now block.now self) }

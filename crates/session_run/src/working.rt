@@ -9,7 +9,7 @@ ghost use Rattle.shared_replica.specs.Passes.{Call};
 ghost use Rattle.session_run.specs.Calls.{takes};
 ghost use Rattle.author_desk.specs.Cuts.{CanRaise};
 ghost use Rattle.author_desk.specs.Turns.{commands_of};
-ghost use Rattle.session_run.specs.Workers.{actor_of, calls_of, CanWork};
+ghost use Rattle.session_run.specs.Workers.{actor_of, calls_of, CanWork, WorkerAsksAmong};
 ghost use Rattle.session_run.specs.Passes.{Makes, HasWorked};
 
 use crate::worker::Worker;
@@ -37,6 +37,7 @@ pub fn run_worker<R: Wait, M: Machine<Command = Command>, G: Gate>(
     requires calls { calls_of worker.now ≤ pass.old.calls }
     requires can_work { CanWork worker.now }
     requires cuts { CanRaise cuts.old }
+    requires asked { WorkerAsksAmong (G.may_ask gate.now) worker.now }
     ensures { HasWorked worker.now pass.old pass.new cuts.old cuts.new result }
 {
     match worker {
