@@ -1,5 +1,5 @@
 -- A block asks its gate for the numbers of its authors' lines alone.
-use Rattle.std.proofs.Common.{◌≡◌, ℕ, zero, suc, ◌+◌, ◌-◌, ◌<◌, ◌≤◌, ◌==◌, Bool, true, false, List, [], ◌∷◌, ◌++◌, length, take, slice_get, Some, cond, refl, sym, ap, subst, ◌∙◌, arith}
+use Rattle.std.proofs.Common.{◌≡◌, ℕ, zero, suc, ◌+◌, ◌-◌, ◌<◌, ◌==◌, Bool, true, false, List, [], ◌∷◌, ◌++◌, length, take, slice_get, Some, cond, refl, sym, ap, subst, arith}
 use Rattle.std.specs.Prelude.{if◌then◌else◌}
 use Rattle.std.specs.List.{AllByRecursion, count_by}
 use Rattle.std.proofs.lemmas.Bool.{eqb-true}
@@ -14,7 +14,7 @@ use Rattle.session_run.specs.declared.author_lines.AuthorLines.{AuthorLines}
 use Rattle.session_run.specs.declared.block.Plan.{Plan}
 use Rattle.session_run.specs.declared.worker.Worker.{Worker}
 use Rattle.session_run.specs.declared.worker.Worker.TheVariants as worker
-use Rattle.session_run.specs.Asked.{IsLineNumber, IsNumberIn}
+use Rattle.session_run.specs.Asked.{IsNumberIn}
 use Rattle.session_run.specs.Boards.{is_line_of}
 use Rattle.session_run.specs.Calls.{actions_of}
 use Rattle.session_run.specs.Workers.{told, told_in, first_calls_told, AreLinesOf, AsksAmong, WorkerAsksAmong, IsAuthorWorker, IsPieceWorker, AreForAuthors, AreForSends}

@@ -1,4 +1,4 @@
-use Rattle.std.proofs.Common.{◌≡◌, ◌+◌, List, [], ◌∷◌, ◌++◌, length, length-append, refl, ap, ◌∙◌, arith}
+use Rattle.std.proofs.Common.{◌≡◌, List, [], ◌∷◌, length, length-append, refl, ap, ◌∙◌, arith}
 use Rattle.author_desk.specs.Lines.{slots_cut}
 use Rattle.author_desk.specs.Cuts.{opening_edits}
 use Rattle.author_desk.proofs.Raising.{keeps_seat}
