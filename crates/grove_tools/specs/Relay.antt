@@ -34,15 +34,9 @@ abbrev pub sender_lines : ℕ → List (List Edit) → List ℕ
 sender_lines number [] = []
 sender_lines number (list ∷ lists) = sender_line number list ++ sender_lines (number + 1) lists
 
--- The edits that the text spells were dealt to the senders; the journal handed out, of a replica that began empty, has each sender's edits
--- once and in order, and no other entries; and what is written is how many edits each has, and the canonical text of the replica.
--- No disk is handed out.
-pub record IsRelayed (senders : ℕ) (text : List ℕ) (handed : Handed) (answer : List ℕ) : Type 0 where
-  pub version : Version
-  pub edits : List Edit
-  pub spelled : IsTextOf text version edits
-  pub lists : List (List Edit)
-  pub dealt : AreDealt senders edits lists
+-- A journal is handed out, of a replica that began empty: it has the edits of each list once and in order, and no other entries. What is
+-- written is how many edits each list has, and the canonical text of the replica. No disk is handed out.
+pub record HasFlowed (lists : List (List Edit)) (handed : Handed) (answer : List ℕ) : Type 0 where
   pub journal : List (Entry Content Command (List Edit) Answer)
   pub is_handed : handed.relayed ≡ Some journal
   pub entries : AreEntriesOf lists journal
@@ -52,3 +46,16 @@ pub record IsRelayed (senders : ℕ) (text : List ℕ) (handed : Handed) (answer
   pub is_canonical : IsCanonicalText (graph replica.edits) canonical
   pub written : answer ≡ sender_lines 1 lists ++ canonical
   pub no_disk : handed.kept ≡ None
+
+-- the lists are the edits that the text spells, dealt to so many senders
+pub record AreDealtOf (senders : ℕ) (text : List ℕ) (lists : List (List Edit)) : Type 0 where
+  pub version : Version
+  pub edits : List Edit
+  pub spelled : IsTextOf text version edits
+  pub dealt : AreDealt senders edits lists
+
+-- the edits that the text spells were dealt to the senders, and flowed
+pub record IsRelayed (senders : ℕ) (text : List ℕ) (handed : Handed) (answer : List ℕ) : Type 0 where
+  pub lists : List (List Edit)
+  pub dealt : AreDealtOf senders text lists
+  pub flowed : HasFlowed lists handed answer

@@ -9,7 +9,7 @@ ghost use Rattle.live_relay.specs.Flow.{AreEntriesOf};
 ghost use Rattle.grove_calls.specs.Due.{IsRefusal, most_bytes};
 ghost use Rattle.grove_tools.specs.declared.tool.Tool.TheVariants.{Relay};
 ghost use Rattle.grove_tools.specs.Due.{tool_rules};
-ghost use Rattle.grove_tools.specs.Relay.{AreDealt, IsRelayed, dealt_to, sender_line, sender_lines};
+ghost use Rattle.grove_tools.specs.Relay.{AreDealt, AreDealtOf, HasFlowed, IsRelayed, dealt_to, sender_line, sender_lines};
 
 use crate::outcome::Handed;
 use grove_calls::{Formed, Refusal, read_edits};
@@ -39,11 +39,47 @@ pub(crate) fn form_relay<R: Threads + Wait + Sync>(
     ensures answered { IfOk result (λ formed. IsRelayed senders text.now formed.handed formed.text.items) }
     ensures refused { IfErr result (IsRefusal tool_rules (Relay senders) text.now) }
 {
+    let lists = read_and_deal(alloc, senders, text)?;
+    Ok(flow(rt, alloc, seed, &lists)?)
+}
+
+// The edits of a text, dealt to so many senders.
+fn read_and_deal(alloc: Global, senders: u32, text: &[u8]) -> Result<Vec<EditList>, Refusal>
+    requires senders { 1 ≤ senders }
+    requires short { length text.now ≤ most_bytes }
+    ensures dealt { IfOk result (λ lists. AreDealtOf senders text.now lists.items) }
+    ensures refused { IfErr result (IsRefusal tool_rules (Relay senders) text.now) }
+{
     let edits = read_edits(alloc, text)?;
-    let lists = deal(alloc, senders, &edits)?;
-    drop(edits);
-    let (replica, journal) = relayed(rt, alloc, seed, &lists)?;
-    let text = written(alloc, &lists, &replica)?;
+    Ok(deal(alloc, senders, &edits)?)
+}
+
+// What is formed once the lists flowed to an empty replica.
+fn flow<R: Threads + Wait + Sync>(
+    rt: &R,
+    alloc: Global,
+    seed: HashSeed,
+    lists: &[EditList],
+) -> Result<Formed<Handed>, NoMemory>
+    requires { (1 ≤ length lists.now) × (length lists.now ≤ 8) }
+    ensures { IfOk result (λ formed. HasFlowed lists.now formed.handed formed.text.items) }
+{
+    let (replica, journal) = relayed(rt, alloc, seed, lists)?;
+    formed(alloc, lists, &replica, journal)
+}
+
+// What is formed of a replica to which the lists flowed, and of its journal.
+fn formed(
+    alloc: Global,
+    lists: &[EditList],
+    replica: &Replica,
+    journal: Journal<Replica>,
+) -> Result<Formed<Handed>, NoMemory>
+    requires entries { AreEntriesOf lists.now journal }
+    requires replays { Replays after effect reply no_edits journal replica.now }
+    ensures { IfOk result (λ formed. HasFlowed lists.now formed.handed formed.text.items) }
+{
+    let text = written(alloc, lists, replica)?;
     Ok(Formed {
         text,
         handed: Handed {

@@ -1,31 +1,33 @@
-use edit_journal::*;
+use edit_journal::{Disk, EditLog, FuseDisk, LONGEST, MemoryDisk, OpenFault, Tear};
 use edit_text::read_line;
 use grove_edits::{Edit, EditList};
 use grove_sorts::Version;
 use std::alloc::Global;
 use std::test::Fail;
-use text_parts::write_number;
+use text_parts::{NoMemory, write_number};
 
 const DELETION: &[u8] = b"-1.2 0.0 root main 1.1 num:7";
 
-// Nothing is torn; other bytes stand in the ranges written, or closed gates do and their ends are missing; and cuts have happened.
-const TEARS: [Tear; 3] = [
-    Tear {
-        byte: 1,
-        missing: 0,
-        cuts: false,
-    },
-    Tear {
-        byte: 1,
-        missing: 7,
-        cuts: true,
-    },
-    Tear {
-        byte: 0,
-        missing: 40,
-        cuts: false,
-    },
-];
+/// Other bytes stand in the ranges written.
+const OTHER_BYTES: Tear = Tear {
+    byte: 1,
+    missing: 0,
+    cuts: false,
+};
+
+/// They do, the last of them are missing, and cuts have happened.
+const MISSING_ENDS: Tear = Tear {
+    byte: 1,
+    missing: 7,
+    cuts: true,
+};
+
+/// Closed gates stand there, and whole records are missing.
+const MISSING_RECORDS: Tear = Tear {
+    byte: 0,
+    missing: 40,
+    cuts: false,
+};
 
 fn edit(line: &[u8]) -> Result<Edit, Fail> {
     Ok(read_line(Version::Two, line)?)
@@ -112,70 +114,92 @@ fn insertion(alloc: Global, number: u64) -> Result<Vec<u8>, Fail> {
     Ok(line)
 }
 
-// What became of a run until its disk stopped.
-struct Stopped {
-    disk: FuseDisk,
+/// How often a run appends edits or opens its log.
+const STEPS: usize = 200;
+
+/// More calls of a disk than a run makes.
+const MOST_CALLS: u64 = 1000;
+
+/// More calls of a disk than opening a log makes.
+const MOST_CALLS_TO_OPEN: u64 = 10;
+
+// How far a run has come: which edits were tried and which acknowledged, from the first on.
+#[derive(Drop)]
+struct Progress {
+    random: u64,
+    steps: usize,
     tried: usize,
     acknowledged: usize,
 }
 
-// Appends the edits in groups of 1 to 4, and opens the log again behind every fifth group or so, until a call of the disk fails.
-fn run(alloc: Global, disk: FuseDisk, edits: &[Edit]) -> Stopped {
-    let mut log = match open(alloc, disk) {
-        Ok(log) => log,
-        Err(disk) => {
-            return Stopped {
-                disk,
-                tried: 0,
-                acknowledged: 0,
-            };
-        }
-    };
-    let mut random = 7u64;
-    let mut done = 0;
-    for _ in edits {
-        if done == edits.len() {
-            break;
-        }
-        random = next_random(random);
-        let end = edits
-            .len()
-            .min(done.saturating_add((random >> 33) as usize % 4 + 1));
-        let Some(group) = edits.get(done..end) else {
-            break;
-        };
-        if log.append_all(group).is_err() {
-            return Stopped {
-                disk: log.close(),
-                tried: end,
-                acknowledged: done,
-            };
-        }
-        done = end;
-        if (random >> 40) % 5 == 0 {
-            log = match open(alloc, log.close()) {
-                Ok(log) => log,
-                Err(disk) => {
-                    return Stopped {
-                        disk,
-                        tried: done,
-                        acknowledged: done,
-                    };
-                }
-            };
-        }
+impl Progress {
+    fn next_random(&mut self) -> usize {
+        self.random = self
+            .random
+            .wrapping_mul(6364136223846793005)
+            .wrapping_add(1442695040888963407);
+        (self.random >> 33) as usize
     }
-    Stopped {
-        disk: log.close(),
-        tried: done,
-        acknowledged: done,
+
+    fn count_step(&mut self) {
+        self.steps = self.steps.saturating_add(1);
     }
 }
 
-fn next_random(random: u64) -> u64 {
-    random
-        .wrapping_mul(6364136223846793005)
-        .wrapping_add(1442695040888963407)
+// Makes the steps of a run. Once the disk has stopped they change nothing.
+fn run(alloc: Global, mut disk: FuseDisk, edits: &[Edit], progress: &mut Progress) -> FuseDisk {
+    for _ in 0..STEPS {
+        if progress.steps >= STEPS {
+            break;
+        }
+        disk = open_and_append(alloc, disk, edits, progress);
+    }
+    disk
+}
+
+// Opens the log, and appends edits until it is to be opened again.
+fn open_and_append(
+    alloc: Global,
+    disk: FuseDisk,
+    edits: &[Edit],
+    progress: &mut Progress,
+) -> FuseDisk {
+    match open(alloc, disk) {
+        Ok(mut log) => {
+            progress.count_step();
+            append_some(&mut log, edits, progress);
+            log.close()
+        }
+        Err(disk) => disk,
+    }
+}
+
+fn append_some(log: &mut EditLog<FuseDisk>, edits: &[Edit], progress: &mut Progress) {
+    for _ in 0..STEPS {
+        if progress.steps >= STEPS || !append_group(log, edits, progress) {
+            break;
+        }
+    }
+}
+
+// Appends the next 1 to 4 edits. One time of four it does not, and the log is to be opened again.
+fn append_group(log: &mut EditLog<FuseDisk>, edits: &[Edit], progress: &mut Progress) -> bool {
+    let random = progress.next_random();
+    let start = progress.acknowledged;
+    let end = start.saturating_add(random % 4 + 1);
+    let Some(group) = edits.get(start..end) else {
+        return false;
+    };
+    if random / 4 % 4 == 0 {
+        return false;
+    }
+    progress.tried = end;
+    if log.append_all(group).is_err() {
+        return false;
+    }
+    progress.acknowledged = end;
+    progress.count_step();
+    true
 }
 
 fn open(alloc: Global, disk: FuseDisk) -> Result<EditLog<FuseDisk>, FuseDisk> {
@@ -188,51 +212,114 @@ fn open(alloc: Global, disk: FuseDisk) -> Result<EditLog<FuseDisk>, FuseDisk> {
     }
 }
 
-/// More calls of a disk than a run of all edits makes.
-const MOST_CALLS: u64 = 240;
+// The disk after a crash: with its file as of the last sync, or with what was done since torn.
+fn crashed(alloc: Global, disk: FuseDisk, tear: Option<Tear>) -> Result<MemoryDisk, NoMemory> {
+    match tear {
+        Some(_) => disk.crash_torn(alloc),
+        None => disk.crash(alloc),
+    }
+}
+
+fn disk_of(
+    alloc: Global,
+    calls: u64,
+    bytes: u64,
+    tear: Option<Tear>,
+) -> Result<FuseDisk, NoMemory> {
+    FuseDisk::with_tear(alloc, calls, bytes, tear.unwrap_or_default())
+}
 
 #[test]
 fn each_acknowledged_edit_is_found(rt: HostRuntime) -> Result<(), Fail> {
-    let edits = edits(rt.alloc(), 50)?;
-    assert_eq!(rt; stop_everywhere(rt.alloc(), edits.as_slice())?, 50);
+    stop_everywhere(rt.alloc(), None)
+}
+
+#[test]
+fn each_acknowledged_edit_is_found_behind_other_bytes(rt: HostRuntime) -> Result<(), Fail> {
+    stop_everywhere(rt.alloc(), Some(OTHER_BYTES))
+}
+
+#[test]
+fn each_acknowledged_edit_is_found_where_ends_are_missing(rt: HostRuntime) -> Result<(), Fail> {
+    stop_everywhere(rt.alloc(), Some(MISSING_ENDS))
+}
+
+#[test]
+fn each_acknowledged_edit_is_found_where_records_are_missing(rt: HostRuntime) -> Result<(), Fail> {
+    stop_everywhere(rt.alloc(), Some(MISSING_RECORDS))
+}
+
+// Stops a run at each of its calls, until one is not stopped.
+fn stop_everywhere(alloc: Global, tear: Option<Tear>) -> Result<(), Fail> {
+    let edits = edits(alloc, 4 * STEPS as u64)?;
+    stop_at_each_call(alloc, edits.as_slice(), tear)
+}
+
+fn stop_at_each_call(alloc: Global, edits: &[Edit], tear: Option<Tear>) -> Result<(), Fail> {
+    for calls in 0..MOST_CALLS {
+        if stop_at(alloc, edits, tear, calls)? == STEPS {
+            return Ok(());
+        }
+    }
+    Err(Fail::from("a run makes more calls"))
+}
+
+// A run whose disk stops at this call and crashes. Its log is opened on what is left, and on what opening leaves that is stopped too.
+// Answers how many steps were made.
+fn stop_at(alloc: Global, edits: &[Edit], tear: Option<Tear>, calls: u64) -> Result<usize, Fail> {
+    let mut progress = Progress {
+        random: 7,
+        steps: 0,
+        tried: 0,
+        acknowledged: 0,
+    };
+    let disk = disk_of(alloc, calls, 40000, tear)?;
+    let left = crashed(alloc, run(alloc, disk, edits, &mut progress), tear)?;
+    check_left(alloc, edits, &progress, tear, left.as_slice())?;
+    check_found(alloc, edits, &progress, left)?;
+    Ok(progress.steps)
+}
+
+// Opens the log in a file on disks that stop at each of the calls which that makes.
+fn check_left(
+    alloc: Global,
+    edits: &[Edit],
+    progress: &Progress,
+    tear: Option<Tear>,
+    file: &[u8],
+) -> Result<(), Fail> {
+    for calls in 0..MOST_CALLS_TO_OPEN {
+        let left = stopped_again(alloc, file, tear, calls)?;
+        check_found(alloc, edits, progress, left)?;
+    }
     Ok(())
 }
 
-// Stops a run at each of its calls, under each of the tears. The last run is not stopped: answers how many edits it acknowledged.
-fn stop_everywhere(alloc: Global, edits: &[Edit]) -> Result<usize, Fail> {
-    let mut acknowledged = 0;
-    for tear in TEARS {
-        for calls in 0..MOST_CALLS + 1 {
-            acknowledged = stop_at(alloc, edits, tear, calls)?;
-        }
-    }
-    Ok(acknowledged)
-}
-
-// The disk stops, crashes, and is opened again: once whole, and once on a disk that stops too. Answers how many edits were acknowledged.
-fn stop_at(alloc: Global, edits: &[Edit], tear: Tear, calls: u64) -> Result<usize, Fail> {
-    let disk = FuseDisk::with_tear(alloc, calls, 20000, tear)?;
-    let Stopped {
-        disk,
-        tried,
-        acknowledged,
-    } = run(alloc, disk, edits);
-    let left = disk.crash_torn(alloc)?;
-    let again = stopped_again(alloc, left.as_slice(), tear, calls % 8)?;
-    check_found(alloc, edits, tried, acknowledged, left)?;
-    check_found(alloc, edits, tried, acknowledged, again)?;
-    Ok(acknowledged)
-}
-
 // A disk that holds the file stops while it is opened, and crashes.
-fn stopped_again(alloc: Global, file: &[u8], tear: Tear, calls: u64) -> Result<MemoryDisk, Fail> {
-    let mut disk = FuseDisk::with_tear(alloc, calls.saturating_add(2), 40000, tear)?;
-    if file.len() > 30000 || disk.write_at(0, file).is_err() || disk.sync().is_err() {
-        return Err(Fail::from("no such file"));
+fn stopped_again(
+    alloc: Global,
+    file: &[u8],
+    tear: Option<Tear>,
+    calls: u64,
+) -> Result<MemoryDisk, Fail> {
+    let disk = disk_of(alloc, calls.saturating_add(2), 40000, tear)?;
+    let disk = opened(alloc, filled(disk, file)?);
+    Ok(crashed(alloc, disk, tear)?)
+}
+
+// A disk with the file, by two calls.
+fn filled(mut disk: FuseDisk, file: &[u8]) -> Result<FuseDisk, Fail> {
+    if file.len() as u64 <= LONGEST && disk.write_at(0, file).is_ok() && disk.sync().is_ok() {
+        Ok(disk)
+    } else {
+        Err(Fail::from("no such file"))
     }
+}
+
+fn opened(alloc: Global, disk: FuseDisk) -> FuseDisk {
     match open(alloc, disk) {
-        Ok(log) => Ok(log.close().crash_torn(alloc)?),
-        Err(disk) => Ok(disk.crash_torn(alloc)?),
+        Ok(log) => log.close(),
+        Err(disk) => disk,
     }
 }
 
@@ -240,20 +327,21 @@ fn stopped_again(alloc: Global, file: &[u8], tear: Tear, calls: u64) -> Result<M
 fn check_found(
     alloc: Global,
     edits: &[Edit],
-    tried: usize,
-    acknowledged: usize,
+    progress: &Progress,
     disk: MemoryDisk,
 ) -> Result<(), Fail> {
     let Ok((_, found)) = EditLog::open(alloc, disk) else {
         return Err(Fail::from("not opened"));
     };
-    if are_found(edits, tried, acknowledged, found.as_slice()) {
+    if are_found(edits, progress, found.as_slice()) {
         Ok(())
     } else {
         Err(Fail::from("other edits are found"))
     }
 }
 
-fn are_found(edits: &[Edit], tried: usize, acknowledged: usize, found: &[Edit]) -> bool {
-    acknowledged <= found.len() && found.len() <= tried && Some(found) == edits.get(..found.len())
+fn are_found(edits: &[Edit], progress: &Progress, found: &[Edit]) -> bool {
+    progress.acknowledged <= found.len()
+        && found.len() <= progress.tried
+        && Some(found) == edits.get(..found.len())
 }

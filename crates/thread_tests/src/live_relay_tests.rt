@@ -84,20 +84,61 @@ fn try_one<R: Wait>(rt: &R, relay: &Relay, sender: &mut Sender, edit: Edit) -> R
     relay.try_send(rt, sender, edit)
 }
 
+// One try to take an edit.
+fn take_one<R: Wait>(rt: &R, relay: &Relay, receiver: &mut Receiver) -> Option<(u32, Edit)>
+    requires { receiver.old.relay ≡ relay.now }
+    ensures { receiver.new.relay ≡ receiver.old.relay }
+{
+    relay.try_take(rt, receiver)
+}
+
+// Whether a queue with room for one edit has none at first, gives the second one back while it has the first, and takes it again once the
+// first is taken.
+fn gives_back<R: Wait>(
+    rt: &R,
+    relay: &Relay,
+    sender: &mut Sender,
+    receiver: &mut Receiver,
+    first: &Edit,
+    second: &Edit,
+) -> bool
+    requires { (sender.old.relay ≡ relay.now) × (receiver.old.relay ≡ relay.now) }
+    ensures { (sender.new.relay ≡ sender.old.relay) × (sender.new.number ≡ sender.old.number) × (receiver.new.relay ≡ relay.now) }
+{
+    let none = take_one(rt, relay, receiver);
+    let sent = try_one(rt, relay, sender, *first);
+    let back = try_one(rt, relay, sender, *second);
+    let taken = take_one(rt, relay, receiver);
+    let again = try_one(rt, relay, sender, *second);
+    none == None
+        && sent == Ok(())
+        && back == Err(*second)
+        && taken == Some((1, *first))
+        && again == Ok(())
+}
+
+// Whether it does, and how many edits are left then.
+fn left_in_a_full_queue<R: Wait>(
+    rt: &R,
+    alloc: Global,
+    first: &Edit,
+    second: &Edit,
+) -> Result<(bool, u64), NoMemory> {
+    let (relay, mut senders, mut receiver) = Relay::new(alloc, 1, 1)?;
+    let Some(mut sender) = senders.pop() else {
+        unreachable!()
+    };
+    let are = gives_back(rt, &relay, &mut sender, &mut receiver, first, second);
+    senders.push_reserved(sender);
+    let left = relay.close(rt, senders, receiver);
+    Ok((are, left))
+}
+
 #[test]
 fn a_full_queue_gives_the_edit_back(rt: HostRuntime) -> Result<(), Fail> {
-    let (relay, mut senders, mut receiver) = Relay::new(rt.alloc(), 1, 1)?;
-    let Some(mut sender) = senders.pop() else {
-        panic!(rt; "no sender")
-    };
     let (first, second) = (insertion(1, 1)?, insertion(1, 2)?);
-    assert_eq!(rt; relay.try_take(&rt, &mut receiver), None);
-    assert_eq!(rt; try_one(&rt, &relay, &mut sender, first), Ok(()));
-    assert_eq!(rt; try_one(&rt, &relay, &mut sender, second), Err(second));
-    assert_eq!(rt; relay.try_take(&rt, &mut receiver), Some((1, first)));
-    assert_eq!(rt; try_one(&rt, &relay, &mut sender, second), Ok(()));
-    senders.push(sender)?;
-    assert_eq!(rt; relay.close(&rt, senders, receiver), 1);
+    let left = left_in_a_full_queue(&rt, rt.alloc(), &first, &second)?;
+    assert_eq!(rt; left, (true, 1));
     Ok(())
 }
 

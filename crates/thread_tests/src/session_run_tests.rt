@@ -72,6 +72,28 @@ fn loaded(alloc: Global, session: &Session) -> Result<EditList, Fail> {
     Ok(edits)
 }
 
+// A session with two replicas and two authors.
+fn session_of(alloc: Global, text: &[u8]) -> Result<Session, Fail>
+    ensures session { IfOk result (λ session. IsSession session) }
+    ensures two { IfOk result (λ session. (length session.replicas ≡ 2) × (length session.authors ≡ 2)) }
+{
+    let Ok(session) = read_session(alloc, text) else {
+        return Err(Fail::from("a session"));
+    };
+    if session.replicas.len() != 2 || session.authors.len() != 2 {
+        return Err(Fail::from("two replicas and two authors"));
+    }
+    Ok(session)
+}
+
+// What the replicas open with: the edits that the session loads, and none.
+fn sources_of(alloc: Global, session: &Session) -> Result<Vec<EditList>, Fail>
+    ensures { IfOk result (λ sources. AllByRecursion Ascends sources.items × (length sources.items ≡ 2)) }
+{
+    let edits = loaded(alloc, session)?.into_canonical();
+    Ok(vec![in alloc; edits, EditList::new(alloc)]?)
+}
+
 // Two machines that have not counted yet.
 fn counters(alloc: Global) -> Result<Vec<Counter>, NoMemory>
     ensures { IfOk result (λ machines. length machines.items ≡ 2) }
@@ -151,6 +173,26 @@ fn cuts_at<'a>(
     Ok(cuts)
 }
 
+// What two machines journal of the block, where the edges of the first replica open in these states.
+fn journals_at<R: Threads + Wait + Sync, M: Machine<Command = Command, Reply = Answer>, G: Gate>(
+    rt: &R,
+    alloc: Global,
+    session: &Session,
+    machines: Vec<M>,
+    sources: &[EditList],
+    states: [State; 3],
+    gate: &G,
+) -> Result<Vec<Journal<M>>, Fail>
+    requires session { IsSession session.now }
+    requires machines { length machines.items ≡ 2 }
+    requires two { (length session.now.replicas ≡ 2) × (length session.now.authors ≡ 2) }
+    requires sources { AllByRecursion Ascends sources.now × (length sources.now ≡ 2) }
+{
+    let (board, seat) = Board::new(alloc, &states, 3)?;
+    let mut cuts = cuts_at(alloc, sources, &board, seat)?;
+    journals_of(rt, alloc, session, machines, sources, &mut cuts, gate)
+}
+
 // What an actor's call of this index among its own asks: the number of the edge that is cut or of the piece, and that of its edits.
 fn shown(
     journals: &[Journal<Counter>],
@@ -170,30 +212,8 @@ fn shown(
     }
 }
 
-#[test]
-fn authors_act_and_pieces_come_where_they_belong(rt: HostRuntime) -> Result<(), Fail> {
-    let Ok(session) = read_session(rt.alloc(), SESSION) else {
-        return Err(Fail::from("a session"));
-    };
-    if session.replicas.len() != 2 || session.authors.len() != 2 {
-        return Err(Fail::from("two replicas and two authors"));
-    }
-    let edits = loaded(rt.alloc(), &session)?.into_canonical();
-    let sources = vec![in rt.alloc(); edits, EditList::new(rt.alloc())]?;
-    let opening = [State::Deleted, State::Live, State::Live];
-    let (board, seat) = Board::new(rt.alloc(), &opening, 3)?;
-    let mut cuts = cuts_at(rt.alloc(), &sources, &board, seat)?;
-    let machines = counters(rt.alloc())?;
-    let journals = journals_of(
-        &rt,
-        rt.alloc(),
-        &session,
-        machines,
-        &sources,
-        &mut cuts,
-        &OpenGate,
-    )?;
-    assert!(rt; journals.len() == 2);
+// Whether each author's lines and each piece stand in the journals of the replicas where they belong, and no others.
+fn are_where_they_belong(journals: &[Journal<Counter>]) -> bool {
     for (replica, actor, index, want) in [
         (0, Actor::Author(1), 0, Some((2, 0))),
         (0, Actor::Author(1), 1, Some((4, 0))),
@@ -206,8 +226,29 @@ fn authors_act_and_pieces_come_where_they_belong(rt: HostRuntime) -> Result<(), 
         (1, Actor::Send(1), 1, Some((2, 1))),
         (1, Actor::Send(1), 2, None),
     ] {
-        assert!(rt; shown(&journals, replica, actor, index) == want);
+        if shown(journals, replica, actor, index) != want {
+            return false;
+        }
     }
+    journals.len() == 2
+}
+
+#[test]
+fn authors_act_and_pieces_come_where_they_belong(rt: HostRuntime) -> Result<(), Fail> {
+    let session = session_of(rt.alloc(), SESSION)?;
+    let sources = sources_of(rt.alloc(), &session)?;
+    let machines = counters(rt.alloc())?;
+    let states = [State::Deleted, State::Live, State::Live];
+    let journals = journals_at(
+        &rt,
+        rt.alloc(),
+        &session,
+        machines,
+        &sources,
+        states,
+        &OpenGate,
+    )?;
+    assert!(rt; are_where_they_belong(&journals));
     Ok(())
 }
 
@@ -295,45 +336,45 @@ impl<'a> Machine for Waiting<'a> {
 fn waiting_machines(alloc: Global, meeting: &Meeting) -> Result<Vec<Waiting<'_>>, NoMemory>
     ensures { IfOk result (λ machines. length machines.items ≡ 2) }
 {
-    let mut machines = Vec::with_capacity(alloc, 2)?;
-    for own in [0b100, 0b1000] {
-        machines.push(Waiting {
-            steps: 0,
-            own,
-            meeting,
-        })?;
+    Ok(vec![in alloc; waiting_as(0b100, meeting), waiting_as(0b1000, meeting)]?)
+}
+
+fn waiting_as(own: u64, meeting: &Meeting) -> Waiting<'_> {
+    Waiting {
+        steps: 0,
+        own,
+        meeting,
     }
-    Ok(machines)
+}
+
+// Whether both journals have two entries.
+fn have_two_entries(journals: &[Journal<Waiting<'_>>]) -> bool {
+    match journals {
+        [first, second] => first.len() == 2 && second.len() == 2,
+        _ => false,
+    }
 }
 
 #[test]
 fn authors_and_sends_of_all_replicas_are_at_work_at_once(rt: HostRuntime) -> Result<(), Fail> {
-    let Ok(session) = read_session(rt.alloc(), SENDING) else {
-        return Err(Fail::from("a session"));
-    };
-    if session.replicas.len() != 2 || session.authors.len() != 2 {
-        return Err(Fail::from("two replicas and two authors"));
-    }
-    let edits = loaded(rt.alloc(), &session)?.into_canonical();
-    let sources = vec![in rt.alloc(); edits, EditList::new(rt.alloc())]?;
-    let opening = [State::Live, State::Live, State::Live];
-    let (board, seat) = Board::new(rt.alloc(), &opening, 3)?;
-    let mut cuts = cuts_at(rt.alloc(), &sources, &board, seat)?;
+    let session = session_of(rt.alloc(), SENDING)?;
+    let sources = sources_of(rt.alloc(), &session)?;
     let meeting = Meeting {
         came: AtomicU64::new(0),
         met: AtomicU64::new(0),
     };
     let machines = waiting_machines(rt.alloc(), &meeting)?;
-    let journals = journals_of(
+    let states = [State::Live, State::Live, State::Live];
+    let journals = journals_at(
         &rt,
         rt.alloc(),
         &session,
         machines,
         &sources,
-        &mut cuts,
+        states,
         &meeting,
     )?;
-    assert!(rt; journals.len() == 2 && journals[0].len() == 2 && journals[1].len() == 2);
+    assert!(rt; have_two_entries(&journals));
     assert!(rt; meeting.met.load(Ordering::SeqCst) == AT_WORK);
     Ok(())
 }
@@ -437,10 +478,9 @@ fn cut<R: Threads + Wait + Sync>(
     requires replicas { length session.now.replicas ≡ 2 }
     requires authors { length session.now.authors ≡ 2 }
 {
-    let edits = loaded(alloc, session)?.into_canonical();
-    let sources = vec![in alloc; edits, EditList::new(alloc)]?;
-    let opening = [State::Live, State::Live, State::Live];
-    let (board, mut seat) = Board::new(alloc, &opening, 4)?;
+    let sources = sources_of(alloc, session)?;
+    let states = [State::Live, State::Live, State::Live];
+    let (board, mut seat) = Board::new(alloc, &states, 4)?;
     let watch = board.split(&mut seat);
     cut_as::<Brand, R>(rt, alloc, session, &sources, &board, seat, watch)
 }
@@ -458,21 +498,25 @@ fn is_cut(journal: &Journal<Counter>, index: usize, counter: u64) -> bool {
     }
 }
 
+// Whether both cuts stand one behind the other, in a journal of four entries.
+fn are_cuts_together(journals: &[Journal<Counter>]) -> bool {
+    let [journal, _] = journals else {
+        return false;
+    };
+    // Author 2's entry is before the three of author 1, or behind them.
+    let first = if is_cut(journal, 0, 4) { 0 } else { 1 };
+    journal.len() == 4
+        && is_cut(journal, first, 4)
+        && is_cut(journal, first + 1, 6)
+        && shown(journals, 0, Actor::Author(1), 0) == Some((4, 0))
+        && shown(journals, 0, Actor::Author(1), 1) == Some((6, 0))
+}
+
 #[test]
 fn cut_before_turn(rt: HostRuntime) -> Result<(), Fail> {
-    let Ok(session) = read_session(rt.alloc(), CUTTING) else {
-        return Err(Fail::from("a session"));
-    };
-    if session.replicas.len() != 2 || session.authors.len() != 2 {
-        return Err(Fail::from("two replicas and two authors"));
-    }
+    let session = session_of(rt.alloc(), CUTTING)?;
     let (journals, started) = cut(&rt, rt.alloc(), &session)?;
     assert!(rt; started == 0b1110);
-    assert!(rt; journals.len() == 2 && journals[0].len() == 4);
-    // Author 2's entry is before the three of author 1, or behind them.
-    let first = if is_cut(&journals[0], 0, 4) { 0 } else { 1 };
-    assert!(rt; is_cut(&journals[0], first, 4) && is_cut(&journals[0], first + 1, 6));
-    assert!(rt; shown(&journals, 0, Actor::Author(1), 0) == Some((4, 0)));
-    assert!(rt; shown(&journals, 0, Actor::Author(1), 1) == Some((6, 0)));
+    assert!(rt; are_cuts_together(&journals));
     Ok(())
 }
