@@ -17,7 +17,7 @@ use Rattle.session_run.specs.Asked.{IsLineNumber, IsNumberIn}
 use Rattle.session_run.specs.Run.{CanRun}
 use Rattle.session_run.proofs.OfSessions.{block_can_run, few_numbers, sends_counted}
 use Rattle.session_answers.specs.declared.running.Running.{Running}
-use Rattle.session_answers.specs.Numbers.{next_number, IsNumberOf}
+use Rattle.session_answers.specs.Numbers.{next_number, IsNumberInSession}
 use Rattle.session_answers.specs.Running.{IsBehind, HasLoaded, HasRunBlock, HasShown}
 use Rattle.session_answers.proofs.Behind.{load_behind, show_behind, block_behind}
 
@@ -79,7 +79,7 @@ module _ (session : Session) (index : ℕ) (old : Running) (is : IsSession sessi
       omega arith
 
   -- the numbers of a block's lines are those that they have in the session
-  pub block_numbers : (block : Block) → slice_get session.items index ≡ Some (item.Block block) → (author number : ℕ) → IsNumberIn session.authors old.calls.items block.lines author number → IsNumberOf session author number
+  pub block_numbers : (block : Block) → slice_get session.items index ≡ Some (item.Block block) → (author number : ℕ) → IsNumberIn session.authors old.calls.items block.lines author number → IsNumberInSession session author number
   block_numbers block at author number n =
       let before = take index session.items in
       let parts = parted session.items index (item.Block block) at in

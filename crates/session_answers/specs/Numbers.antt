@@ -21,7 +21,7 @@ abbrev pub next_number : List Item → ℕ → ℕ
 next_number before author = sum_by (lines_by author) before + 1
 
 -- the number is that of a line of the author in the session
-pub record IsNumberOf (session : Session) (author number : ℕ) : Type 0 where
+pub record IsNumberInSession (session : Session) (author number : ℕ) : Type 0 where
   pub before : List Item
   pub block : Block
   pub after : List Item

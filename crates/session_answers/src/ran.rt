@@ -2,7 +2,7 @@ ghost use Rattle.std.specs.Prelude.{ℕ, IfOk};
 ghost use Rattle.session_script.specs.Session.{IsSession};
 ghost use Rattle.session_report.specs.Legal.{AreLegal};
 ghost use Rattle.session_report.specs.Report.{IsReport};
-ghost use Rattle.session_answers.specs.Numbers.{IsNumberOf};
+ghost use Rattle.session_answers.specs.Numbers.{IsNumberInSession};
 ghost use Rattle.session_answers.specs.Running.{IsBehind};
 
 use crate::running::Running;
@@ -34,7 +34,7 @@ pub fn run_session<R: Threads + Wait + Sync, G: Gate>(
     gate: &G,
 ) -> Result<Ran, NoMemory>
     requires session { IsSession session.now }
-    requires asked { (author number : ℕ) → IsNumberOf session.now author number → G.may_ask gate.now author number }
+    requires asked { (author number : ℕ) → IsNumberInSession session.now author number → G.may_ask gate.now author number }
     ensures legal { IfOk result (λ ran. AreLegal session.now ran.journals) }
     ensures report { IfOk result (λ ran. IsReport session.now ran.journals ran.text.items) }
 {
@@ -51,7 +51,7 @@ pub(crate) fn run_items<R: Threads + Wait + Sync, G: Gate>(
     gate: &G,
 ) -> Result<Running, NoMemory>
     requires session { IsSession session.now }
-    requires asked { (author number : ℕ) → IsNumberOf session.now author number → G.may_ask gate.now author number }
+    requires asked { (author number : ℕ) → IsNumberInSession session.now author number → G.may_ask gate.now author number }
     ensures { IfOk result (IsBehind session.now session.now.items) }
 {
     let mut running = Running::new(alloc, seed, session)?;

@@ -3,7 +3,7 @@ ghost use Rattle.std.specs.List.{AllByRecursion, count_by};
 ghost use Rattle.session_script.specs.Session.{IsSession, is_send};
 ghost use Rattle.session_run.specs.Asked.{IsNumberIn};
 ghost use Rattle.session_run.specs.Run.{CanRun};
-ghost use Rattle.session_answers.specs.Numbers.{IsNumberOf};
+ghost use Rattle.session_answers.specs.Numbers.{IsNumberInSession};
 ghost use Rattle.session_answers.specs.Running.{IsBehind, HasLoaded, HasRunBlock, HasShown};
 
 use crate::block::run_on_boards;
@@ -67,7 +67,7 @@ impl Running {
         requires session { IsSession session.now }
         requires item { slice_get session.now.items index ≡ Some item.now }
         requires behind { IsBehind session.now (take index session.now.items) self }
-        requires asked { (author number : ℕ) → IsNumberOf session.now author number → G.may_ask gate.now author number }
+        requires asked { (author number : ℕ) → IsNumberInSession session.now author number → G.may_ask gate.now author number }
         ensures { IfOk result (IsBehind session.now (take (index + 1) session.now.items)) }
     {
         match item {
