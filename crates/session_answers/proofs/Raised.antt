@@ -156,7 +156,7 @@ cut_with opening _ slot has = absurd has
 acts_here : (declared : Declared) (replica slot : ℕ) (slots : List ℕ) → In slot (if declared.replica == replica then slots else []) → (declared ≡ record { author = declared.author; replica = replica }) × In slot slots
 acts_here declared replica slot slots has = by_test (declared.replica == replica) refl has where
   by_test : (b : Bool) → (declared.replica == replica) ≡ b → In slot (if b then slots else []) → (declared ≡ record { author = declared.author; replica = replica }) × In slot slots
-  by_test true is has = (ap (λ r. record { author = declared.author; replica = r }) (eqb-true declared.replica replica is), has)
+  by_test true is has = (ap {B = Declared} (λ (r : ℕ). record { author = declared.author; replica = r }) (eqb-true declared.replica replica is), has)
   by_test false is has = absurd has
 
 -- ---- what a cut does
@@ -176,7 +176,9 @@ deletes edit (x ∷ xs) (inl is) =
 deletes edit (x ∷ xs) (inr has) = with_one (edit_of Delete x) (deletes edit xs has) where
   with_one : (o : Option Edit) → IsAtMost Deleted (graph (as_edits (deletions xs)) (edit_edge edit)) → IsAtMost Deleted (graph (and_some o (as_edits (deletions xs))) (edit_edge edit))
   with_one None rest = rest
-  with_one (Some y) rest = at_most_then Deleted (graph (as_edits (deletions xs)) (edit_edge edit)) _ rest (at_most_other _ (graph (as_edits (deletions xs)) (edit_edge edit)))
+  with_one (Some y) rest =
+      at_most_then Deleted (graph (as_edits (deletions xs)) (edit_edge edit)) (graph (y ∷ as_edits (deletions xs)) (edit_edge edit)) rest
+      (at_most_other (if is_same_edge (edit_edge y) (edit_edge edit) then state_of (edit_kind y) else Absent) (graph (as_edits (deletions xs)) (edit_edge edit)))
 
 -- a cut of a name that opening edges have deletes these
 cut_edits : (lists : GraphLists) (opening : List Edge) (author : ℕ) (name : Name) (e : Edge) → In e (edges_named name opening) → (plan lists opening author (Cut name)).edits ≡ deletions (edges_named name opening)
@@ -250,7 +252,8 @@ asked_had (x ∷ xs) edit (inl is) =
     subst (λ y. IsAtMost (state_of (edit_kind edit)) (graph (y ∷ xs) (edit_edge edit))) is
     (subst (λ s. IsAtMost (state_of (edit_kind edit)) (state_join s (graph xs (edit_edge edit)))) (sym own) (at_most_join (state_of (edit_kind edit)) (graph xs (edit_edge edit))))
 asked_had (x ∷ xs) edit (inr has) =
-    at_most_then (state_of (edit_kind edit)) (graph xs (edit_edge edit)) (graph (x ∷ xs) (edit_edge edit)) (asked_had xs edit has) (at_most_other _ (graph xs (edit_edge edit)))
+    at_most_then (state_of (edit_kind edit)) (graph xs (edit_edge edit)) (graph (x ∷ xs) (edit_edge edit)) (asked_had xs edit has)
+    (at_most_other (if is_same_edge (edit_edge x) (edit_edge edit) then state_of (edit_kind x) else Absent) (graph xs (edit_edge edit)))
 
 module _ (session : Session) (block : Block) (first_send : ℕ) (firsts : List Content) (journals : List (Entries Content)) (lasts : List Content) (is : IsSession session)
     (run : HaveRun session block first_send firsts journals lasts) (number : ℕ) (first last : Content) (is_first : slice_get firsts number ≡ Some first) (is_last : slice_get lasts number ≡ Some last)
