@@ -6,11 +6,11 @@ ghost use Rattle.author_desk.specs.Lines.{slots_cut};
 ghost use Rattle.author_desk.specs.Turns.{commands_of, EntersLines, EntersFirstLines};
 ghost use Rattle.author_desk.specs.Cuts.{opening_edits, CanRaise, Raises, RaisesFirst, KeepsSeat};
 
+use crate::asked::Asked;
 use crate::cuts::Cuts;
 use crate::entering::enter;
 use crate::starting::start_turn;
 use grove_edits::{Action, Command};
-use grove_io::Gate;
 use shared_replica::{Machine, Pass, Shared};
 use std::alloc::Global;
 use std::sync::Wait;
@@ -23,7 +23,7 @@ use text_parts::NoMemory;
 /// A line that cuts opening edges raises the slots of these edges as it starts, and waits, without memory or a turn. The next other
 /// line enters those that wait and then itself in one turn, and so does the end those that are left. Every other line takes a
 /// turn of its own, a cut that names no opening edge too.
-pub fn run_lines<R: Wait, M: Machine<Command = Command>, G: Gate>(
+pub fn run_lines<R: Wait, M: Machine<Command = Command>, G: Asked>(
     rt: &R,
     alloc: Global,
     shared: &Shared<M>,

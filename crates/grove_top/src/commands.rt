@@ -1,4 +1,4 @@
-ghost use Rattle.std.specs.Prelude.{◌≡◌, ℕ, ◌≤◌, ◌++◌, length, IfOk, IfErr};
+ghost use Rattle.std.specs.Prelude.{◌≡◌, ◌≤◌, ◌++◌, length, IfOk, IfErr};
 ghost use Rattle.grove_edits.specs.Graph.{graph, Ascends};
 ghost use Rattle.edit_text.specs.Whole.{HasWholeFault, header};
 ghost use Rattle.grove_answers.specs.Texts.{IsPrintText, IsCheckText};
@@ -60,7 +60,6 @@ pub(crate) fn form_threaded<R: Threads + Wait + Sync, G: Gate>(
 ) -> Result<Formed<JournalList<Replica>>, Refusal>
     requires short { length text.now ≤ most_bytes }
     requires asked { IsAsked top_rules command }
-    requires gate { (author number : ℕ) → G.may_ask gate.now author number }
     ensures answered { IfOk result (λ formed. IsAnswerTo command text.now formed.handed formed.text.items) }
     ensures refused { IfErr result (IsRefusal top_rules command text.now) }
 {
@@ -79,7 +78,6 @@ fn form_report<R: Threads + Wait + Sync, G: Gate>(
     text: &[u8],
     gate: &G,
 ) -> Result<Formed<JournalList<Replica>>, Refusal>
-    requires gate { (author number : ℕ) → G.may_ask gate.now author number }
     ensures answered { IfOk result (λ formed. IsReported text.now formed.handed formed.text.items) }
     ensures refused { IfErr result (IsRefusal top_rules Run text.now) }
 {
@@ -94,8 +92,7 @@ fn report<R: Threads + Wait + Sync, G: Gate>(
     session: &Session,
     gate: &G,
 ) -> Result<Formed<JournalList<Replica>>, NoMemory>
-    requires session { IsSession session.now }
-    requires gate { (author number : ℕ) → G.may_ask gate.now author number }
+    requires { IsSession session.now }
     ensures legal { IfOk result (λ formed. AreLegal session.now formed.handed) }
     ensures report { IfOk result (λ formed. IsReport session.now formed.handed formed.text.items) }
 {
@@ -114,8 +111,7 @@ fn form_summary<R: Threads + Wait + Sync, G: Gate>(
     loads: u64,
     gate: &G,
 ) -> Result<Formed<JournalList<Replica>>, NoMemory>
-    requires few { loads ≤ most_loads }
-    requires gate { (author number : ℕ) → G.may_ask gate.now author number }
+    requires { loads ≤ most_loads }
     ensures { IfOk result (λ formed. IsSummarized loads formed.handed formed.text.items) }
 {
     let session = generate(alloc, loads)?;

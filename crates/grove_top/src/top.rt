@@ -1,4 +1,4 @@
-ghost use Rattle.std.specs.Prelude.{◌≡◌, ℕ, ◌≤◌, length, IfOk, IfErr};
+ghost use Rattle.std.specs.Prelude.{◌≡◌, ◌≤◌, length, IfOk, IfErr};
 ghost use Rattle.grove_calls.specs.Rules.{IsAsked};
 ghost use Rattle.grove_calls.specs.Due.{IsRefusal, most_bytes};
 ghost use Rattle.grove_calls.specs.Served.{IsServed};
@@ -25,8 +25,7 @@ use std::thread::Threads;
 /// The words are judged first, then the length of the input, then its text. A generated session reads nothing. The whole output is formed before anything
 /// is written. What is written is the same whatever the seed is: where nobody can choose the seed, nobody can write a text whose vertices,
 /// types and contexts are slow to look up. A read fault comes before `TooLong` and `Malformed`, and a write fault on their lines replaces them.
-/// The authors and the sends of a block are threads, and the gate says when the calls of authors may start. It is of a type whose gates may
-/// be asked for any call, as they may where the type says nothing else.
+/// The authors and the sends of a block are threads, and the gate says when the calls of authors may start.
 pub fn run<R: Threads + Wait + Sync, S: Source, K: Sink, G: Gate>(
     rt: &R,
     alloc: Global,
@@ -36,7 +35,6 @@ pub fn run<R: Threads + Wait + Sync, S: Source, K: Sink, G: Gate>(
     sink: &mut K,
     gate: &G,
 ) -> Outcome
-    requires gate { (any : G) (author number : ℕ) → G.may_ask any author number }
     ensures { IsServed top_rules words.now
         (record { left = S.left source.old; read_faults = S.faults source.old; taken = K.taken sink.old; write_faults = K.faults sink.old })
         (record { left = S.left source.new; read_faults = S.faults source.new; taken = K.taken sink.new; write_faults = K.faults sink.new })
@@ -48,7 +46,6 @@ pub fn run<R: Threads + Wait + Sync, S: Source, K: Sink, G: Gate>(
     >
         requires short { length text.now ≤ most_bytes }
         requires asked { IsAsked top_rules command }
-        requires gate { (any : G) (author number : ℕ) → G.may_ask any author number }
         ensures answered { IfOk result (λ formed. IsAnswerTo command text.now formed.handed formed.text.items) }
         ensures refused { IfErr result (IsRefusal top_rules command text.now) }
     { form_threaded(rt, alloc, seed, command, text, gate) };

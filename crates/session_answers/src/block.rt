@@ -9,9 +9,9 @@ ghost use Rattle.session_answers.specs.Boards.{AreHeld, states_in};
 ghost use Rattle.session_answers.specs.Running.{sources_of, HaveRun};
 
 use crate::boards::{boards_of, close_all, cuts_on, seats_of};
+use author_desk::Asked;
 use edge_lattice::State;
 use grove_edits::EditList;
-use grove_io::Gate;
 use replica_core::Replica;
 use session_run::run_block;
 use session_script::{Block, Session};
@@ -23,7 +23,7 @@ use text_parts::NoMemory;
 
 /// Runs a block on replicas that have opened it with these lists. Their boards last as long as the block. Answers the replicas, their
 /// journals, and what their boards held as they were closed behind the block.
-pub(crate) fn run_on_boards<R: Threads + Wait + Sync, G: Gate>(
+pub(crate) fn run_on_boards<R: Threads + Wait + Sync, G: Asked>(
     rt: &R,
     alloc: Global,
     replicas: Vec<Replica>,

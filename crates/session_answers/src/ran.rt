@@ -6,6 +6,7 @@ ghost use Rattle.session_answers.specs.Numbers.{IsNumberInSession};
 ghost use Rattle.session_answers.specs.Running.{IsBehind};
 
 use crate::running::Running;
+use author_desk::Asked;
 use grove_io::Gate;
 use replica_core::Replica;
 use seeded_hash::HashSeed;
@@ -24,8 +25,7 @@ pub struct Ran {
 }
 
 /// Runs a session: its items one after the other, on replicas that are empty as it begins. What they look up they find by hashes
-/// under a seed, and what the session leaves is the same whatever the seed is. The gate says when the calls of authors may start, and is asked for the numbers
-/// that their lines have in the session, and for no others.
+/// under a seed, and what the session leaves is the same whatever the seed is. The gate says when the calls of authors may start.
 pub fn run_session<R: Threads + Wait + Sync, G: Gate>(
     rt: &R,
     alloc: Global,
@@ -33,8 +33,7 @@ pub fn run_session<R: Threads + Wait + Sync, G: Gate>(
     session: &Session,
     gate: &G,
 ) -> Result<Ran, NoMemory>
-    requires session { IsSession session.now }
-    requires asked { (author number : ℕ) → IsNumberInSession session.now author number → G.may_ask gate.now author number }
+    requires { IsSession session.now }
     ensures legal { IfOk result (λ ran. AreLegal session.now ran.journals) }
     ensures report { IfOk result (λ ran. IsReport session.now ran.journals ran.text.items) }
 {
@@ -42,8 +41,9 @@ pub fn run_session<R: Threads + Wait + Sync, G: Gate>(
     Ok(Ran { text, journals })
 }
 
-/// Runs the items of a session, one after the other.
-pub(crate) fn run_items<R: Threads + Wait + Sync, G: Gate>(
+/// Runs the items of a session, one after the other. The gate is asked for the numbers that the lines of authors have in the session, and
+/// for no others.
+pub(crate) fn run_items<R: Threads + Wait + Sync, G: Asked>(
     rt: &R,
     alloc: Global,
     seed: HashSeed,

@@ -10,8 +10,8 @@ use crate::block::run_on_boards;
 use crate::counting::{can_number, count_lines, first_numbers};
 use crate::replicas::{append_journals, apply, empty_replicas, open_block_on_each};
 use crate::showing::append_sections;
+use author_desk::Asked;
 use grove_edits::Edit;
-use grove_io::Gate;
 use replica_core::Replica;
 use seeded_hash::HashSeed;
 use session_report::{JournalList, append_block, append_show_heading};
@@ -55,7 +55,7 @@ impl Running {
     }
 
     /// Runs the item at an index, once those before it are over.
-    pub(crate) fn run_item<R: Threads + Wait + Sync, G: Gate>(
+    pub(crate) fn run_item<R: Threads + Wait + Sync, G: Asked>(
         self,
         rt: &R,
         alloc: Global,
@@ -85,7 +85,7 @@ impl Running {
         Ok(self)
     }
 
-    fn run_block<R: Threads + Wait + Sync, G: Gate>(
+    fn run_block<R: Threads + Wait + Sync, G: Asked>(
         self,
         rt: &R,
         alloc: Global,

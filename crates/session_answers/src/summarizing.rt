@@ -5,7 +5,6 @@ ghost use Rattle.grove_answers.specs.Texts.{IsPrintText};
 ghost use Rattle.session_script.specs.Session.{IsSession};
 ghost use Rattle.session_report.specs.Legal.{AreLegal};
 ghost use Rattle.session_report.specs.Summary.{IsSummary, is_load, live_count, deleted_count};
-ghost use Rattle.session_answers.specs.Numbers.{IsNumberInSession};
 ghost use Rattle.session_answers.specs.Summarizing.{SummarizesReplicas, PrintAlike};
 
 use crate::ran::{Ran, run_items};
@@ -31,8 +30,7 @@ pub fn summarize_session<R: Threads + Wait + Sync, G: Gate>(
     session: &Session,
     gate: &G,
 ) -> Result<Ran, NoMemory>
-    requires session { IsSession session.now }
-    requires asked { (author number : ℕ) → IsNumberInSession session.now author number → G.may_ask gate.now author number }
+    requires { IsSession session.now }
     ensures legal { IfOk result (λ ran. AreLegal session.now ran.journals) }
     ensures summary { IfOk result (λ ran. IsSummary session.now ran.journals ran.text.items) }
 {

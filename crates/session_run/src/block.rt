@@ -17,9 +17,8 @@ ghost use Rattle.session_run.specs.Workers.{AsksAmong};
 use crate::author_lines::{AuthorLines, lines_by_author, sends_in};
 use crate::listing::{append_authors, append_sends};
 use crate::together::run_together;
-use author_desk::Cuts;
+use author_desk::{Asked, Cuts};
 use grove_edits::{Answer, Command, EditList};
-use grove_io::Gate;
 use session_script::{AuthorList, Block, SendLine};
 use shared_replica::{Journal, Machine};
 use std::alloc::Global;
@@ -48,7 +47,7 @@ pub struct Plan<'a> {
 ///
 /// Each replica has cuts, made on the edges that it opens with: its authors raise the slots of those that they cut, each through a part
 /// of the seat at the board, which comes back whole.
-pub fn run_block<R: Threads + Wait + Sync, M: Machine<Command = Command, Reply = Answer>, G: Gate>(
+pub fn run_block<R: Threads + Wait + Sync, M: Machine<Command = Command, Reply = Answer>, G: Asked>(
     rt: &R,
     alloc: Global,
     machines: Vec<M>,
@@ -103,7 +102,7 @@ pub fn run_block<R: Threads + Wait + Sync, M: Machine<Command = Command, Reply =
 }
 
 // Runs a plan on replicas, each in a thread of its own, and fills an empty list with their journals. The cuts come back in their order.
-fn run_replicas<'a, R: Threads + Wait + Sync, M: Machine<Command = Command>, G: Gate>(
+fn run_replicas<'a, R: Threads + Wait + Sync, M: Machine<Command = Command>, G: Asked>(
     rt: &R,
     alloc: Global,
     mut machines: Vec<M>,
@@ -164,7 +163,7 @@ fn with_replica<M: Machine<Command = Command>>(
 }
 
 // Runs a plan on one replica.
-fn run_at<R: Threads + Wait + Sync, M: Machine<Command = Command>, G: Gate>(
+fn run_at<R: Threads + Wait + Sync, M: Machine<Command = Command>, G: Asked>(
     rt: &R,
     alloc: Global,
     machine: M,

@@ -8,9 +8,8 @@ ghost use Rattle.session_run.specs.Passes.{HasWorked, HaveWorked, StandsIn, IsJo
 
 use crate::worker::{Worker, all_calls};
 use crate::working::run_worker;
-use author_desk::Cuts;
+use author_desk::{Asked, Cuts};
 use grove_edits::Command;
-use grove_io::Gate;
 use shared_replica::{Journal, Machine, Pass, Shared};
 use std::alloc::Global;
 use std::mem;
@@ -20,7 +19,7 @@ use text_parts::NoMemory;
 
 /// Lets the workers call a machine at once, and gives it back with its journal. The authors among them raise what they cut by parts of
 /// the seat of the cuts, which comes back whole.
-pub fn run_together<R: Threads + Wait + Sync, M: Machine<Command = Command>, G: Gate>(
+pub fn run_together<R: Threads + Wait + Sync, M: Machine<Command = Command>, G: Asked>(
     rt: &R,
     alloc: Global,
     machine: M,
@@ -50,7 +49,7 @@ pub fn run_together<R: Threads + Wait + Sync, M: Machine<Command = Command>, G: 
 
 // Lets each worker make its calls in a thread of its own, and gives the pass and the cuts back with what theirs had. Where memory runs
 // out for one, the others go on.
-fn run_workers<'a, R: Threads + Wait + Sync, M: Machine<Command = Command>, G: Gate>(
+fn run_workers<'a, R: Threads + Wait + Sync, M: Machine<Command = Command>, G: Asked>(
     rt: &R,
     alloc: Global,
     shared: &Shared<M>,

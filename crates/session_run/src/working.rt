@@ -13,9 +13,8 @@ ghost use Rattle.session_run.specs.Workers.{actor_of, calls_of, CanWork, WorkerA
 ghost use Rattle.session_run.specs.Passes.{Makes, HasWorked};
 
 use crate::worker::Worker;
-use author_desk::{Cuts, run_lines};
+use author_desk::{Asked, Cuts, run_lines};
 use grove_edits::{Bytes, Command, EditList};
-use grove_io::Gate;
 use replica_exchange::{PieceList, TakeFault, Taker};
 use shared_replica::{Machine, Pass, Shared};
 use std::alloc::Global;
@@ -23,7 +22,7 @@ use std::sync::Wait;
 use text_parts::NoMemory;
 
 /// Lets a worker make its calls. It ends where memory runs out.
-pub fn run_worker<R: Wait, M: Machine<Command = Command>, G: Gate>(
+pub fn run_worker<R: Wait, M: Machine<Command = Command>, G: Asked>(
     rt: &R,
     alloc: Global,
     shared: &Shared<M>,

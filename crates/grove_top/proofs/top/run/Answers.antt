@@ -13,10 +13,10 @@ status_of-requires g c =
     (served_where_known top_rules _ c.args.words.now _ _ _ _ _ c.serve-ending.result.1 c.serve-ending.result.0
     (c.serve-ending.ensures c.args.words.now
     (for_where_known top_rules _ (λ form. form.command) c.threaded_form-form.result c.args.words.now c.threaded_form-form.ensures (
-      λ f alloc command text short asked. (short, (asked, (c.requires.gate, (record { shared = c.type_bounds.sync-R.shared }, record { shared = c.type_bounds.sync-G.shared })))),
+      λ f alloc command text short asked. (short, (asked, (record { shared = c.type_bounds.sync-R.shared }, record { shared = c.type_bounds.sync-G.shared }))),
       λ f alloc command text result made. made.2,
     ))) (
-      λ f alloc command text short asked. (short, (asked, (c.requires.gate, (record { shared = c.type_bounds.sync-R.shared }, record { shared = c.type_bounds.sync-G.shared })))),
+      λ f alloc command text short asked. (short, (asked, (record { shared = c.type_bounds.sync-R.shared }, record { shared = c.type_bounds.sync-G.shared }))),
       λ f alloc command text result made. made.2,
     )).meets
 
@@ -26,9 +26,9 @@ returns g c =
     (served_where_known top_rules _ c.args.words.now _ _ _ _ _ c.serve-ending.result.1 c.serve-ending.result.0
     (c.serve-ending.ensures c.args.words.now
     (for_where_known top_rules _ (λ form. form.command) c.threaded_form-form.result c.args.words.now c.threaded_form-form.ensures (
-      λ f alloc command text short asked. (short, (asked, (c.requires.gate, (record { shared = c.type_bounds.sync-R.shared }, record { shared = c.type_bounds.sync-G.shared })))),
+      λ f alloc command text short asked. (short, (asked, (record { shared = c.type_bounds.sync-R.shared }, record { shared = c.type_bounds.sync-G.shared }))),
       λ f alloc command text result made. made.2,
     ))) (
-      λ f alloc command text short asked. (short, (asked, (c.requires.gate, (record { shared = c.type_bounds.sync-R.shared }, record { shared = c.type_bounds.sync-G.shared })))),
+      λ f alloc command text short asked. (short, (asked, (record { shared = c.type_bounds.sync-R.shared }, record { shared = c.type_bounds.sync-G.shared }))),
       λ f alloc command text result made. made.2,
     ))

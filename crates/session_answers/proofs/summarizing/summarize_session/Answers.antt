@@ -6,7 +6,7 @@ use Rattle.session_answers.proofs.Summed.{summarized}
 use Rattle.session_answers.proofs.summarizing.summarize_session.Goals as goal
 
 pub summary_of-requires : goal.summary_of-requires
-summary_of-requires g c = omega (arith, c.in_ok-running.ensures.replicas.all, c.requires.session.some_replica)
+summary_of-requires g c = omega (arith, c.in_ok-running.ensures.replicas.all, c.requires.some_replica)
 
 pub returns-clause-summary : goal.returns-clause-summary
 returns-clause-summary g c =
