@@ -1,4 +1,4 @@
-ghost use Rattle.std.specs.Prelude.{ℕ, ◌+◌, ◌%◌, ◌^◌};
+ghost use Rattle.std.specs.Prelude.{◌+◌, ◌%◌, ◌^◌};
 ghost use Rattle.grove_edits.specs.declared.answer.Answer.TheVariants.{Done};
 
 use author_desk::{Cuts, run_lines};
@@ -124,9 +124,7 @@ fn left_by<R: Wait, G: Gate>(
     opening: EditList,
     lines: &[Action],
     gate: &G,
-) -> Option<(Journal<Counter>, Vec<State>)>
-    requires { (author number : ℕ) → G.may_ask gate.now author number }
-{
+) -> Option<(Journal<Counter>, Vec<State>)> {
     let opening = opening.into_canonical();
     if opening.is_empty() {
         return None;

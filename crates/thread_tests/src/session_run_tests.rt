@@ -1,4 +1,4 @@
-ghost use Rattle.std.specs.Prelude.{◌≡◌, ℕ, ◌+◌, ◌%◌, ◌^◌, ◌<◌, [], ◌∷◌, length, map, IfOk};
+ghost use Rattle.std.specs.Prelude.{◌≡◌, ◌+◌, ◌%◌, ◌^◌, ◌<◌, [], ◌∷◌, length, map, IfOk};
 ghost use Rattle.std.specs.List.{AllByRecursion};
 ghost use Rattle.grove_edits.specs.declared.answer.Answer.TheVariants.{Done};
 ghost use Rattle.grove_edits.specs.Graph.{Ascends};
@@ -119,7 +119,6 @@ fn journals_of<R: Threads + Wait + Sync, M: Machine<Command = Command, Reply = A
     requires cuts { length cuts.old.items ≡ 2 }
     requires openings { map opening_edits cuts.old.items ≡ sources.now }
     requires boards { AllByRecursion (λ own. CanRaise own × HasPartsFor 2 own) cuts.old.items }
-    requires gate { (author number : ℕ) → G.may_ask gate.now author number }
 {
     let Some(Item::Block(block)) = session.items.get(0) else {
         return Err(Fail::from("a block"));
@@ -188,7 +187,6 @@ fn journals_at<R: Threads + Wait + Sync, M: Machine<Command = Command, Reply = A
     requires machines { length machines.items ≡ 2 }
     requires two { (length session.now.replicas ≡ 2) × (length session.now.authors ≡ 2) }
     requires sources { AllByRecursion Ascends sources.now × (length sources.now ≡ 2) }
-    requires gate { (author number : ℕ) → G.may_ask gate.now author number }
 {
     let (board, seat) = Board::new(alloc, &states, 3)?;
     let mut cuts = cuts_at(alloc, sources, &board, seat)?;
