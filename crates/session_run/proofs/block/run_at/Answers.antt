@@ -24,7 +24,7 @@ pub run_together-requires-clause-asked : goal.run_together-requires-clause-asked
 run_together-requires-clause-asked g c κs within =
     let authors = c.in_ok-append_authors.ensures in
     let sends = c.in_ok-append_sends.ensures in
-    workers_ask (g.G.Gate.may_ask c.args.gate.now) c.args.plan.now c.args.replica authors.0 sends.0 c.deref.result.now c.requires.asked authors.1 sends.1
+    workers_ask (g.G.Asked.may_ask c.args.gate.now) c.args.plan.now c.args.replica authors.0 sends.0 c.deref.result.now c.requires.asked authors.1 sends.1
     (c.deref.ensures.value ∙ sends.2 ∙ ap (λ (ws : List Worker). ws ++ sends.0) (authors.2 ∙ ap (λ (ws : List Worker). ws ++ authors.0) c.new-workers.ensures.items))
 
 pub returns : goal.returns

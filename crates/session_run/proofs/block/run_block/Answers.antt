@@ -28,7 +28,7 @@ run_replicas-own-requires-clause-asked g c κs within =
     let authors = c.args.authors.now in
     let lines = c.args.block.now.lines in
     let are = lines_told authors lines c.as_slice-lines.result.now c.in_ok-by_author.by_author.items c.deref.result.now c.as_slice-lines.ensures c.deref.ensures.value c.in_ok-by_author.ensures.lines in
-    plan_asks (g.G.Gate.may_ask c.args.gate.now) lines authors c.args.first_calls.now c.deref.result.now are (ap first_calls_told c.deref.ensures.value ∙ c.in_ok-by_author.ensures.first_calls) c.requires.asked
+    plan_asks (g.G.Asked.may_ask c.args.gate.now) lines authors c.args.first_calls.now c.deref.result.now are (ap first_calls_told c.deref.ensures.value ∙ c.in_ok-by_author.ensures.first_calls) c.requires.asked
 
 pub returns-clause-each : goal.returns-clause-each
 returns-clause-each g c =
