@@ -4,4 +4,4 @@ use Rattle.retrying_program.proofs.taking.taken.Given as goal
 
 -- once the edits that are left are taken, all are
 abbrev pub invariant-loop-edit : goal.invariant-loop-edit
-invariant-loop-edit g l = with_taken (drop l.edit-index l.edits) l.marked ≡ with_taken l.edits no_edits
+invariant-loop-edit g l = with_taken (drop l.edit-index l.edits) l.replica ≡ with_taken l.edits no_edits
