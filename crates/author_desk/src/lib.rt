@@ -6,6 +6,7 @@
 //! Not promised: that a word is raised before the next line starts, and when a turn comes.
 #![tactic(auto)]
 
+mod asked;
 mod cuts;
 mod entering;
 mod laws;
@@ -13,6 +14,7 @@ mod lines;
 mod opening;
 mod starting;
 
+pub use asked::Asked;
 pub use cuts::Cuts;
 pub use laws::{each_turn_stands_together, turns_have_each_line_once};
 pub use lines::run_lines;

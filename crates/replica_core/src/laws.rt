@@ -3,6 +3,7 @@ ghost use Rattle.grove_edits.specs.declared.vertex.Vertex.{Vertex};
 ghost use Rattle.grove_edits.specs.declared.edge.Edge.{Edge};
 ghost use Rattle.grove_edits.specs.declared.edit.Edit.{Edit};
 ghost use Rattle.grove_edits.specs.declared.action.Action.{Action};
+ghost use Rattle.grove_edits.specs.declared.actor.Actor.{Actor};
 ghost use Rattle.grove_edits.specs.declared.actor.Actor.TheVariants.{Author};
 ghost use Rattle.grove_edits.specs.declared.answer.Answer.{Answer};
 ghost use Rattle.grove_edits.specs.declared.command.Command.{Command};
@@ -69,11 +70,12 @@ pub fn what_is_kept_follows_from_the_edits()
         → StandFor (graph (after_calls a no_edits).edits) m → StandFor (graph (after_calls b no_edits).edits) n → (v : Vertex) → records_in m v ≡ records_in n v }
 {}
 
-/// Law: an edit costs 64 for each unit of its size, and 64 more. Edits in turn cost the sum, and so do calls: as much as all their edits
-/// in turn, since a block that opens costs nothing.
+/// Law: an edit costs 64 for each unit of its size, and 64 more. A step that has no edits costs nothing. Edits in turn cost the sum, and so
+/// do calls: as much as all their edits in turn, since a block that opens costs nothing.
 pub fn an_edit_costs_by_its_size()
     ensures edit { (content : Content) (edit : Edit) (size : ℕ) → IsSize (edit_edge edit) (graph content.edits) (graph_join (graph content.edits) (graph (edit ∷ []))) size
         → edit_cost content edit ≡ 64 * size + 64 }
+    ensures nothing { (content : Content) (actor : Actor) (command : Command) → effect content actor command ≡ [] → edits_cost content (effect content actor command) ≡ 0 }
     ensures in_turn { (content : Content) (a b : List Edit) → edits_cost content (a ++ b) ≡ edits_cost content a + edits_cost (with_taken a content) b }
     ensures calls { (content : Content) (calls : List Call) → calls_cost content calls ≡ edits_cost content (edits_of_calls calls) }
 {}

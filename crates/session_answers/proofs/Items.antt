@@ -4,16 +4,20 @@ use Rattle.std.specs.Prelude.{IfOk}
 use Rattle.std.specs.List.{AllByRecursion, count_by, sum_by}
 use Rattle.std.proofs.lemmas.List.{take_more}
 use Rattle.std.proofs.lemmas.List.Sums.{sum_by-cons, sum_by-append}
-use Rattle.std.proofs.lemmas.Option.{slice_get_within, get_or_from_slice_get}
+use Rattle.std.specs.Option.{option_map}
+use Rattle.std.proofs.lemmas.Option.{same_Some, slice_get_within, get_or_from_slice_get, slice_get-map}
 use Rattle.grove_edits.specs.declared.edit.Edit.{Edit}
+use Rattle.session_script.specs.declared.author.Declared.{Declared}
 use Rattle.session_script.specs.declared.item.Block.{Block}
 use Rattle.session_script.specs.declared.item.Item.{Item}
 use Rattle.session_script.specs.declared.item.Item.TheVariants as item
 use Rattle.session_script.specs.declared.session.Session.{Session}
 use Rattle.session_script.specs.Session.{IsSession, IsLine, IsItem, is_block, is_send, is_show}
+use Rattle.session_run.specs.Asked.{IsLineNumber, IsNumberIn}
 use Rattle.session_run.specs.Run.{CanRun}
 use Rattle.session_run.proofs.OfSessions.{block_can_run, few_numbers, sends_counted}
 use Rattle.session_answers.specs.declared.running.Running.{Running}
+use Rattle.session_answers.specs.Numbers.{next_number, IsNumberInSession}
 use Rattle.session_answers.specs.Running.{IsBehind, HasLoaded, HasRunBlock, HasShown}
 use Rattle.session_answers.proofs.Behind.{load_behind, show_behind, block_behind}
 
@@ -73,6 +77,24 @@ module _ (session : Session) (index : ℕ) (old : Running) (is : IsSession sessi
       let count = behind.sends in
       let own = sends_counted block.lines in
       omega arith
+
+  -- the numbers of a block's lines are those that they have in the session
+  pub block_numbers : (block : Block) → slice_get session.items index ≡ Some (item.Block block) → (author number : ℕ) → IsNumberIn session.authors old.calls.items block.lines author number → IsNumberInSession session author number
+  block_numbers block at author number n =
+      let before = take index session.items in
+      let parts = parted session.items index (item.Block block) at in
+      let next = λ (d : Declared). next_number before d.author in
+      let first : next n.declared ≡ n.first =
+      same_Some (next n.declared) n.first
+      (sym (ap (option_map next) n.is_declared) ∙ (sym (slice_get-map next session.authors n.place) ∙ (ap (λ ns. slice_get ns n.place) (sym behind.calls) ∙ n.is_first))) in
+      let own : next_number before author ≡ n.first = ap (next_number before) n.is_author ∙ first in
+      record {
+        before = before;
+        block = block;
+        after = parts.0;
+        is_block = parts.1;
+        is_line = subst (λ f. IsLineNumber author f block.lines number) (sym own) n.is_line;
+      }
 
   -- ---- one item more
 

@@ -12,5 +12,6 @@ pub mod OneActor
 pub mod OneCourse
 pub mod GeneratedAlone
 pub mod OnBoards
+pub mod Raised
 pub mod OneSize
 pub mod PrintTexts

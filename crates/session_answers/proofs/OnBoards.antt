@@ -179,7 +179,7 @@ length-all_held [] seats long = refl
 length-all_held (b ∷ bs) [] long = absurd (omega arith)
 length-all_held (b ∷ bs) (s ∷ ss) long = ap (λ n. suc n) (length-all_held bs ss (omega arith))
 
-found_at : {A : Type 0} (xs : List A) (k : ℕ) → k < length xs → (x : A) × (slice_get xs k ≡ Some x)
+pub found_at : {A : Type 0} (xs : List A) (k : ℕ) → k < length xs → (x : A) × (slice_get xs k ≡ Some x)
 found_at [] k within = absurd (omega arith)
 found_at (x ∷ xs) zero within = (x, refl)
 found_at (x ∷ xs) (suc k) within = found_at xs k (omega arith)

@@ -4,8 +4,8 @@ use Rattle.std.specs.Global.{Vec}
 use Rattle.std.specs.Option.{option_map}
 use Rattle.edge_lattice.specs.declared.state.State.{State}
 use Rattle.grove_edits.specs.declared.edit.Edit.{Edit}
-use Rattle.grove_edits.specs.Edit.{edit_kind}
-use Rattle.grove_edits.specs.Graph.{state_of}
+use Rattle.grove_edits.specs.Edit.{edit_edge, edit_kind}
+use Rattle.grove_edits.specs.Graph.{Graph, state_of}
 use Rattle.edge_board.specs.States.{raised}
 use Rattle.edge_board.specs.Seats.{BoardOf, BoardStanding}
 use Rattle.author_desk.specs.declared.cuts.Cuts.{Cuts}
@@ -73,3 +73,7 @@ pub record AreHeld (session : Session) (block : Block) (first_send : ℕ) (sourc
 -- the states of boards, wherever they are kept
 abbrev pub states_in : Option (Vec State) → Option (List State)
 states_in held = option_map (λ states. states.items) held
+
+-- what a graph has of the edges of some edits
+abbrev pub states_had : Graph → List Edit → List State
+states_had g edits = map (λ edit. g (edit_edge edit)) edits

@@ -1,16 +1,17 @@
 //! Runs a block of a session.
-ghost use Rattle.std.specs.Prelude.{◌≡◌, ◌+◌, ◌<◌, ◌^◌, length, map, IfOk};
+ghost use Rattle.std.specs.Prelude.{◌≡◌, ℕ, ◌+◌, ◌<◌, ◌^◌, length, map, IfOk};
 ghost use Rattle.std.specs.List.{AllByRecursion, count_by};
 ghost use Rattle.session_script.specs.Session.{IsSession, is_send};
 ghost use Rattle.grove_edits.specs.Graph.{Ascends};
+ghost use Rattle.session_run.specs.Asked.{IsNumberIn};
 ghost use Rattle.session_run.specs.Run.{CanRun};
 ghost use Rattle.session_answers.specs.Boards.{AreHeld, states_in};
 ghost use Rattle.session_answers.specs.Running.{sources_of, HaveRun};
 
 use crate::boards::{boards_of, close_all, cuts_on, seats_of};
+use author_desk::Asked;
 use edge_lattice::State;
 use grove_edits::EditList;
-use grove_io::Gate;
 use replica_core::Replica;
 use session_run::run_block;
 use session_script::{Block, Session};
@@ -22,7 +23,7 @@ use text_parts::NoMemory;
 
 /// Runs a block on replicas that have opened it with these lists. Their boards last as long as the block. Answers the replicas, their
 /// journals, and what their boards held as they were closed behind the block.
-pub(crate) fn run_on_boards<R: Threads + Wait + Sync, G: Gate>(
+pub(crate) fn run_on_boards<R: Threads + Wait + Sync, G: Asked>(
     rt: &R,
     alloc: Global,
     replicas: Vec<Replica>,
@@ -41,6 +42,7 @@ pub(crate) fn run_on_boards<R: Threads + Wait + Sync, G: Gate>(
     requires sends { first_send + count_by is_send block.now.lines < 2 ^ 32 }
     requires first_calls { length first_calls.now ≡ length session.now.authors }
     requires calls { AllByRecursion (λ first. first + length block.now.lines < 2 ^ 64) first_calls.now }
+    requires asked { (author number : ℕ) → IsNumberIn session.now.authors first_calls.now block.now.lines author number → G.may_ask gate.now author number }
     ensures ran { IfOk result (λ ran. HaveRun session.now block.now first_send replicas.items ran.1.items ran.0.items) }
     ensures closed { IfOk result (λ ran. AreHeld session.now block.now first_send sources.now (map states_in ran.2.items)) }
 {

@@ -12,7 +12,9 @@ mod running;
 mod showing;
 mod summarizing;
 
-pub use laws::{one_summary_of_each_size, without_meetings_there_is_one_course};
+pub use laws::{
+    one_summary_of_each_size, what_is_raised_is_deleted, without_meetings_there_is_one_course,
+};
 pub use ran::{Ran, run_session};
 pub use summarizing::summarize_session;
 pub use text_parts::NoMemory;

@@ -1,10 +1,12 @@
-ghost use Rattle.std.specs.Prelude.{IfOk};
+ghost use Rattle.std.specs.Prelude.{ℕ, IfOk};
 ghost use Rattle.session_script.specs.Session.{IsSession};
 ghost use Rattle.session_report.specs.Legal.{AreLegal};
 ghost use Rattle.session_report.specs.Report.{IsReport};
+ghost use Rattle.session_answers.specs.Numbers.{IsNumberInSession};
 ghost use Rattle.session_answers.specs.Running.{IsBehind};
 
 use crate::running::Running;
+use author_desk::Asked;
 use grove_io::Gate;
 use replica_core::Replica;
 use seeded_hash::HashSeed;
@@ -39,15 +41,17 @@ pub fn run_session<R: Threads + Wait + Sync, G: Gate>(
     Ok(Ran { text, journals })
 }
 
-/// Runs the items of a session, one after the other.
-pub(crate) fn run_items<R: Threads + Wait + Sync, G: Gate>(
+/// Runs the items of a session, one after the other. The gate is asked for the numbers that the lines of authors have in the session, and
+/// for no others.
+pub(crate) fn run_items<R: Threads + Wait + Sync, G: Asked>(
     rt: &R,
     alloc: Global,
     seed: HashSeed,
     session: &Session,
     gate: &G,
 ) -> Result<Running, NoMemory>
-    requires { IsSession session.now }
+    requires session { IsSession session.now }
+    requires asked { (author number : ℕ) → IsNumberInSession session.now author number → G.may_ask gate.now author number }
     ensures { IfOk result (IsBehind session.now session.now.items) }
 {
     let mut running = Running::new(alloc, seed, session)?;

@@ -1,15 +1,17 @@
-ghost use Rattle.std.specs.Prelude.{◌≡◌, ◌+◌, ◌<◌, ◌^◌, [], length, take, slice_get, Some, IfOk};
+ghost use Rattle.std.specs.Prelude.{◌≡◌, ℕ, ◌+◌, ◌<◌, ◌^◌, [], length, take, slice_get, Some, IfOk};
 ghost use Rattle.std.specs.List.{AllByRecursion, count_by};
 ghost use Rattle.session_script.specs.Session.{IsSession, is_send};
+ghost use Rattle.session_run.specs.Asked.{IsNumberIn};
 ghost use Rattle.session_run.specs.Run.{CanRun};
+ghost use Rattle.session_answers.specs.Numbers.{IsNumberInSession};
 ghost use Rattle.session_answers.specs.Running.{IsBehind, HasLoaded, HasRunBlock, HasShown};
 
 use crate::block::run_on_boards;
 use crate::counting::{can_number, count_lines, first_numbers};
 use crate::replicas::{append_journals, apply, empty_replicas, open_block_on_each};
 use crate::showing::append_sections;
+use author_desk::Asked;
 use grove_edits::Edit;
-use grove_io::Gate;
 use replica_core::Replica;
 use seeded_hash::HashSeed;
 use session_report::{JournalList, append_block, append_show_heading};
@@ -53,7 +55,7 @@ impl Running {
     }
 
     /// Runs the item at an index, once those before it are over.
-    pub(crate) fn run_item<R: Threads + Wait + Sync, G: Gate>(
+    pub(crate) fn run_item<R: Threads + Wait + Sync, G: Asked>(
         self,
         rt: &R,
         alloc: Global,
@@ -65,6 +67,7 @@ impl Running {
         requires session { IsSession session.now }
         requires item { slice_get session.now.items index ≡ Some item.now }
         requires behind { IsBehind session.now (take index session.now.items) self }
+        requires asked { (author number : ℕ) → IsNumberInSession session.now author number → G.may_ask gate.now author number }
         ensures { IfOk result (IsBehind session.now (take (index + 1) session.now.items)) }
     {
         match item {
@@ -82,7 +85,7 @@ impl Running {
         Ok(self)
     }
 
-    fn run_block<R: Threads + Wait + Sync, G: Gate>(
+    fn run_block<R: Threads + Wait + Sync, G: Asked>(
         self,
         rt: &R,
         alloc: Global,
@@ -94,6 +97,7 @@ impl Running {
         requires lines { AllByRecursion (CanRun session.now.authors (length session.now.replicas)) block.now.lines }
         requires replicas { length self.replicas.items ≡ length session.now.replicas }
         requires calls { length self.calls.items ≡ length session.now.authors }
+        requires asked { (author number : ℕ) → IsNumberIn session.now.authors self.calls.items block.now.lines author number → G.may_ask gate.now author number }
         requires few_blocks { self.blocks < 64 }
         requires few_sends { self.sends + 1 + count_by is_send block.now.lines < 2 ^ 32 }
         ensures { IfOk result (HasRunBlock session.now block.now self) }

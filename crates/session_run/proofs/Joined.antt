@@ -10,15 +10,15 @@ use Rattle.grove_edits.specs.declared.command.Command.{Command}
 use Rattle.shared_replica.specs.declared.journal.Entry.{Entry}
 use Rattle.shared_replica.specs.Passes.{Call, Passing, kept_pass, given_pass, joined_pass, all_made, calls_by, AreNamed, StandsOnce}
 use Rattle.session_run.specs.declared.worker.Worker.{Worker}
-use Rattle.session_run.specs.Workers.{actor_of, CanWork, AreCommandsOf}
+use Rattle.session_run.specs.Workers.{actor_of, AreCommandsOf}
 use Rattle.author_desk.specs.Turns.{commands_of}
 use Rattle.session_run.specs.Passes.{Makes, Keeps, HaveRun, IsJournalOf}
 
 -- ---- the last of some workers
 
-pub can_work_front : (front : List Worker) (last : Worker) → AllByRecursion CanWork (front ++ last ∷ []) → AllByRecursion CanWork front × CanWork last
-can_work_front [] last h = (tt, h.0)
-can_work_front (w ∷ front) last h = let more = can_work_front front last h.1 in ((h.0, more.0), more.1)
+pub all_front : (P : Worker → Type 0) (front : List Worker) (last : Worker) → AllByRecursion P (front ++ last ∷ []) → AllByRecursion P front × P last
+all_front P [] last h = (tt, h.0)
+all_front P (w ∷ front) last h = let more = all_front P front last h.1 in ((h.0, more.0), more.1)
 
 pub sum_of_front : (count : Worker → ℕ) (front : List Worker) (last : Worker) → sum_by count (front ++ last ∷ []) ≡ sum_by count front + count last
 sum_of_front count front last =

@@ -1,3 +1,4 @@
+pub mod Asked
 pub mod AtReplica
 pub mod Each
 pub mod Grouped

@@ -49,24 +49,32 @@ send_can_work : (sources : List (List Edit)) (number : ℕ) (send : SendLine) (o
 send_can_work sources number send (worker.Author mine) is = absurd is
 send_can_work sources number send (worker.Send mine pieces) is = (sent_edits send is.1.0, is.1.2.whole)
 
-authors_can_work : (replica : ℕ) (all : List AuthorLines) (workers : List Worker) → AllByRecursion HasNumbers all → AreForAuthors replica all workers → AllByRecursion CanWork workers
-authors_can_work replica [] workers fits are = subst (AllByRecursion CanWork) (sym are) tt
-authors_can_work replica (l ∷ all) workers fits (inl idle) = authors_can_work replica all workers fits.1 idle.1
-authors_can_work replica (l ∷ all) workers fits (inr works) =
-    subst (AllByRecursion CanWork) (sym works.5) (author_can_work l works.0 fits.0 works.3, authors_can_work replica all works.1 fits.1 works.4)
+-- what holds of each author's worker because of its lines, and of each `send` line's
+module _ (P : AuthorLines → Type 0) (Q : Worker → Type 0) (of_author : (lines : AuthorLines) (one : Worker) → P lines → IsAuthorWorker lines one → Q one)
+    (of_send : (sources : List (List Edit)) (number : ℕ) (send : SendLine) (one : Worker) → IsPieceWorker sources number send one → Q one) where
+  authors_have : (replica : ℕ) (all : List AuthorLines) (workers : List Worker) → AllByRecursion P all → AreForAuthors replica all workers → AllByRecursion Q workers
+  authors_have replica [] workers have are = subst (AllByRecursion Q) (sym are) tt
+  authors_have replica (l ∷ all) workers have (inl idle) = authors_have replica all workers have.1 idle.1
+  authors_have replica (l ∷ all) workers have (inr works) =
+      subst (AllByRecursion Q) (sym works.5) (of_author l works.0 have.0 works.3, authors_have replica all works.1 have.1 works.4)
 
-sends_can_work : (sources : List (List Edit)) (replica number : ℕ) (sends : List SendLine) (workers : List Worker) → AreForSends sources replica number sends workers → AllByRecursion CanWork workers
-sends_can_work sources replica number [] workers are = subst (AllByRecursion CanWork) (sym are) tt
-sends_can_work sources replica number (s ∷ sends) workers (inl away) = sends_can_work sources replica (number + 1) sends workers away.1
-sends_can_work sources replica number (s ∷ sends) workers (inr works) =
-    subst (AllByRecursion CanWork) (sym works.5) (send_can_work sources number s works.0 works.3, sends_can_work sources replica (number + 1) sends works.1 works.4)
+  sends_have : (sources : List (List Edit)) (replica number : ℕ) (sends : List SendLine) (workers : List Worker) → AreForSends sources replica number sends workers → AllByRecursion Q workers
+  sends_have sources replica number [] workers are = subst (AllByRecursion Q) (sym are) tt
+  sends_have sources replica number (s ∷ sends) workers (inl away) = sends_have sources replica (number + 1) sends workers away.1
+  sends_have sources replica number (s ∷ sends) workers (inr works) =
+      subst (AllByRecursion Q) (sym works.5) (of_send sources number s works.0 works.3, sends_have sources replica (number + 1) sends works.1 works.4)
+
+  pub workers_have : (plan : Plan) (replica : ℕ) (authors sends workers : List Worker) → AllByRecursion P plan.lines.now → AreForAuthors replica plan.lines.now authors
+      → AreForSends plan.sources.now replica plan.first_send plan.sends.now sends → workers ≡ authors ++ sends → AllByRecursion Q workers
+  workers_have plan replica authors sends workers have for_authors for_sends both =
+      subst (AllByRecursion Q) (sym both)
+      (all_both Q authors sends (authors_have replica plan.lines.now authors have for_authors)
+      (sends_have plan.sources.now replica plan.first_send plan.sends.now sends for_sends))
 
 pub can_work : (plan : Plan) (replica : ℕ) (authors sends workers : List Worker) → CanRunPlan plan → AreForAuthors replica plan.lines.now authors
     → AreForSends plan.sources.now replica plan.first_send plan.sends.now sends → workers ≡ authors ++ sends → AllByRecursion CanWork workers
 can_work plan replica authors sends workers can for_authors for_sends both =
-    subst (AllByRecursion CanWork) (sym both)
-    (all_both CanWork authors sends (authors_can_work replica plan.lines.now authors can.calls for_authors)
-    (sends_can_work plan.sources.now replica plan.first_send plan.sends.now sends for_sends))
+    workers_have HasNumbers CanWork author_can_work send_can_work plan replica authors sends workers can.calls for_authors for_sends both
 
 -- ---- the plan of a block
 

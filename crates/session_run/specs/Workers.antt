@@ -11,6 +11,7 @@ use Rattle.session_script.specs.declared.author.Declared.{Declared}
 use Rattle.session_script.specs.declared.line.Line.{Line}
 use Rattle.session_script.specs.declared.line.SendLine.{SendLine}
 use Rattle.replica_exchange.specs.Send.{sent_bytes, joined, ArePieces, edits_by_piece}
+use Rattle.author_desk.specs.Asks.{AllFrom}
 use Rattle.author_desk.specs.declared.cuts.Cuts.{Cuts}
 use Rattle.author_desk.specs.declared.cuts.Cuts.TheVariants.{Empty}
 use Rattle.author_desk.specs.Cuts.{HandsOver}
@@ -74,6 +75,15 @@ HandsTo (worker.Send number pieces) before after given = (after ≡ before) × (
 abbrev pub CanWork : Worker → Type 0
 CanWork (worker.Author lines) = HasNumbers lines.now
 CanWork (worker.Send number pieces) = (edits : List Edit) × (joined pieces ≡ text_of edits)
+
+-- the calls of an author's lines in the block are among these, by author and number
+abbrev pub AsksAmong : (ℕ → ℕ → Type 0) → AuthorLines → Type 0
+AsksAmong may lines = AllFrom (may lines.declared.author) lines.first_call (length lines.actions.items)
+
+-- a worker asks for these calls alone. The pieces of a `send` line wait for no gate
+abbrev pub WorkerAsksAmong : (ℕ → ℕ → Type 0) → Worker → Type 0
+WorkerAsksAmong may (worker.Author lines) = AsksAmong may lines.now
+WorkerAsksAmong may (worker.Send number pieces) = Unit {0}
 
 -- a worker's commands: the author's actions, or the pieces with their edits
 abbrev pub AreCommandsOf : Worker → List Command → Type 0

@@ -7,17 +7,18 @@ ghost use Rattle.shared_replica.specs.declared.journal.Entry.{Entry};
 ghost use Rattle.session_script.specs.Session.{AllDiffer, author_numbers};
 ghost use Rattle.author_desk.specs.declared.cuts.Cuts.{Cuts};
 ghost use Rattle.author_desk.specs.Cuts.{opening_edits, Raises, KeepsSeat};
+ghost use Rattle.session_run.specs.Asked.{IsNumberIn};
 ghost use Rattle.session_run.specs.Boards.{CanCutAt, slots_at, TurnsStand};
 ghost use Rattle.session_run.specs.Calls.{sends_of};
 ghost use Rattle.session_run.specs.Plans.{CanRunPlan, FitsPlan, EachFits, HasRunPlan, HaveRunPlan, AppendsReplica};
 ghost use Rattle.session_run.specs.Run.{IsPlaced, CanRun, HasRun};
+ghost use Rattle.session_run.specs.Workers.{AsksAmong};
 
 use crate::author_lines::{AuthorLines, lines_by_author, sends_in};
 use crate::listing::{append_authors, append_sends};
 use crate::together::run_together;
-use author_desk::Cuts;
+use author_desk::{Asked, Cuts};
 use grove_edits::{Answer, Command, EditList};
-use grove_io::Gate;
 use session_script::{AuthorList, Block, SendLine};
 use shared_replica::{Journal, Machine};
 use std::alloc::Global;
@@ -41,12 +42,12 @@ pub struct Plan<'a> {
 /// are at work at once. The sources are the canonical lists of the replicas as the block opens, and the first `send` line of the block
 /// has the given number. `first_calls` has for each declared author, in order, the number of its first line in this block, or of its
 /// next line, among all its lines in the session, counted from 1. The gate says when an author's calls may start, and changes nothing
-/// else. The machines come back with their journals, in the order in which they were handed in; where memory runs out for a worker,
+/// else. It is asked for the numbers that the authors' lines of this block have in the session, and for no others. The machines come back with their journals, in the order in which they were handed in; where memory runs out for a worker,
 /// the others go on to their ends, and none comes back.
 ///
 /// Each replica has cuts, made on the edges that it opens with: its authors raise the slots of those that they cut, each through a part
 /// of the seat at the board, which comes back whole.
-pub fn run_block<R: Threads + Wait + Sync, M: Machine<Command = Command, Reply = Answer>, G: Gate>(
+pub fn run_block<R: Threads + Wait + Sync, M: Machine<Command = Command, Reply = Answer>, G: Asked>(
     rt: &R,
     alloc: Global,
     machines: Vec<M>,
@@ -65,6 +66,7 @@ pub fn run_block<R: Threads + Wait + Sync, M: Machine<Command = Command, Reply =
     requires numbers { first_send + length (sends_of block.now.lines) < 2 ^ 32 }
     requires first_calls { length first_calls.now ≡ length authors.now }
     requires calls { AllByRecursion (λ first. first + length block.now.lines < 2 ^ 64) first_calls.now }
+    requires asked { (author number : ℕ) → IsNumberIn authors.now first_calls.now block.now.lines author number → G.may_ask gate.now author number }
     requires cuts { length cuts.old.items ≡ length machines.items }
     requires boards { (replica : ℕ) (own : Cuts) → slice_get cuts.old.items replica ≡ Some own
         → CanCutAt (record { authors = authors.now; lines = block.now.lines; first_send = first_send; sources = sources.now; replica = replica }) own }
@@ -100,7 +102,7 @@ pub fn run_block<R: Threads + Wait + Sync, M: Machine<Command = Command, Reply =
 }
 
 // Runs a plan on replicas, each in a thread of its own, and fills an empty list with their journals. The cuts come back in their order.
-fn run_replicas<'a, R: Threads + Wait + Sync, M: Machine<Command = Command>, G: Gate>(
+fn run_replicas<'a, R: Threads + Wait + Sync, M: Machine<Command = Command>, G: Asked>(
     rt: &R,
     alloc: Global,
     mut machines: Vec<M>,
@@ -113,6 +115,7 @@ fn run_replicas<'a, R: Threads + Wait + Sync, M: Machine<Command = Command>, G: 
     requires no_journal { journals.items ≡ [] }
     requires cuts { length cuts.items ≡ length machines.items }
     requires fit { EachFits plan.now cuts.items }
+    requires asked { AllByRecursion (AsksAmong (G.may_ask gate.now)) plan.now.lines.now }
     ensures run { HaveRunPlan M.after M.effect M.reply plan.now machines.items cuts.entry.items result.0.items result.1 }
     ensures room { vec_capacity result.0 ≡ vec_capacity cuts.entry }
 {
@@ -128,7 +131,7 @@ fn run_replicas<'a, R: Threads + Wait + Sync, M: Machine<Command = Command>, G: 
     let ((own, ran), (mut cuts, others)) = join(
         rt,
         move || -> (Cuts<'_>, Result<(M, Journal<M>), NoMemory>)
-            requires { CanRunPlan plan.now × FitsPlan plan.now replica own }
+            requires { CanRunPlan plan.now × FitsPlan plan.now replica own × AllByRecursion (AsksAmong (G.may_ask gate.now)) plan.now.lines.now }
             ensures { HasRunPlan M.after M.effect M.reply plan.entry.now replica machine own.entry result.0 result.1 }
         {
             let _leaves = leaves;
@@ -137,7 +140,7 @@ fn run_replicas<'a, R: Threads + Wait + Sync, M: Machine<Command = Command>, G: 
             (own, ran)
         },
         || -> (Vec<Cuts<'_>>, Result<(Vec<M>, Vec<Journal<M>>), NoMemory>)
-            requires { CanRunPlan plan.now × (journals.items ≡ []) × (length cuts.items ≡ length machines.items) × EachFits plan.now cuts.items }
+            requires { CanRunPlan plan.now × (journals.items ≡ []) × (length cuts.items ≡ length machines.items) × EachFits plan.now cuts.items × AllByRecursion (AsksAmong (G.may_ask gate.now)) plan.now.lines.now }
             ensures { HaveRunPlan M.after M.effect M.reply plan.entry.now machines.items cuts.entry.items result.0.items result.1 × (vec_capacity result.0 ≡ vec_capacity cuts.entry) }
         { run_replicas(rt, alloc, machines, journals, cuts, plan, gate) },
     );
@@ -160,7 +163,7 @@ fn with_replica<M: Machine<Command = Command>>(
 }
 
 // Runs a plan on one replica.
-fn run_at<R: Threads + Wait + Sync, M: Machine<Command = Command>, G: Gate>(
+fn run_at<R: Threads + Wait + Sync, M: Machine<Command = Command>, G: Asked>(
     rt: &R,
     alloc: Global,
     machine: M,
@@ -171,6 +174,7 @@ fn run_at<R: Threads + Wait + Sync, M: Machine<Command = Command>, G: Gate>(
 ) -> Result<(M, Journal<M>), NoMemory>
     requires plan { CanRunPlan plan.now }
     requires fits { FitsPlan plan.now replica cuts.old }
+    requires asked { AllByRecursion (AsksAmong (G.may_ask gate.now)) plan.now.lines.now }
     ensures { HasRunPlan M.after M.effect M.reply plan.now replica machine cuts.old cuts.new result }
 {
     let mut workers = Vec::new(alloc);

@@ -3,14 +3,13 @@ ghost use Rattle.std.specs.Prelude.{◌≡◌, ◌≤◌, ◌<◌, length, sum_b
 ghost use Rattle.std.specs.List.{AllByRecursion, flat_map};
 ghost use Rattle.author_desk.specs.Cuts.{opening_edits, CanRaise, HasPartsFor, Raises, KeepsSeat};
 ghost use Rattle.shared_replica.specs.Solos.{Replays};
-ghost use Rattle.session_run.specs.Workers.{actor_of, calls_of, seats_of, slots_of, CanWork, HandsTo};
+ghost use Rattle.session_run.specs.Workers.{actor_of, calls_of, seats_of, slots_of, CanWork, HandsTo, WorkerAsksAmong};
 ghost use Rattle.session_run.specs.Passes.{HasWorked, HaveWorked, StandsIn, IsJournalOf};
 
 use crate::worker::{Worker, all_calls};
 use crate::working::run_worker;
-use author_desk::Cuts;
+use author_desk::{Asked, Cuts};
 use grove_edits::Command;
-use grove_io::Gate;
 use shared_replica::{Journal, Machine, Pass, Shared};
 use std::alloc::Global;
 use std::mem;
@@ -20,7 +19,7 @@ use text_parts::NoMemory;
 
 /// Lets the workers call a machine at once, and gives it back with its journal. The authors among them raise what they cut by parts of
 /// the seat of the cuts, which comes back whole.
-pub fn run_together<R: Threads + Wait + Sync, M: Machine<Command = Command>, G: Gate>(
+pub fn run_together<R: Threads + Wait + Sync, M: Machine<Command = Command>, G: Asked>(
     rt: &R,
     alloc: Global,
     machine: M,
@@ -31,6 +30,7 @@ pub fn run_together<R: Threads + Wait + Sync, M: Machine<Command = Command>, G: 
     requires can_work { AllByRecursion CanWork workers.now }
     requires cuts { CanRaise cuts.old }
     requires seats { HasPartsFor (sum_by seats_of workers.now) cuts.old }
+    requires asked { AllByRecursion (WorkerAsksAmong (G.may_ask gate.now)) workers.now }
     ensures journal { IfOk result (λ ran. IsJournalOf workers.now ran.1) }
     ensures replays { IfOk result (λ ran. Replays M.after M.effect M.reply machine ran.1 ran.0) }
     ensures keeps_seat { KeepsSeat cuts.old cuts.new }
@@ -49,7 +49,7 @@ pub fn run_together<R: Threads + Wait + Sync, M: Machine<Command = Command>, G: 
 
 // Lets each worker make its calls in a thread of its own, and gives the pass and the cuts back with what theirs had. Where memory runs
 // out for one, the others go on.
-fn run_workers<'a, R: Threads + Wait + Sync, M: Machine<Command = Command>, G: Gate>(
+fn run_workers<'a, R: Threads + Wait + Sync, M: Machine<Command = Command>, G: Asked>(
     rt: &R,
     alloc: Global,
     shared: &Shared<M>,
@@ -64,6 +64,7 @@ fn run_workers<'a, R: Threads + Wait + Sync, M: Machine<Command = Command>, G: G
     requires can_work { AllByRecursion CanWork workers.now }
     requires cuts { CanRaise cuts }
     requires seats { HasPartsFor (sum_by seats_of workers.now) cuts }
+    requires asked { AllByRecursion (WorkerAsksAmong (G.may_ask gate.now)) workers.now }
     ensures { HaveWorked workers.now pass result.0 cuts.entry result.1 result.2 }
 {
     let Some((last, front)) = workers.split_last() else {
@@ -74,7 +75,7 @@ fn run_workers<'a, R: Threads + Wait + Sync, M: Machine<Command = Command>, G: G
     let ((worker, own, done), (mut pass, mut cuts, others)) = join(
         rt,
         || -> (Pass<M>, Cuts<'_>, Result<(), NoMemory>)
-            requires { (worker.shared ≡ shared.now) × (worker.actor ≡ actor_of last.now) × (calls_of last.now ≤ worker.calls) × CanWork last.now × CanRaise own }
+            requires { (worker.shared ≡ shared.now) × (worker.actor ≡ actor_of last.now) × (calls_of last.now ≤ worker.calls) × CanWork last.now × CanRaise own × WorkerAsksAmong (G.may_ask gate.now) last.now }
             ensures { HasWorked last.entry.now worker result.0 own.entry result.1 result.2 }
         {
             let mut worker = worker;
@@ -83,7 +84,7 @@ fn run_workers<'a, R: Threads + Wait + Sync, M: Machine<Command = Command>, G: G
             (worker, own, done)
         },
         || -> (Pass<M>, Cuts<'_>, Result<(), NoMemory>)
-            requires { (pass.shared ≡ shared.now) × (length front.now < pass.parts) × (sum_by calls_of front.now ≤ pass.calls) × AllByRecursion CanWork front.now × CanRaise cuts × HasPartsFor (sum_by seats_of front.now) cuts }
+            requires { (pass.shared ≡ shared.now) × (length front.now < pass.parts) × (sum_by calls_of front.now ≤ pass.calls) × AllByRecursion CanWork front.now × CanRaise cuts × HasPartsFor (sum_by seats_of front.now) cuts × AllByRecursion (WorkerAsksAmong (G.may_ask gate.now)) front.now }
             ensures { HaveWorked front.entry.now pass result.0 cuts.entry result.1 result.2 }
         { run_workers(rt, alloc, shared, pass, cuts, front, gate) },
     );

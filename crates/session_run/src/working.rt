@@ -9,13 +9,12 @@ ghost use Rattle.shared_replica.specs.Passes.{Call};
 ghost use Rattle.session_run.specs.Calls.{takes};
 ghost use Rattle.author_desk.specs.Cuts.{CanRaise};
 ghost use Rattle.author_desk.specs.Turns.{commands_of};
-ghost use Rattle.session_run.specs.Workers.{actor_of, calls_of, CanWork};
+ghost use Rattle.session_run.specs.Workers.{actor_of, calls_of, CanWork, WorkerAsksAmong};
 ghost use Rattle.session_run.specs.Passes.{Makes, HasWorked};
 
 use crate::worker::Worker;
-use author_desk::{Cuts, run_lines};
+use author_desk::{Asked, Cuts, run_lines};
 use grove_edits::{Bytes, Command, EditList};
-use grove_io::Gate;
 use replica_exchange::{PieceList, TakeFault, Taker};
 use shared_replica::{Machine, Pass, Shared};
 use std::alloc::Global;
@@ -23,7 +22,7 @@ use std::sync::Wait;
 use text_parts::NoMemory;
 
 /// Lets a worker make its calls. It ends where memory runs out.
-pub fn run_worker<R: Wait, M: Machine<Command = Command>, G: Gate>(
+pub fn run_worker<R: Wait, M: Machine<Command = Command>, G: Asked>(
     rt: &R,
     alloc: Global,
     shared: &Shared<M>,
@@ -37,6 +36,7 @@ pub fn run_worker<R: Wait, M: Machine<Command = Command>, G: Gate>(
     requires calls { calls_of worker.now ≤ pass.old.calls }
     requires can_work { CanWork worker.now }
     requires cuts { CanRaise cuts.old }
+    requires asked { WorkerAsksAmong (G.may_ask gate.now) worker.now }
     ensures { HasWorked worker.now pass.old pass.new cuts.old cuts.new result }
 {
     match worker {

@@ -11,3 +11,4 @@ pub mod SoFar
 pub mod NotRead
 pub mod InTwo
 pub mod Examples
+pub mod Judged

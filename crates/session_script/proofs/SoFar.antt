@@ -1,6 +1,6 @@
 -- Reading a session line by line.
 use Rattle.std.proofs.Common.{◌≡◌, ◌≢◌, ℕ, ◌+◌, ◌≤◌, Bool, true, false, List, [], ◌∷◌, ◌++◌, Some, None, length, map, refl, sym, ap, subst, ◌∙◌, append_assoc, append-nil, length-append, arith}
-use Rattle.std.specs.List.{AllByRecursion, list_all, flat_map}
+use Rattle.std.specs.List.{list_all, flat_map}
 use Rattle.std.proofs.lemmas.List.{map-append}
 use Rattle.std.proofs.lemmas.Grind.{flat_map-append}
 use Rattle.text_parts.specs.Separated.{Lacks}
@@ -76,17 +76,17 @@ nothing_yet text reading is no_authors no_items no_lines = record {
 
 -- ---- one more statement
 
-GoOn-push : (front before : List Statement) (s : Statement) → GoOn front before → statement_fault (front ++ before) s ≡ None → GoOn front (before ++ s ∷ [])
+pub GoOn-push : (front before : List Statement) (s : Statement) → GoOn front before → statement_fault (front ++ before) s ≡ None → GoOn front (before ++ s ∷ [])
 GoOn-push front [] s good fine = (subst (λ (b : List Statement). statement_fault b s ≡ None) (append-nil front) fine, tt)
 GoOn-push front (b ∷ before) s good fine =
     (good.0, GoOn-push (front ++ b ∷ []) before s good.1 (subst (λ (x : List Statement). statement_fault x s ≡ None) (sym (append_assoc front (b ∷ []) before)) fine))
 
-AreKnown-push : (front before : List Statement) (s : Statement) → AreKnown front before → IsStatementOf (version_of (front ++ before)) s → AreKnown front (before ++ s ∷ [])
+pub AreKnown-push : (front before : List Statement) (s : Statement) → AreKnown front before → IsStatementOf (version_of (front ++ before)) s → AreKnown front (before ++ s ∷ [])
 AreKnown-push front [] s known is = (subst (λ (b : List Statement). IsStatementOf (version_of b) s) (append-nil front) is, tt)
 AreKnown-push front (b ∷ before) s known is =
     (known.0, AreKnown-push (front ++ b ∷ []) before s known.1 (subst (λ (x : List Statement). IsStatementOf (version_of x) s) (sym (append_assoc front (b ∷ []) before)) is))
 
-script_text-push : (before : List Statement) (s : Statement) → script_text (before ++ s ∷ []) ≡ script_text before ++ ended_line s
+pub script_text-push : (before : List Statement) (s : Statement) → script_text (before ++ s ∷ []) ≡ script_text before ++ ended_line s
 script_text-push before s = flat_map-append ended_line before (s ∷ []) ∙ ap (λ (t : List ℕ). script_text before ++ t) (append-nil (ended_line s))
 
 fault_behind : (text rest : List ℕ) (line : ℕ) (reading : Reading) (h : SoFar text rest line reading) (s : Statement) → statement_fault h.before s ≡ fault_at (view_of reading) s
@@ -164,7 +164,7 @@ some_injective : (k l : ScriptKind) → Some k ≡ Some l → k ≡ l
 some_injective k l e = cc
 
 -- what is false of the kinds of the six conditions is false of the first one's
-one_of : (P : ScriptKind → Type 0) (a b c d e f : Bool) (kind : ScriptKind) → P OutOfPlace → P UnknownReplica → P RepeatedReplica → P UnknownAuthor → P RepeatedAuthor → P TooMany
+pub one_of : (P : ScriptKind → Type 0) (a b c d e f : Bool) (kind : ScriptKind) → P OutOfPlace → P UnknownReplica → P RepeatedReplica → P UnknownAuthor → P RepeatedAuthor → P TooMany
     → first_fault a b c d e f ≡ Some kind → P kind
 one_of P false b c d e f kind h1 h2 h3 h4 h5 h6 is = subst P (some_injective OutOfPlace kind is) h1
 one_of P true false c d e f kind h1 h2 h3 h4 h5 h6 is = subst P (some_injective UnknownReplica kind is) h2

@@ -14,7 +14,7 @@ use Rattle.session_script.specs.declared.session.Session as sessions
 use Rattle.session_script.specs.declared.statement.Statement.{Statement}
 use Rattle.session_script.specs.declared.statement.Statement.TheVariants.{Author, Load, End, Act, Send, Show}
 use Rattle.session_script.specs.Statement.{statement_text, InRange, IsStatementOf}
-use Rattle.session_script.specs.Order.{version_of, is_same_ident, statement_fault, GoOn}
+use Rattle.session_script.specs.Order.{version_of, is_same_ident, GoOn}
 use Rattle.session_script.specs.Script.{AreKnown, IsWhole}
 use Rattle.session_script.specs.Session.{Spells}
 use Rattle.session_script.specs.View.{View, version_after, seen, start, after, view, declared_at, fault_at}

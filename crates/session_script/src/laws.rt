@@ -8,8 +8,15 @@ ghost use Rattle.session_script.specs.declared.session.Session.{Session};
 ghost use Rattle.session_script.specs.declared.statement.Statement.{Statement};
 ghost use Rattle.session_script.specs.Action.{ActionInRange, IsAuthor, action_line};
 ghost use Rattle.session_script.specs.Statement.{Says, LoadsBadEdge, SaysNothing};
+ghost use Rattle.session_script.specs.Judged.{HasSessionOrFault, AreJudged};
 ghost use Rattle.session_script.specs.Script.{HasLineFault, IsBad, IsWhole};
 ghost use Rattle.session_script.specs.Session.{head, Spells};
+ghost use Rattle.session_script.specs.View.{version_after};
+
+use crate::statement::Statement;
+use crate::statement_reading::read_statement;
+use grove_sorts::Version;
+use text_parts::split_at_first;
 
 /// Law: in a version a line says one thing at most, or loads an edit of an edge with one first fault, or neither, and not two of these.
 /// So it has one first fault at most, wherever it stands. What it says in version one it says in version two, and an author's line says
@@ -33,3 +40,31 @@ pub fn texts_are_exact()
     ensures session_or_fault { (text : List ℕ) (session : Session) (line : ℕ) (kind : ScriptKind) → Spells text session → IsBad text line kind → ⊥ }
     ensures kept_in_two { (body : List ℕ) (session : Session) → session.version ≡ One → Spells (head One ++ body) session → Spells (head Two ++ body) (record session { version = Two }) }
 {}
+
+/// Law: each text spells a session, or it has a first bad line.
+pub fn a_text_has_a_session_or_a_fault(text: &[u8])
+    ensures { HasSessionOrFault text.now }
+{
+    judge_lines(Version::One, text);
+}
+
+fn judge_lines(version: Version, lines: &[u8])
+    ensures { AreJudged version lines.now }
+{
+    let Some((line, after)) = split_at_first(lines, b'\n') else {
+        return;
+    };
+    if let Ok(statement) = read_statement(version, line) {
+        judge_lines(version_behind(version, &statement), after);
+    }
+}
+
+// The version of the lines behind a statement.
+fn version_behind(version: Version, statement: &Statement) -> Version
+    ensures { result ≡ version_after version statement.now }
+{
+    match statement {
+        Statement::Session(own) => *own,
+        _ => version,
+    }
+}

@@ -27,7 +27,7 @@ pub use author_list::AuthorList;
 pub use ident_list::IdentList;
 pub use item::{Block, Item};
 pub use item_list::ItemList;
-pub use laws::{lines_say_one_thing, texts_are_exact};
+pub use laws::{a_text_has_a_session_or_a_fault, lines_say_one_thing, texts_are_exact};
 pub use line::{Line, SendLine};
 pub use line_list::LineList;
 pub use script::read_session;

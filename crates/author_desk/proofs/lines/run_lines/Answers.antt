@@ -1,4 +1,4 @@
-use Rattle.std.proofs.Common.{◌≡◌, List, [], ◌∷◌, length, refl, ◌∙◌, arith}
+use Rattle.std.proofs.Common.{◌≡◌, List, [], ◌∷◌, length, length-append, refl, ap, ◌∙◌, arith}
 use Rattle.author_desk.specs.Lines.{slots_cut}
 use Rattle.author_desk.specs.Cuts.{opening_edits}
 use Rattle.author_desk.proofs.Raising.{keeps_seat}
@@ -17,6 +17,14 @@ pub enter-requires-clause-shared : goal.enter-requires-clause-shared
 enter-requires-clause-shared g c κs within =
     let u = c.loop-left.invariant.0 in
     (turns_same c.args.pass.now c.loop-left.pass u.turns u.entered).0 ∙ c.requires.shared
+
+pub start_turn-requires-clause-asked : goal.start_turn-requires-clause-asked
+start_turn-requires-clause-asked g c κs within = λ number low high.
+    let u = c.loop-left.invariant.0 in
+    let calls = c.loop-left.invariant.1 in
+    let all = ap length u.split in
+    let both = length-append u.done c.loop-left.left.now in
+    c.requires.asked number (omega (arith, low, high, calls, all, both)) (omega (arith, low, high, calls, all, both))
 
 pub loop-left-preserved : goal.loop-left-preserved
 loop-left-preserved g c =

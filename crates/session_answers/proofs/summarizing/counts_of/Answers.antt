@@ -1,5 +1,4 @@
 use Rattle.std.proofs.Common.{List, refl, subst}
-use Rattle.std.proofs.lemmas.Result.{IfOk-weaker}
 use Rattle.grove_edits.specs.declared.edit.Edit.{Edit}
 use Rattle.grove_edits.specs.Graph.{graph}
 use Rattle.grove_edits.proofs.Unique.{canonical_once}

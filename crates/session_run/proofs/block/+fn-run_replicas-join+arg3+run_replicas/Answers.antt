@@ -11,7 +11,7 @@ join-own-requires-after_bounds g t c κs within =
     let fit = item_fewer (FitsPlan plan) c.args.cuts.items c.pop-2.new.self.items own c.in-Some-pop.ensures.items c.requires.fit in
     let many = as_many_fewer c.args.cuts.items c.pop-2.new.self.items own c.args.machines.items c.pop.new.self.items c.in-Some.machine c.in-Some-pop.ensures.items c.in-Some.ensures.items c.requires.cuts in
     let replica : c.len-replica.result ≡ length c.pop.new.self.items = search rules in (
-      ((c.requires.plan, subst (λ n. FitsPlan plan n own) (many ∙ sym replica) fit.0), search rules),
+      ((c.requires.plan, subst (λ n. FitsPlan plan n own) (many ∙ sym replica) fit.0, c.requires.asked), search rules),
       (
         search rules,
         (
@@ -24,7 +24,7 @@ join-own-requires-after_bounds g t c κs within =
                 search rules,
                 (
                   search rules,
-                  ((c.requires.plan, c.requires.no_journal, many, fit.1), search rules),
+                  ((c.requires.plan, c.requires.no_journal, many, fit.1, c.requires.asked), search rules),
                 ),
               ),
             ),

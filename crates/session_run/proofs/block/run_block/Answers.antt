@@ -2,6 +2,7 @@ use Rattle.std.proofs.Common.{◌∙◌, slice_get, sym, ap, refl}
 use Rattle.std.proofs.lemmas.Result.{IfOk-weaker}
 use Rattle.session_run.specs.Calls.{Stage, sends_of}
 use Rattle.session_run.specs.Workers.{first_calls_told}
+use Rattle.session_run.proofs.Asked.{plan_asks}
 use Rattle.session_run.proofs.AtReplica.{fits_plan}
 use Rattle.session_run.proofs.Planned.{lines_told, can_run_plan}
 use Rattle.session_run.proofs.block.run_block.Goals as goal
@@ -21,6 +22,13 @@ run_replicas-own-requires-clause-fit g c κs within = λ replica own is.
     let stage : Stage = record { authors = authors; lines = lines; first_send = c.args.first_send; sources = c.args.sources.now; replica = replica } in
     let are = lines_told authors lines c.as_slice-lines.result.now c.in_ok-by_author.by_author.items c.deref.result.now c.as_slice-lines.ensures c.deref.ensures.value c.in_ok-by_author.ensures.lines in
     fits_plan stage _ own are (c.requires.boards replica own (ap (λ all. slice_get all.items replica) (sym c.replace-own.ensures.value) ∙ is))
+
+pub run_replicas-own-requires-clause-asked : goal.run_replicas-own-requires-clause-asked
+run_replicas-own-requires-clause-asked g c κs within =
+    let authors = c.args.authors.now in
+    let lines = c.args.block.now.lines in
+    let are = lines_told authors lines c.as_slice-lines.result.now c.in_ok-by_author.by_author.items c.deref.result.now c.as_slice-lines.ensures c.deref.ensures.value c.in_ok-by_author.ensures.lines in
+    plan_asks (g.G.Asked.may_ask c.args.gate.now) lines authors c.args.first_calls.now c.deref.result.now are (ap first_calls_told c.deref.ensures.value ∙ c.in_ok-by_author.ensures.first_calls) c.requires.asked
 
 pub returns-clause-each : goal.returns-clause-each
 returns-clause-each g c =

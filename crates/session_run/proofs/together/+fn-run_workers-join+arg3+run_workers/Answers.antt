@@ -1,8 +1,8 @@
 use Rattle.std.proofs.Common.{◌≡◌, ◌+◌, ◌∷◌, [], ◌++◌, length, sum_by, suc, subst, ap, ap₂, ◌∙◌, arith, rules}
 use Rattle.std.specs.List.{AllByRecursion}
 use Rattle.shared_replica.specs.Passes.{kept_pass, given_pass}
-use Rattle.session_run.specs.Workers.{calls_of, seats_of, CanWork}
-use Rattle.session_run.proofs.Joined.{can_work_front, sum_of_front, length_front}
+use Rattle.session_run.specs.Workers.{calls_of, seats_of, CanWork, WorkerAsksAmong}
+use Rattle.session_run.proofs.Joined.{all_front, sum_of_front, length_front}
 use Rattle.session_run.proofs.OneMore.{one_more_worked}
 use Rattle.session_run.proofs.Seats.{both_can_raise, parts_left, can_take, parts_divide}
 use Rattle.session_run.proofs.together.+fn-run_workers-join+arg3+run_workers.Goals as goal
@@ -20,7 +20,8 @@ join-worker-requires-after_bounds g t c κs within =
     let front = c.in-Some.front.now in
     let last = c.in-Some.last.now in
     let both : workers ≡ front ++ last ∷ [] = c.in-Some.ensures.cases.0 in
-    let work = can_work_front front last (subst (AllByRecursion CanWork) both c.requires.can_work) in
+    let work = all_front CanWork front last (subst (AllByRecursion CanWork) both c.requires.can_work) in
+    let asks = all_front (WorkerAsksAmong (g.G.Asked.may_ask c.args.gate.now)) front last (subst (AllByRecursion (WorkerAsksAmong (g.G.Asked.may_ask c.args.gate.now))) both c.requires.asked) in
     let shorter : length workers ≡ suc (length front) = ap length both ∙ length_front front last in
     let sum : sum_by calls_of workers ≡ sum_by calls_of front + calls_of last = ap (sum_by calls_of) both ∙ sum_of_front calls_of front last in
     let given = c.split-worker.ensures.given in
@@ -31,7 +32,7 @@ join-worker-requires-after_bounds g t c κs within =
     let can = both_can_raise last c.args.cuts c.split_for-own.new.cuts c.split_for-own.result c.requires.cuts c.split_for-own.ensures in
     let seats = parts_left last c.args.cuts c.split_for-own.new.cuts c.split_for-own.result (sum_by seats_of front) c.split_for-own.ensures
     (parts_divide c.args.cuts workers front last both c.requires.seats).0 in (
-      ((ap (λ p. p.shared) given ∙ c.requires.shared, ap (λ p. p.actor) given ∙ c.actor.ensures, (let its = ap (λ p. p.calls) given in omega arith), work.1, can.1), search rules),
+      ((ap (λ p. p.shared) given ∙ c.requires.shared, ap (λ p. p.actor) given ∙ c.actor.ensures, (let its = ap (λ p. p.calls) given in omega arith), work.1, can.1, asks.1), search rules),
       (
         search rules,
         (
@@ -45,7 +46,7 @@ join-worker-requires-after_bounds g t c κs within =
                 (
                   search rules,
                   (
-                    (ap (λ p. p.shared) kept ∙ c.requires.shared, (let its = ap (λ p. p.parts) kept in omega arith), (let its = ap (λ p. p.calls) kept in omega arith), work.0, can.0, seats),
+                    (ap (λ p. p.shared) kept ∙ c.requires.shared, (let its = ap (λ p. p.parts) kept in omega arith), (let its = ap (λ p. p.calls) kept in omega arith), work.0, can.0, seats, asks.0),
                     search rules,
                   ),
                 ),

@@ -4,6 +4,7 @@ use Rattle.session_script.specs.declared.author.Declared.{Declared}
 use Rattle.session_script.specs.declared.line.Line.{Line}
 use Rattle.session_report.specs.Report.{block_heading, journals_text}
 use Rattle.replica_core.specs.Content.{Content}
+use Rattle.session_run.specs.Asked.{IsNumberIn}
 use Rattle.session_answers.specs.Numbers.{numbers_behind}
 use Rattle.session_answers.specs.Running.{sources_of, HaveRun}
 use Rattle.session_answers.proofs.Steps.{opened_sources}
@@ -25,6 +26,10 @@ pub run_on_boards-requires-clause-calls : goal.run_on_boards-requires-clause-cal
 run_on_boards-requires-clause-calls g c κs within =
     subst (AllByRecursion (λ first. first + length c.args.block.now.lines < 2 ^ 64)) (c.deref.ensures.value ∙ sym c.deref-4.ensures.value)
     (subst (λ lines. AllByRecursion (λ first. first + lines < 2 ^ 64) c.deref.result.now) c.len.ensures (c.if-not-can_number.ensures refl))
+
+pub run_on_boards-requires-clause-asked : goal.run_on_boards-requires-clause-asked
+run_on_boards-requires-clause-asked g c κs within = λ author number is.
+    c.requires.asked author number (subst (λ (ns : List ℕ). IsNumberIn c.args.session.now.authors ns c.args.block.now.lines author number) c.deref-4.ensures.value is)
 
 pub returns : goal.returns
 returns g c =

@@ -4,7 +4,7 @@ use Rattle.session_script.specs.declared.author.Declared.{Declared}
 use Rattle.session_script.specs.declared.item.Item.{Item}
 use Rattle.session_answers.specs.Numbers.{next_number}
 use Rattle.session_answers.specs.Running.{IsBehind, HasLoaded, HasRunBlock, HasShown}
-use Rattle.session_answers.proofs.Items.{if_ok, load_within, block_within, show_within, lines_can_run, few_sends, after_load, after_block, after_show}
+use Rattle.session_answers.proofs.Items.{if_ok, load_within, block_within, show_within, lines_can_run, few_sends, block_numbers, after_load, after_block, after_show}
 use Rattle.session_answers.proofs.running.Running.run_item.Goals as goal
 
 pub load-requires : goal.load-requires
@@ -26,6 +26,11 @@ run_block-requires-clause-few_blocks g c κs within =
 pub run_block-requires-clause-few_sends : goal.run_block-requires-clause-few_sends
 run_block-requires-clause-few_sends g c κs within =
     few_sends c.args.session.now c.args.index c.args.self c.requires.session c.requires.behind c.in-Block.block (c.requires.item ∙ ap (λ (x : Item). Some x) c.in-Block.is)
+
+pub run_block-requires-clause-asked : goal.run_block-requires-clause-asked
+run_block-requires-clause-asked g c κs within = λ author number is.
+    c.requires.asked author number
+    (block_numbers c.args.session.now c.args.index c.args.self c.requires.session c.requires.behind c.in-Block.block (c.requires.item ∙ ap (λ (x : Item). Some x) c.in-Block.is) author number is)
 
 pub show-requires : goal.show-requires
 show-requires g c = show_within c.args.session.now c.args.index c.args.self c.requires.session c.requires.behind (c.requires.item ∙ ap (λ (x : Item). Some x) c.in-Show.is)
