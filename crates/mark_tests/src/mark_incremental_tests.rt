@@ -94,24 +94,26 @@ impl Live {
     }
 }
 
-fn after_counting<L: Ledger>(alloc: Global, lines: &[&str], blank: Blank) -> Result<Live, Fail>
+fn take_counting<L: Ledger>(live: &mut Live, lines: &[&str], blank: Blank) -> Result<(), Fail>
     requires name { blank.name ≡ L.name }
     requires parts { blank.parts ≡ L.parts }
     requires some { 0 < blank.parts }
-    ensures stand { IfOk result (λ live. StandFor (state_in live.graph) live.marks) }
+    requires stand { StandFor (state_in live.old.graph) live.old.marks }
+    ensures stand { StandFor (state_in live.new.graph) live.new.marks }
 {
     let mut steps = Steps::<L>::new(blank);
-    let mut live = empty(alloc)?;
     for line in lines {
         live.apply(line, &mut steps)?;
     }
-    Ok(live)
+    Ok(())
 }
 
-fn after(alloc: Global, lines: &[&str]) -> Result<Live, Fail>
-    ensures stand { IfOk result (λ live. StandFor (state_in live.graph) live.marks) }
+// Applies the edits of lines.
+fn take(live: &mut Live, lines: &[&str]) -> Result<(), Fail>
+    requires stand { StandFor (state_in live.old.graph) live.old.marks }
+    ensures stand { StandFor (state_in live.new.graph) live.new.marks }
 {
-    after_counting::<Brand>(alloc, lines, Blank::new(1))
+    take_counting::<Brand>(live, lines, Blank::new(1))
 }
 
 // Applies an edit, and answers its receipt.
@@ -137,9 +139,16 @@ fn all_counting<L: Ledger>(live: &mut Live, edits: &[Edit], blank: Blank) -> boo
     live.apply_all(edits, &mut steps)
 }
 
+fn told_once_taken(live: &mut Live, lines: &[&str], line: &str) -> Result<Told, Fail>
+    requires stand { StandFor (state_in live.old.graph) live.old.marks }
+{
+    take(live, lines)?;
+    live.told(line)
+}
+
 fn told_after(alloc: Global, lines: &[&str], line: &str) -> Result<Told, Fail> {
-    let live = after(alloc, lines)?;
-    let told = live.told(line);
+    let mut live = empty(alloc)?;
+    let told = told_once_taken(&mut live, lines, line);
     drop(live);
     told
 }
@@ -155,15 +164,27 @@ fn told_around(live: &mut Live, edit: &Edit, line: &str) -> Result<(Told, Told),
 }
 
 // What is told while the edit of one more line is applied, and once that is taken back.
+fn told_with_one_more(
+    live: &mut Live,
+    lines: &[&str],
+    edited: &str,
+    line: &str,
+) -> Result<(Told, Told), Fail>
+    requires stand { StandFor (state_in live.old.graph) live.old.marks }
+{
+    take(live, lines)?;
+    let edit = edit(edited)?;
+    told_around(live, &edit, line)
+}
+
 fn told_with(
     alloc: Global,
     lines: &[&str],
     edited: &str,
     line: &str,
 ) -> Result<(Told, Told), Fail> {
-    let edit = edit(edited)?;
-    let mut live = after(alloc, lines)?;
-    let told = told_around(&mut live, &edit, line);
+    let mut live = empty(alloc)?;
+    let told = told_with_one_more(&mut live, lines, edited, line);
     drop(live);
     told
 }
@@ -190,14 +211,27 @@ fn told_once_applied(
     Ok((applied, live.told(line)?))
 }
 
+fn told_once_all_taken(
+    alloc: Global,
+    live: &mut Live,
+    lines: &[&str],
+    further: &[&str],
+    line: &str,
+) -> Result<(bool, Told), Fail>
+    requires stand { StandFor (state_in live.old.graph) live.old.marks }
+{
+    take(live, lines)?;
+    told_once_applied(alloc, live, further, line)
+}
+
 fn told_after_all(
     alloc: Global,
     lines: &[&str],
     further: &[&str],
     line: &str,
 ) -> Result<(bool, Told), Fail> {
-    let mut live = after(alloc, lines)?;
-    let told = told_once_applied(alloc, &mut live, further, line);
+    let mut live = empty(alloc)?;
+    let told = told_once_all_taken(alloc, &mut live, lines, further, line);
     drop(live);
     told
 }

@@ -1,8 +1,8 @@
--- The store of no entries has the empty graph.
+-- The graph of no edits is empty.
 use Rattle.std.proofs.Common.{sym, subst}
 use Rattle.graph_words.specs.States.{Entries, state_in}
 use Rattle.mark_incremental.specs.Standing.{StandFor}
 use Rattle.mark_tests.proofs.mark_incremental_tests.empty.Goals as goal
 
-pub returns-clause-stand : goal.returns-clause-stand
-returns-clause-stand c = subst (λ (entries : Entries). StandFor (state_in entries) c.in_ok-marks.marks) (sym c.new-2.ensures.empty) c.in_ok-marks.ensures
+pub returns : goal.returns
+returns c = record { stand = subst (λ (entries : Entries). StandFor (state_in entries) c.in_ok-marks.marks) (sym c.new-2.ensures.empty) c.in_ok-marks.ensures }

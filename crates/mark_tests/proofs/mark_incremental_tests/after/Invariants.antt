@@ -1,4 +1,0 @@
-use Rattle.mark_tests.proofs.mark_incremental_tests.after.Given as goal
-
-abbrev pub ghosts-after_counting : goal.ghosts-after_counting
-ghosts-after_counting a = record { name = a.blank.name; parts = a.blank.parts }
