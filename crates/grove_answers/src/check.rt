@@ -7,9 +7,8 @@ ghost use Rattle.grove_answers.specs.Texts.{IsCheckText, roots_line};
 ghost use Rattle.grove_answers.specs.Laws.{lines_none, lines_more, typed_none, typed_more};
 
 use crate::marks::marks_in;
-use crate::program::Program;
 use crate::report::Report;
-use crate::reporting::report_program;
+use crate::reporting::report_graph;
 use edit_table::EditTable;
 use grove_printer::{Section, print_marked_lines_of};
 use marking::MarkedTree;
@@ -24,13 +23,12 @@ pub fn check_text(alloc: Global, table: EditTable, seed: HashSeed) -> Result<Vec
     requires { Ascends table.edits }
     ensures { IfOk result (λ text. IsCheckText (graph table.edits) text.items) }
 {
-    let program = Program::of(alloc, table, seed)?;
     let mut checked = Checked {
         text: Vec::new(alloc),
         roots: 0,
         typed: 0,
     };
-    report_program(alloc, &program, &mut checked)?;
+    report_graph(alloc, table, seed, &mut checked)?;
     let Checked {
         mut text,
         roots,

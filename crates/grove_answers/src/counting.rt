@@ -6,9 +6,8 @@ ghost use Rattle.grove_answers.specs.Laws.{nodes_none, nodes_more};
 
 use crate::counts::Counts;
 use crate::marks::marks_in;
-use crate::program::Program;
 use crate::report::Report;
-use crate::reporting::report_program;
+use crate::reporting::report_graph;
 use edit_table::EditTable;
 use grove_printer::Section;
 use grove_terms::{LentNode, LentWhat};
@@ -23,7 +22,6 @@ pub fn grove_counts(alloc: Global, table: EditTable, seed: HashSeed) -> Result<C
     requires { Ascends table.edits }
     ensures { IfOk result (AreCounts (graph table.edits)) }
 {
-    let program = Program::of(alloc, table, seed)?;
     let mut counts = Counts {
         none: 0,
         multi: 0,
@@ -31,7 +29,7 @@ pub fn grove_counts(alloc: Global, table: EditTable, seed: HashSeed) -> Result<C
         conflicts: 0,
         marks: 0,
     };
-    report_program(alloc, &program, &mut counts)?;
+    report_graph(alloc, table, seed, &mut counts)?;
     Ok(counts)
 }
 

@@ -19,5 +19,7 @@ pub use check::check_text;
 pub use counting::grove_counts;
 pub use counts::Counts;
 pub use laws::same_graphs_have_one_text;
+pub use report::Report;
+pub use reporting::report_graph;
 pub use show::print_text;
 pub use text_parts::NoMemory;

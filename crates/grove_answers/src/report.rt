@@ -12,7 +12,7 @@ use text_parts::NoMemory;
 use type_core::TypeTable;
 
 /// What is written of the trees of a graph. It takes them in one after the other, so that one at a time is kept.
-pub(crate) trait Report {
+pub trait Report {
     /// The heading of a list of so many trees leads from the first state to the second.
     ghost begins: { Self → Section → ℕ → Self → Type 0 };
 

@@ -1,6 +1,6 @@
 ghost use Rattle.std.specs.Prelude.{◌≡◌, OnOk};
 ghost use Rattle.std.specs.List.{AllByRecursion};
-ghost use Rattle.grove_edits.specs.Graph.{graph};
+ghost use Rattle.grove_edits.specs.Graph.{graph, Ascends};
 ghost use Rattle.graph_words.specs.Whole.{AreLive};
 ghost use Rattle.graph_table.specs.Table.{live};
 ghost use Rattle.grove_decompose.specs.Trees.{OnlyInner, vertices_of};
@@ -10,14 +10,31 @@ ghost use Rattle.grove_answers.specs.Reports.{AreReported, TakesSection, IsRepor
 use crate::program::Program;
 use crate::report::Report;
 use crate::walk::Walk;
+use edit_table::EditTable;
 use graph_table::GraphTable;
 use grove_decompose::cycle_heads;
 use grove_printer::Section;
+use seeded_hash::HashSeed;
 use std::alloc::Global;
 use text_parts::NoMemory;
 
-/// Reports all trees, in the order of the print text.
-pub(crate) fn report_program<R: Report>(
+/// Reports all trees of the graph of a table whose edits ascend, in the order of the print text. What it looks up it finds by hashes under
+/// a seed.
+pub fn report_graph<R: Report>(
+    alloc: Global,
+    table: EditTable,
+    seed: HashSeed,
+    report: &mut R,
+) -> Result<(), NoMemory>
+    requires { Ascends table.edits }
+    ensures { OnOk result (IsReported R.begins R.takes (graph table.edits) report.old report.new) }
+{
+    let program = Program::of(alloc, table, seed)?;
+    report_program(alloc, &program, report)
+}
+
+// Reports all trees of a program.
+fn report_program<R: Report>(
     alloc: Global,
     program: &Program,
     report: &mut R,

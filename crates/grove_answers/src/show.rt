@@ -4,9 +4,8 @@ ghost use Rattle.grove_printer.specs.Print.{heading, trees_text};
 ghost use Rattle.grove_answers.specs.Texts.{IsPrintText};
 ghost use Rattle.grove_answers.specs.Laws.{prints_none, prints_more};
 
-use crate::program::Program;
 use crate::report::Report;
-use crate::reporting::report_program;
+use crate::reporting::report_graph;
 use edit_table::EditTable;
 use grove_printer::{Section, print_heading, print_tree};
 use marking::MarkedTree;
@@ -21,11 +20,10 @@ pub fn print_text(alloc: Global, table: EditTable, seed: HashSeed) -> Result<Vec
     requires { Ascends table.edits }
     ensures { IfOk result (λ text. IsPrintText (graph table.edits) text.items) }
 {
-    let program = Program::of(alloc, table, seed)?;
     let mut shown = Shown {
         text: Vec::new(alloc),
     };
-    report_program(alloc, &program, &mut shown)?;
+    report_graph(alloc, table, seed, &mut shown)?;
     Ok(shown.text)
 }
 

@@ -37,7 +37,8 @@ fn append_place(node: &LentNode, out: &mut Vec<u8>) -> Result<(), NoMemory>
     append_edge(node.edge(), out)
 }
 
-fn append_position(position: Option<Position>, out: &mut Vec<u8>) -> Result<(), NoMemory>
+/// Appends the column of a position, or a dash where there is none.
+pub fn append_position(position: Option<Position>, out: &mut Vec<u8>) -> Result<(), NoMemory>
     ensures appended { OnOk result (out.new.items ≡ out.old.items ++ position_column position) }
     ensures in_part { OnErr result (Extends out.old.items out.new.items) }
 {
@@ -48,7 +49,8 @@ fn append_position(position: Option<Position>, out: &mut Vec<u8>) -> Result<(), 
     Ok(())
 }
 
-fn append_edge(edge: Option<LentEdge<'_>>, out: &mut Vec<u8>) -> Result<(), NoMemory>
+/// Appends the column of an edge, which is its name, or a dash where there is none.
+pub fn append_edge(edge: Option<LentEdge<'_>>, out: &mut Vec<u8>) -> Result<(), NoMemory>
     ensures appended { OnOk result (out.new.items ≡ out.old.items ++ edge_column (option_map edge_of edge.entry)) }
     ensures in_part { OnErr result (Extends out.old.items out.new.items) }
 {
@@ -59,7 +61,8 @@ fn append_edge(edge: Option<LentEdge<'_>>, out: &mut Vec<u8>) -> Result<(), NoMe
     Ok(())
 }
 
-fn append_vertex(what: &LentWhat, out: &mut Vec<u8>) -> Result<(), NoMemory>
+/// Appends the column of a vertex, which is its name, or a dash where there is none.
+pub fn append_vertex(what: &LentWhat, out: &mut Vec<u8>) -> Result<(), NoMemory>
     ensures appended { OnOk result (out.new.items ≡ out.old.items ++ vertex_column (what_of what.now)) }
     ensures in_part { OnErr result (Extends out.old.items out.new.items) }
 {
@@ -87,7 +90,8 @@ fn append_ctor(ctor: &LentCtor, out: &mut Vec<u8>) -> Result<(), NoMemory>
     Ok(())
 }
 
-fn append_what(what: &LentWhat, out: &mut Vec<u8>) -> Result<(), NoMemory>
+/// Appends the column of what a node is.
+pub fn append_what(what: &LentWhat, out: &mut Vec<u8>) -> Result<(), NoMemory>
     ensures appended { OnOk result (out.new.items ≡ out.old.items ++ what_column (what_of what.now)) }
     ensures in_part { OnErr result (Extends out.old.items out.new.items) }
 {

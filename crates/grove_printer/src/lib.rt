@@ -8,8 +8,10 @@ mod marks;
 mod print;
 mod section;
 
+pub use columns::{append_edge, append_position, append_vertex, append_what};
 pub use line::whole_or_nothing;
 pub use marked_lines::{append_marked_lines_of, print_marked_lines_of};
+pub use marks::{append_mode, append_type, mark_word, sort_of_node};
 pub use print::{append_heading, append_tree, print_heading, print_tree};
 pub use section::Section;
 pub use text_parts::NoMemory;

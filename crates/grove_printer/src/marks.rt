@@ -40,7 +40,8 @@ pub(crate) fn append_marks(
     Ok(())
 }
 
-fn append_mode(
+/// Appends the column of what is wanted of a node of a sort.
+pub fn append_mode(
     sort: Sort,
     mode: Option<Mode>,
     types: &mut TypePrinter,
@@ -62,7 +63,8 @@ fn append_mode(
     Ok(())
 }
 
-fn append_type(
+/// Appends the column of a type, or a dash where there is none.
+pub fn append_type(
     typ: Option<TypeId>,
     types: &mut TypePrinter,
     out: &mut Vec<u8>,
@@ -79,7 +81,8 @@ fn append_type(
     Ok(())
 }
 
-fn sort_of_node(what: &LentWhat) -> Sort
+/// The sort of a node: that of its vertex, or of the position without a sole child.
+pub fn sort_of_node(what: &LentWhat) -> Sort
     ensures { result ≡ sort_of_node (what_of what.now) }
 {
     match what {
@@ -90,7 +93,8 @@ fn sort_of_node(what: &LentWhat) -> Sort
     }
 }
 
-fn mark_word(mark: Mark) -> &'static [u8]
+/// The column of a mark.
+pub fn mark_word(mark: Mark) -> &'static [u8]
     ensures { result.now ≡ mark_text mark }
 {
     match mark {

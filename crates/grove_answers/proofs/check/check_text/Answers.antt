@@ -1,7 +1,4 @@
-use Rattle.std.proofs.Common.{List, length, refl, subst, ◌∙◌}
-use Rattle.grove_edits.specs.declared.edit.Edit.{Edit}
-use Rattle.grove_edits.specs.Graph.{graph}
-use Rattle.grove_terms.specs.Grove.{IsGrove}
+use Rattle.std.proofs.Common.{length, refl, ◌∙◌}
 use Rattle.grove_printer.specs.Print.{marked_lines}
 use Rattle.grove_answers.specs.Texts.{all_trees}
 use Rattle.grove_answers.proofs.Written.{three, three_counts, three_typed, section_lines, roots_behind}
@@ -9,12 +6,12 @@ use Rattle.grove_answers.proofs.check.check_text.Goals as goal
 
 pub returns : goal.returns
 returns c =
-    let reported = c.in_ok-report_program.ensures in
+    let reported = c.in_ok-report_graph.ensures in
     let grove = reported.grove in
     let old = c.new.result.items in
     let x = reported.after_none in
     let y = reported.after_multi in
-    let new = c.report_program.new.report in
+    let new = c.report_graph.new.report in
     let none = reported.none in
     let multi = reported.multi in
     let cycle = reported.cycle in
@@ -22,7 +19,7 @@ returns c =
       grove = grove;
       marked = reported.marked;
       typed = new.typed;
-      is_grove = subst (λ (edits : List Edit). IsGrove (graph edits) grove) c.in_ok-program.ensures.edits reported.is_grove;
+      is_grove = reported.is_grove;
       is_marked = reported.is_marked;
       are_typed = three_typed grove.none grove.multi grove.cycle 0 none.begun.typed x.typed multi.begun.typed y.typed cycle.begun.typed new.typed
           refl none.begin.2 none.taken.2 multi.begin.2 multi.taken.2 cycle.begin.2 cycle.taken.2;

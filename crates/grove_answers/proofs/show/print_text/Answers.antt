@@ -1,22 +1,18 @@
-use Rattle.std.proofs.Common.{List, subst}
-use Rattle.grove_edits.specs.declared.edit.Edit.{Edit}
-use Rattle.grove_edits.specs.Graph.{graph}
-use Rattle.grove_terms.specs.Grove.{IsGrove}
 use Rattle.grove_printer.specs.declared.section.Section.TheVariants.{NoParent, Multi, Cycle}
 use Rattle.grove_answers.proofs.Written.{three, section_printed}
 use Rattle.grove_answers.proofs.show.print_text.Goals as goal
 
 pub returns : goal.returns
 returns c =
-    let reported = c.in_ok-report_program.ensures in
+    let reported = c.in_ok-report_graph.ensures in
     let old = c.new.result.items in
     let x = reported.after_none.text.items in
     let y = reported.after_multi.text.items in
-    let new = c.report_program.new.report.text.items in
+    let new = c.report_graph.new.report.text.items in
     record {
       grove = reported.grove;
       marked = reported.marked;
-      is_grove = subst (λ (edits : List Edit). IsGrove (graph edits) reported.grove) c.in_ok-program.ensures.edits reported.is_grove;
+      is_grove = reported.is_grove;
       is_marked = reported.is_marked;
       written = three old _ _ _ x y new c.new.ensures.items
           (section_printed NoParent reported.grove.none reported.marked.none old reported.none.begun.text.items x reported.is_marked.none reported.none.begin reported.none.taken)
