@@ -11,4 +11,6 @@ mod marked_replica_tests;
 #[cfg(test)]
 mod replica_core_tests;
 #[cfg(test)]
+mod undo_tests;
+#[cfg(test)]
 mod user_actions_tests;
