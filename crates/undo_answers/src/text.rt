@@ -38,7 +38,8 @@ pub fn undo_text(
 }
 
 fn text_of(alloc: Global, seed: HashSeed, course: Course, author: u32) -> Result<Vec<u8>, NoMemory>
-    requires { 0 < author }
+    requires author { 0 < author }
+    requires within { IsWithin course.taken course.last }
     ensures { (of : CourseOf) → StandsFor course of → IfOk result (λ text. IsTextOf of author text.items) }
 {
     let Course {
