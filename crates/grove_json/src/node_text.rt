@@ -11,10 +11,10 @@ use crate::members::{
     append_depth, append_edge_member, append_mark_member, append_mode_member,
     append_position_member, append_type_member, append_vertex_member, append_what_member,
 };
-use text_parts::NoMemory;
 use grove_printer::sort_of_node;
 use grove_terms::{LentNode, LentWhat};
 use marking::{Added, MarkedTree};
+use text_parts::NoMemory;
 use type_core::TypePrinter;
 
 // The members of a node up to its mode, behind the bracket that opens its object.

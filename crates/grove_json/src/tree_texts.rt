@@ -6,11 +6,11 @@ ghost use Rattle.grove_json.specs.Laws.{listed_none, listed_more};
 
 use crate::node_text::append_tree;
 use grove_answers::Report;
-use text_parts::NoMemory;
 use grove_printer::Section;
 use marking::MarkedTree;
 use std::alloc::Global;
 use std::marker::Model;
+use text_parts::NoMemory;
 use type_core::{TypePrinter, TypeTable};
 
 /// The texts of the trees so far, for each list apart, since in the report the last comes first. A comma stands before each tree.

@@ -2,13 +2,13 @@ ghost use Rattle.std.specs.Prelude.{◌≡◌, ◌==◌, ◌&&◌, not, IfOk, On
 ghost use Rattle.undo_answers.specs.Course.{Course as CourseOf, at_start, after_action, after_line, after_lines, after_item, after_items, is_refused, loaded};
 ghost use Rattle.undo_answers.specs.Kept.{StandsFor};
 
-use text_parts::NoMemory;
 use crate::taking::{act, take};
 use grove_edits::{Action, Answer, Edit, EditList};
 use replica_core::Replica;
 use seeded_hash::HashSeed;
 use session_script::{Item, Line};
 use std::alloc::Global;
+use text_parts::NoMemory;
 
 /// An action that was done.
 #[derive(Drop)]

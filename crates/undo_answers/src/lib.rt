@@ -9,5 +9,5 @@ mod text;
 mod writing;
 
 pub use fit::is_fit;
-pub use text_parts::NoMemory;
 pub use text::undo_text;
+pub use text_parts::NoMemory;

@@ -5,14 +5,14 @@ ghost use Rattle.grove_edits.specs.declared.command.Command.TheVariants.{Act};
 ghost use Rattle.replica_core.specs.Content.{with_taken};
 ghost use Rattle.replica_core.specs.Step.{after, effect, reply};
 
-use text_parts::NoMemory;
+use graph_words::Steps;
 use grove_edits::{Action, Actor, Answer, Command, EditList};
 use replica_core::Replica;
 use shared_replica::Machine;
 use std::alloc::Global;
 use std::marker::Brand;
 use std::sync::ledger::{Blank, Ledger};
-use graph_words::Steps;
+use text_parts::NoMemory;
 
 /// The replica takes edits.
 pub(crate) fn take(alloc: Global, replica: &mut Replica, edits: &EditList) -> Result<(), NoMemory>

@@ -9,7 +9,6 @@ ghost use Rattle.undo_answers.specs.UndoText.{IsUndoText, IsAnswerTo, IsRefused,
 ghost use Rattle.undo_answers.specs.Kept.{AnswersLast, IsWithin, StandsFor};
 
 use crate::course::{Acted, Course};
-use text_parts::NoMemory;
 use crate::taking::take;
 use crate::writing::{append_nothing, append_refused, append_undone};
 use grove_edits::{Edit, EditList};
@@ -18,6 +17,7 @@ use live_graph::LiveGraph;
 use seeded_hash::HashSeed;
 use session_script::Session;
 use std::alloc::Global;
+use text_parts::NoMemory;
 
 /// The text of `undo` for an author, of a session at one replica in which nothing is sent. The session is run in the order of its text, and
 /// the author's last action that was not refused is undone: a line tells how many edits that takes, or why it is refused, or that there is
