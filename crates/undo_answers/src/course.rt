@@ -67,7 +67,7 @@ impl Course {
     {
         let mut edits = EditList::new(alloc);
         edits.push(*edit)?;
-        take(alloc, &mut self.replica, &edits)?;
+        take(&mut self.replica, &edits)?;
         self.taken.push(*edit)?;
         Ok(())
     }

@@ -15,14 +15,13 @@ use std::sync::ledger::{Blank, Ledger};
 use text_parts::NoMemory;
 
 /// The replica takes edits.
-pub(crate) fn take(alloc: Global, replica: &mut Replica, edits: &EditList) -> Result<(), NoMemory>
+pub(crate) fn take(replica: &mut Replica, edits: &EditList) -> Result<(), NoMemory>
     ensures { OnOk result (replica.new ≡ with_taken edits.now replica.old) }
 {
-    take_counting::<Brand>(alloc, replica, edits, Blank::new(1))
+    take_counting::<Brand>(replica, edits, Blank::new(1))
 }
 
 fn take_counting<L: Ledger>(
-    alloc: Global,
     replica: &mut Replica,
     edits: &EditList,
     blank: Blank,

@@ -49,7 +49,7 @@ fn text_of(alloc: Global, seed: HashSeed, course: Course, author: u32) -> Result
     } = course;
     let mut text = Vec::new(alloc);
     let undoing = append_answer(alloc, seed, author, taken.as_slice(), &last, &mut text)?;
-    take(alloc, &mut replica, &undoing)?;
+    take(&mut replica, &undoing)?;
     replica.print(alloc, &mut text)?;
     Ok(text)
 }
