@@ -37,9 +37,9 @@ node_is m =
     append_assoc depth (edge ++ (mark ++ mode)) (last_members m)
     ∙ ap (λ (xs : List ℕ). depth ++ xs) (append_assoc edge (mark ++ mode) (last_members m) ∙ ap (λ (xs : List ℕ). edge ++ xs) (append_assoc mark mode (last_members m)))
     ∙ ap (λ (xs : List ℕ). depth ++ xs)
-    (member_first (codes "edge") (edge_column m.node.edge) _ _
-    (member_first (codes "mark") (mark_text m.mark) _ _
-    (member_first (codes "mode") (mode_column (sort_of_node m.node.what) m.wanted) _ _ last)))
+    (member_first (codes "edge") (edge_column m.node.edge) _ (member (codes "mark") (string (mark_text m.mark)) (member (codes "mode") (string (mode_column (sort_of_node m.node.what) m.wanted)) (member (codes "position") (string (position_column m.node.position)) (member (codes "type") (string (type_column m.typ)) (member (codes "vertex") (string (vertex_column m.node.what)) (member (codes "what") (string (what_column m.node.what)) no_members))))))
+    (member_first (codes "mark") (mark_text m.mark) _ (member (codes "mode") (string (mode_column (sort_of_node m.node.what) m.wanted)) (member (codes "position") (string (position_column m.node.position)) (member (codes "type") (string (type_column m.typ)) (member (codes "vertex") (string (vertex_column m.node.what)) (member (codes "what") (string (what_column m.node.what)) no_members)))))
+    (member_first (codes "mode") (mode_column (sort_of_node m.node.what) m.wanted) _ (member (codes "position") (string (position_column m.node.position)) (member (codes "type") (string (type_column m.typ)) (member (codes "vertex") (string (vertex_column m.node.what)) (member (codes "what") (string (what_column m.node.what)) no_members)))) last)))
     ∙ ap (λ (xs : List ℕ). 123 ∷ xs) (append_assoc (quoted (codes "depth")) (58 ∷ decimal m.node.depth) _)
   where
     depth : List ℕ
@@ -60,9 +60,15 @@ node_is m =
         (member (codes "vertex") (string (vertex_column m.node.what))
         (member (codes "what") (string (what_column m.node.what)) no_members))))
     last =
-        member_first (codes "position") (position_column m.node.position) _ _
-        (member_first (codes "type") (type_column m.typ) _ _
-        (member_first (codes "vertex") (vertex_column m.node.what) _ _
+        member_first (codes "position") (position_column m.node.position)
+        (text_member (codes "type") (type_column m.typ) ++ (text_member (codes "vertex") (vertex_column m.node.what) ++ (text_member (codes "what") (what_column m.node.what) ++ 125 ∷ [])))
+        (member (codes "type") (string (type_column m.typ)) (member (codes "vertex") (string (vertex_column m.node.what)) (member (codes "what") (string (what_column m.node.what)) no_members)))
+        (member_first (codes "type") (type_column m.typ)
+        (text_member (codes "vertex") (vertex_column m.node.what) ++ (text_member (codes "what") (what_column m.node.what) ++ 125 ∷ []))
+        (member (codes "vertex") (string (vertex_column m.node.what)) (member (codes "what") (string (what_column m.node.what)) no_members))
+        (member_first (codes "vertex") (vertex_column m.node.what)
+        (text_member (codes "what") (what_column m.node.what) ++ 125 ∷ [])
+        (member (codes "what") (string (what_column m.node.what)) no_members)
         (member_first (codes "what") (what_column m.node.what) (125 ∷ []) no_members refl)))
 
 -- two parts, one behind the other
@@ -138,6 +144,39 @@ array_written old opened told new first trees is_opened is_told is_new closed =
 
 -- ---- the whole object
 
+seven_parts : (p x q y r z s : List ℕ) → ((((((p ++ x) ++ q) ++ y) ++ r) ++ z) ++ s) ≡ p ++ (x ++ (q ++ (y ++ (r ++ (z ++ s)))))
+seven_parts p x q y r z s =
+    append_assoc (((((p ++ x) ++ q) ++ y) ++ r)) z s
+    ∙ append_assoc ((((p ++ x) ++ q) ++ y)) r (z ++ s)
+    ∙ append_assoc (((p ++ x) ++ q)) y (r ++ (z ++ s))
+    ∙ append_assoc (p ++ x) q (y ++ (r ++ (z ++ s)))
+    ∙ append_assoc p x (q ++ (y ++ (r ++ (z ++ s))))
+
+-- the members of an object with three keys, and a line feed behind it
+three_members : (k l n x y z : List ℕ)
+    → (123 ∷ (k ++ 58 ∷ [])) ++ (x ++ ((44 ∷ (l ++ 58 ∷ [])) ++ (y ++ ((44 ∷ (n ++ 58 ∷ [])) ++ (z ++ 125 ∷ 10 ∷ [])))))
+    ≡ (123 ∷ (k ++ 58 ∷ (x ++ 44 ∷ (l ++ 58 ∷ (y ++ 44 ∷ (n ++ 58 ∷ (z ++ 125 ∷ []))))))) ++ 10 ∷ []
+three_members k l n x y z = opened ∙ sym closed where
+  end : List ℕ
+  end = 10 ∷ []
+
+  opened : (123 ∷ (k ++ 58 ∷ [])) ++ (x ++ ((44 ∷ (l ++ 58 ∷ [])) ++ (y ++ ((44 ∷ (n ++ 58 ∷ [])) ++ (z ++ 125 ∷ 10 ∷ [])))))
+      ≡ 123 ∷ (k ++ 58 ∷ (x ++ 44 ∷ (l ++ 58 ∷ (y ++ 44 ∷ (n ++ 58 ∷ (z ++ 125 ∷ 10 ∷ []))))))
+  opened =
+      ap (λ (xs : List ℕ). 123 ∷ xs) (append_assoc k (58 ∷ []) (x ++ ((44 ∷ (l ++ 58 ∷ [])) ++ (y ++ ((44 ∷ (n ++ 58 ∷ [])) ++ (z ++ 125 ∷ 10 ∷ []))))))
+      ∙ ap (λ (xs : List ℕ). 123 ∷ (k ++ 58 ∷ (x ++ 44 ∷ xs))) (append_assoc l (58 ∷ []) (y ++ ((44 ∷ (n ++ 58 ∷ [])) ++ (z ++ 125 ∷ 10 ∷ []))))
+      ∙ ap (λ (xs : List ℕ). 123 ∷ (k ++ 58 ∷ (x ++ 44 ∷ (l ++ 58 ∷ (y ++ 44 ∷ xs))))) (append_assoc n (58 ∷ []) (z ++ 125 ∷ 10 ∷ []))
+
+  closed : (123 ∷ (k ++ 58 ∷ (x ++ 44 ∷ (l ++ 58 ∷ (y ++ 44 ∷ (n ++ 58 ∷ (z ++ 125 ∷ []))))))) ++ end
+      ≡ 123 ∷ (k ++ 58 ∷ (x ++ 44 ∷ (l ++ 58 ∷ (y ++ 44 ∷ (n ++ 58 ∷ (z ++ 125 ∷ 10 ∷ []))))))
+  closed =
+      ap (λ (xs : List ℕ). 123 ∷ xs) (append_assoc k (58 ∷ (x ++ 44 ∷ (l ++ 58 ∷ (y ++ 44 ∷ (n ++ 58 ∷ (z ++ 125 ∷ [])))))) end)
+      ∙ ap (λ (xs : List ℕ). 123 ∷ (k ++ 58 ∷ xs)) (append_assoc x (44 ∷ (l ++ 58 ∷ (y ++ 44 ∷ (n ++ 58 ∷ (z ++ 125 ∷ []))))) end)
+      ∙ ap (λ (xs : List ℕ). 123 ∷ (k ++ 58 ∷ (x ++ 44 ∷ xs))) (append_assoc l (58 ∷ (y ++ 44 ∷ (n ++ 58 ∷ (z ++ 125 ∷ [])))) end)
+      ∙ ap (λ (xs : List ℕ). 123 ∷ (k ++ 58 ∷ (x ++ 44 ∷ (l ++ 58 ∷ xs)))) (append_assoc y (44 ∷ (n ++ 58 ∷ (z ++ 125 ∷ []))) end)
+      ∙ ap (λ (xs : List ℕ). 123 ∷ (k ++ 58 ∷ (x ++ 44 ∷ (l ++ 58 ∷ (y ++ 44 ∷ xs))))) (append_assoc n (58 ∷ (z ++ 125 ∷ [])) end)
+      ∙ ap (λ (xs : List ℕ). 123 ∷ (k ++ 58 ∷ (x ++ 44 ∷ (l ++ 58 ∷ (y ++ 44 ∷ (n ++ 58 ∷ xs)))))) (append_assoc z (125 ∷ []) end)
+
 -- three arrays, between parts of the object
 pub object_written : (a b c d e f g h first second third fourth : List ℕ) (trees : MarkedTrees) → a ≡ [] → b ≡ a ++ first → c ≡ b ++ compact_text (trees_value trees.cycle) → d ≡ c ++ second
     → e ≡ d ++ compact_text (trees_value trees.multi) → f ≡ e ++ third → g ≡ f ++ compact_text (trees_value trees.none) → h ≡ g ++ fourth
@@ -161,8 +200,9 @@ object_written a b c d e f g h first second third fourth trees is_a is_b is_c is
     literal : (p q r s : List ℕ) → p ≡ 123 ∷ (quoted (codes "cycle") ++ 58 ∷ []) → q ≡ 44 ∷ (quoted (codes "multi") ++ 58 ∷ []) → r ≡ 44 ∷ (quoted (codes "none") ++ 58 ∷ []) → s ≡ 125 ∷ 10 ∷ []
         → ((((((p ++ cycle) ++ q) ++ multi) ++ r) ++ none) ++ s) ≡ compact_text (grove_value trees) ++ 10 ∷ []
     literal p q r s is_p is_q is_r is_s =
-        ap (λ (xs : List ℕ). (((((xs ++ cycle) ++ q) ++ multi) ++ r) ++ none) ++ s) is_p
-        ∙ ap (λ (xs : List ℕ). (((((123 ∷ (quoted (codes "cycle") ++ 58 ∷ []) ++ cycle) ++ xs) ++ multi) ++ r) ++ none) ++ s) is_q
-        ∙ ap (λ (xs : List ℕ). (((((123 ∷ (quoted (codes "cycle") ++ 58 ∷ []) ++ cycle) ++ 44 ∷ (quoted (codes "multi") ++ 58 ∷ [])) ++ multi) ++ xs) ++ none) ++ s) is_r
-        ∙ ap (λ (xs : List ℕ). (((((123 ∷ (quoted (codes "cycle") ++ 58 ∷ []) ++ cycle) ++ 44 ∷ (quoted (codes "multi") ++ 58 ∷ [])) ++ multi) ++ 44 ∷ (quoted (codes "none") ++ 58 ∷ [])) ++ none) ++ xs) is_s
-        ∙ simp append_assoc (sym (simp append_assoc))
+        seven_parts p cycle q multi r none s
+        ∙ ap (λ (xs : List ℕ). xs ++ (cycle ++ (q ++ (multi ++ (r ++ (none ++ s)))))) is_p
+        ∙ ap (λ (xs : List ℕ). (123 ∷ (quoted (codes "cycle") ++ 58 ∷ [])) ++ (cycle ++ (xs ++ (multi ++ (r ++ (none ++ s)))))) is_q
+        ∙ ap (λ (xs : List ℕ). (123 ∷ (quoted (codes "cycle") ++ 58 ∷ [])) ++ (cycle ++ ((44 ∷ (quoted (codes "multi") ++ 58 ∷ [])) ++ (multi ++ (xs ++ (none ++ s)))))) is_r
+        ∙ ap (λ (xs : List ℕ). (123 ∷ (quoted (codes "cycle") ++ 58 ∷ [])) ++ (cycle ++ ((44 ∷ (quoted (codes "multi") ++ 58 ∷ [])) ++ (multi ++ ((44 ∷ (quoted (codes "none") ++ 58 ∷ [])) ++ (none ++ xs)))))) is_s
+        ∙ three_members (quoted (codes "cycle")) (quoted (codes "multi")) (quoted (codes "none")) cycle multi none

@@ -33,7 +33,8 @@ fn append_first(
     append_depth(node.depth(), out)?;
     append_edge_member(node.edge(), out)?;
     append_mark_member(added.mark, out)?;
-    append_mode_member(sort_of_node(what), added.mode, types, out)
+    append_mode_member(sort_of_node(what), added.mode, types, out)?;
+    Ok(())
 }
 
 // The other members, and the bracket that closes the object.

@@ -76,5 +76,6 @@ fn append_listed(marked: &MarkedTree, types: &TypeTable, out: &mut Vec<u8>) -> R
 {
     let mut printer = TypePrinter::new(*out.allocator(), types);
     out.push(b',')?;
-    append_tree(marked, &mut printer, out)
+    append_tree(marked, &mut printer, out)?;
+    Ok(())
 }

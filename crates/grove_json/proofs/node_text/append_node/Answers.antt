@@ -1,10 +1,8 @@
-use Rattle.std.proofs.Common.{◌++◌, ap, sym, ◌∙◌}
-use Rattle.std.specs.Prelude.{OnOk}
+use Rattle.std.proofs.Common.{◌++◌, ap, ◌∙◌}
 use Rattle.std.proofs.lemmas.Result.{on_ok_weaker}
 use Rattle.marking.specs.Added.{with_added}
 use Rattle.marking.specs.Reading.{meant}
 use Rattle.grove_json.specs.NodeText.{first_members, last_members}
-use Rattle.grove_json.specs.GroveValue.{node_value}
 use Rattle.grove_json.proofs.Texts.{node_is, two_parts}
 use Rattle.grove_json.proofs.node_text.append_node.Goals as goal
 

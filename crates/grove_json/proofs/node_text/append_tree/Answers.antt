@@ -1,10 +1,10 @@
-use Rattle.std.proofs.Common.{rules, ◌≡◌, ◌++◌, [], ◌∷◌, map, sym, ap, subst, ◌∙◌, append_assoc, refl}
-use Rattle.std.specs.Prelude.{true, false}
+use Rattle.std.proofs.Common.{rules, ◌≡◌, ◌++◌, [], ◌∷◌, map, sym, ap, subst, ◌∙◌, refl}
+use Rattle.std.specs.Prelude.{false}
 use Rattle.std.specs.Iterator.Adapters.{zip_first, zip_second}
 use Rattle.std.specs.Slice.Iter.{iter_rest}
 use Rattle.std.proofs.lemmas.Slice.Zip.{either_empty_from_Zip}
 use Rattle.serde_json.specs.View.{items_of}
-use Rattle.serde_json.specs.Written.{comma_if, compact_text, items_text}
+use Rattle.serde_json.specs.Written.{compact_text, items_text}
 use Rattle.marking.specs.Added.{marked_nodes, with_added}
 use Rattle.marking.specs.Reading.{meant, meant_nodes}
 use Rattle.marking.specs.Numbers.{AreMarkedNodesOf}
@@ -49,5 +49,8 @@ returns c =
     let nodes = iter_rest (zip_first c.loop-node.node-iterator) in
     let added = iter_rest (zip_second c.loop-node.node-iterator) in
     let none : marked_nodes nodes added ≡ [] = none_left nodes added (either_empty_from_Zip c.loop-node.node-iterator c.next.new.self c.next.result c.in-None.is c.next.ensures.steps) in
-    tree_written c.args.out.now.items c.push.new.self.items c.loop-node.out.items c.push-2.new.self.items c.loop-node.later (meant_nodes types c.args.tree.now) c.in_ok-push.ensures.items
-    (ap (λ ms. c.loop-node.out.items ++ items_text c.loop-node.later (items_of (map node_value (meant_nodes types ms)))) (sym none) ∙ c.loop-node.invariant.written) c.in_ok-push-2.ensures.items
+    record {
+      appended =
+          tree_written c.args.out.now.items c.push.new.self.items c.loop-node.out.items c.push-2.new.self.items c.loop-node.later (meant_nodes types c.args.tree.now) c.in_ok-push.ensures.items
+          (ap (λ ms. c.loop-node.out.items ++ items_text c.loop-node.later (items_of (map node_value (meant_nodes types ms)))) (sym none) ∙ c.loop-node.invariant.written) c.in_ok-push-2.ensures.items;
+    }
