@@ -9,7 +9,13 @@ use session_script::{Item, Line, Session};
 pub fn is_fit(session: &Session) -> bool
     ensures { result ≡ is_fit session.now }
 {
-    session.replicas.len() == 1 && !session.items.as_slice().iter().any(|item| has_send(item))
+    session.replicas.len() == 1 && !has_send_item(session.items.as_slice())
+}
+
+fn has_send_item(items: &[Item]) -> bool
+    ensures { result ≡ list_any has_send items.now }
+{
+    items.iter().any(|item| has_send(item))
 }
 
 fn has_send(item: &Item) -> bool

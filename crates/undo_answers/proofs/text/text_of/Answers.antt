@@ -16,5 +16,5 @@ returns c = λ of stands.
       print = printed.0;
       answer = answer_is c.args.course.taken c.args.course.last of.last of.content.edits c.args.author undoing line stands.taken stands.last c.in_ok-undoing.ensures.2;
       printed = subst (λ (content : Content). IsPrintText (graph content.edits) printed.0) (c.in_ok-take.ensures ∙ ap (with_taken undoing) stands.content) printed.1;
-      written = printed.2 ∙ ap (λ (text : List ℕ). text ++ printed.0) (c.in_ok-undoing.ensures.1 ∙ ap (λ (text : List ℕ). text ++ line) c.new.ensures.items);
+      written = printed.2 ∙ ap (λ (text : List ℕ). text ++ printed.0) (c.in_ok-undoing.ensures.1 ∙ ap (λ (text : List ℕ). text ++ line) c.new-text.ensures.items);
     }

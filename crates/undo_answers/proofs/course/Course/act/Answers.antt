@@ -22,7 +22,7 @@ pub returns : goal.returns
 returns c = λ before stands.
     let old = c.args.self.now in
     let edits = c.in_ok-edits.edits in
-    let last : Some (record { before = c.len.result; edits = edits }) ≡ Some (record { before = length old.taken; edits = edits }) = ap (λ (n : ℕ). Some (record { before = n; edits = edits })) c.len.ensures in
+    let last : Some (record { before = c.len-before.result; edits = edits }) ≡ Some (record { before = length old.taken; edits = edits }) = ap (λ (n : ℕ). Some (record { before = n; edits = edits })) c.len-before.ensures in
     stands_acted _ _ c.args.author c.args.by c.args.action edits before stands c.in_ok-edits.ensures.edits
     (c.in_ok-edits.ensures.taken ∙ ap (λ (es : List Edit). with_taken es old.replica) (sym c.in_ok-edits.ensures.edits))
     (c.in_ok-extend_from_slice.ensures.appended ∙ ap (λ (es : List Edit). old.taken ++ es) c.as_slice.ensures)
