@@ -1,5 +1,6 @@
 pub mod Sound
 pub mod Dealing
 pub mod Inferring
+pub mod Reporting
 pub mod Fails
 pub mod Known
