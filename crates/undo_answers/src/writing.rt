@@ -48,13 +48,12 @@ fn append_fault(fault: UndoFault, out: &mut Vec<u8>) -> Result<(), NoMemory>
     match fault {
         UndoFault::Touched { edge } => {
             out.extend_from_slice(b"1 touched ")?;
-            write_name(edge.name, out)?
+            write_name(edge.name, out)
         }
         UndoFault::NamesSpent { greatest } => {
             out.extend_from_slice(b"2 names-spent ")?;
-            write_number(greatest, out)?
+            write_number(greatest, out)
         }
-        UndoFault::NoMemory => {}
+        UndoFault::NoMemory => Ok(()),
     }
-    Ok(())
 }
