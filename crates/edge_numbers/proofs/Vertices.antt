@@ -38,12 +38,16 @@ inserted_is vs v = ap (λ b. cond b vs (vs ++ v ∷ [])) (any_is_stands_in vs v)
 itself : (v : Vertex) → eq v v ≡ true
 itself v = eq_is_same_vertex v v ∙ same_vertex_itself v
 
-exact : (v w : Vertex) → eq v w ≡ true → v ≡ w
+pub exact : (v w : Vertex) → eq v w ≡ true → v ≡ w
 exact v w same = same_vertex_exact v w (sym (eq_is_same_vertex v w) ∙ same)
 
 -- the index at which a vertex is found is its number
 pub number_found : (vs : List Vertex) (v : Vertex) (n : ℕ) → position (eq v) vs ≡ Some n → slice_get vs n ≡ Some v
 number_found vs v n is = place_found eq itself exact vs v n is
+
+pub numbers_found : (vs : List Vertex) (v : Vertex) (o : Option ℕ) → o ≡ position (eq v) vs → IfSome o (λ n. slice_get vs n ≡ Some v)
+numbers_found vs v None is = tt
+numbers_found vs v (Some n) is = number_found vs v n (sym is)
 
 pub number_only : (vs : List Vertex) (v : Vertex) (n : ℕ) → IsDistinct is_same_vertex vs → slice_get vs n ≡ Some v → position (eq v) vs ≡ Some n
 number_only vs v n once at = place_only eq itself exact vs v n (once_in_set vs once) at
@@ -62,14 +66,12 @@ one_number vs i j once first second same =
 
 -- ---- what is found among the vertices
 
-pub vertex_numbers : (vs : List Vertex) (es : NarrowEntries) (v : Vertex) (o : Option ℕ) → o ≡ position (eq v) vs → IfSome o (IsNumberOfVertex (numbered vs es) v)
-vertex_numbers vs es v None is = tt
-vertex_numbers vs es v (Some n) is =
-    let at = number_found vs v n (sym is) in
-    (slice_get_within vs n v at, get_or_from_slice_get vs n v root at)
+pub vertex_numbers : (vs : List Vertex) (es : NarrowEntries) (v : Vertex) (o : Option ℕ) → IfSome o (λ n. slice_get vs n ≡ Some v) → IfSome o (IsNumberOfVertex (numbered vs es) v)
+vertex_numbers vs es v None at = tt
+vertex_numbers vs es v (Some n) at = (slice_get_within vs n v at, get_or_from_slice_get vs n v root at)
 
-pub only_vertex_number : (vs : List Vertex) (es : NarrowEntries) (v : Vertex) (n : ℕ) → IsDistinct is_same_vertex vs → IsNumberOfVertex (numbered vs es) v n → position (eq v) vs ≡ Some n
-only_vertex_number vs es v n once is = number_only vs v n once (slice_get-get_or vs n root is.0 ∙ ap Some is.1)
+pub vertex_stands : (vs : List Vertex) (es : NarrowEntries) (v : Vertex) (n : ℕ) → IsNumberOfVertex (numbered vs es) v n → slice_get vs n ≡ Some v
+vertex_stands vs es v n is = slice_get-get_or vs n root is.0 ∙ ap Some is.1
 
 -- ---- what is entered
 

@@ -10,7 +10,7 @@ ghost use Rattle.edge_numbers.specs.Numbered.{edges_of, states_of, edge_at, stat
 ghost use Rattle.graph_words.specs.States.{state_in, with_state, HasRoom, KeepsRoom};
 ghost use Rattle.edge_numbers.specs.Narrow.{edge_of, entries_of, HasEnds, IsNumbered};
 
-use crate::ends::{enter_vertex, find_ends};
+use crate::ends::{enter_vertex, find_ends, note_last, number_of};
 use crate::narrow_edge::NarrowEdge;
 use crate::order::compare_edges;
 use edge_lattice::State;
@@ -18,6 +18,7 @@ use grove_edits::{Edge, Vertex};
 use grove_names::Name;
 use grove_sorts::Position;
 use indexmap::{IndexMap, IndexSet};
+use numbers_by_name::Guesses;
 use seeded_hash::HashSeed;
 use std::alloc::Global;
 use std::cmp::Ordering;
@@ -28,6 +29,8 @@ use text_parts::NoMemory;
 #[derive(Drop)]
 pub struct EdgeNumbers {
     vertices: IndexSet<Vertex, HashSeed>,
+    // Which number a vertex probably has.
+    guesses: Guesses,
     edges: IndexMap<NarrowEdge, State, HashSeed>,
 }
 
@@ -85,6 +88,7 @@ impl EdgeNumbers {
     {
         EdgeNumbers {
             vertices: IndexSet::with_hasher(alloc, seed),
+            guesses: Guesses::new(alloc),
             edges: IndexMap::with_hasher(alloc, seed),
         }
     }
@@ -124,7 +128,7 @@ impl EdgeNumbers {
         ensures number { IfSome result (IsNumberOfVertex self.now vertex.now) }
         ensures only { (n : ℕ) → IsNumberOfVertex self.now vertex.now n → result ≡ Some n }
     {
-        self.vertices.get_index_of(vertex)
+        number_of(&self.vertices, &self.guesses, vertex)
     }
 
     /// The number of an edge, or None where it has none.
@@ -132,7 +136,7 @@ impl EdgeNumbers {
         ensures number { IfSome result (IsNumberOfEdge self.now edge.now) }
         ensures only { (n : ℕ) → IsNumberOfEdge self.now edge.now n → result ≡ Some n }
     {
-        let narrow = find_ends(&self.vertices, edge)?;
+        let narrow = find_ends(&self.vertices, &self.guesses, edge)?;
         self.edges.get_index_of(&narrow)
     }
 
@@ -154,7 +158,8 @@ impl EdgeNumbers {
         ensures numbers_stay { (v : Vertex) (n : ℕ) → IsNumberOfVertex self.old v n → IsNumberOfVertex self.new v n }
         ensures entries { self.new.entries ≡ self.old.entries }
     {
-        let number = enter_vertex(&mut self.vertices, vertex)?;
+        let number = enter_vertex(&mut self.vertices, &self.guesses, vertex)?;
+        note_last(&mut self.guesses, self.vertices.as_slice());
         Ok(number as usize)
     }
 

@@ -1,4 +1,4 @@
-ghost use Rattle.std.specs.Prelude.{◌≡◌, ◌&&◌, ◌||◌, true, length, IsTrue, IfOk, IfSome, OnOk};
+ghost use Rattle.std.specs.Prelude.{◌≡◌, ℕ, ◌&&◌, ◌||◌, Some, true, length, IsTrue, IfOk, IfSome, OnOk};
 ghost use Rattle.edge_numbers.specs.Numbered.{edge_at, vertex_at, IsEdgeNumber, IsVertexNumber, IsNumberOfEdge};
 ghost use Rattle.std.specs.List.{list_any};
 ghost use Rattle.grove_edits.specs.declared.edge.Edge.{Edge};
@@ -6,7 +6,7 @@ ghost use Rattle.grove_edits.specs.Vertex.{is_same_vertex};
 ghost use Rattle.graph_words.specs.Live.{IsInEdgeOrder, holds_edge};
 ghost use Rattle.edge_lists.specs.Lists.{holds_number};
 ghost use Rattle.numbers_by_name.specs.ByName.{numbers_of, is_same_name};
-ghost use Rattle.live_graph.specs.ByName.{is_named, is_named_edge, KeepsNames};
+ghost use Rattle.live_graph.specs.ByName.{is_named, is_named_edge, KeepsNames, HasEdgeNames};
 
 use crate::whole::is_present;
 use edge_numbers::EdgeNumbers;
@@ -81,9 +81,12 @@ fn is_edge(edges: &EdgeNumbers, number: usize, edge: &Edge) -> bool
 
 // The edge that is sought, where it has the number.
 fn at_number(edges: &EdgeNumbers, number: usize, edge: &Edge) -> Option<usize>
-    ensures { IfSome result (IsNumberOfEdge edges.now edge.now) }
+    ensures number { IfSome result (IsNumberOfEdge edges.now edge.now) }
+    ensures only { (n : ℕ) → IsNumberOfEdge edges.now edge.now n → result ≡ Some n }
 {
-    if number < edges.edge_count() && is_edge(edges, number, edge) {
+    // No edge has two numbers.
+    let count = edges.edge_count();
+    if number < count && is_edge(edges, number, edge) {
         Some(number)
     } else {
         edges.number(edge)
@@ -93,7 +96,9 @@ fn at_number(edges: &EdgeNumbers, number: usize, edge: &Edge) -> Option<usize>
 /// The number of an edge that has one. Nearly every name is that of one edge, so it is mostly found by its name, and no hash is taken:
 /// edges come in the order of names, so what is read is near to what was read before.
 pub(crate) fn find(edges: &EdgeNumbers, names: &NumbersByName, edge: &Edge) -> Option<usize>
-    ensures { IfSome result (IsNumberOfEdge edges.now edge.now) }
+    requires { HasEdgeNames edges.now names.now }
+    ensures number { IfSome result (IsNumberOfEdge edges.now edge.now) }
+    ensures only { (n : ℕ) → IsNumberOfEdge edges.now edge.now n → result ≡ Some n }
 {
     match names.with_name(edge.name) {
         [] => None,

@@ -105,14 +105,17 @@ impl LiveGraph {
         ensures number { IfSome result (IsNumberOf self.now edge.now) }
         ensures only { (n : ℕ) → IsNumberOf self.now edge.now n → result ≡ Some n }
     {
-        self.edges.number(edge)
+        find(&self.edges, &self.edge_names, edge)
     }
 
     /// The state of an edge.
     pub fn state(&self, edge: &Edge) -> State
         ensures { result ≡ state_in self.now edge.now }
     {
-        self.edges.state(edge)
+        match self.number(edge) {
+            Some(number) => self.state_at(number),
+            None => State::Absent,
+        }
     }
 
     /// The state of the edge with a number.
@@ -174,7 +177,7 @@ impl LiveGraph {
         ensures room_stays { KeepsRoom self.old self.new }
         ensures numbers_stay { KeepsNumbersOf self.old self.new }
     {
-        if let Some(number) = self.edges.number(edge) {
+        if let Some(number) = self.number(edge) {
             self.set_state_at(number, old);
         }
     }
@@ -187,7 +190,7 @@ impl LiveGraph {
         ensures room_stays { KeepsRoom self.old self.new }
         ensures numbers_stay { KeepsNumbersOf self.old self.new }
     {
-        match self.edges.number(&edit.edge()) {
+        match self.number(&edit.edge()) {
             Some(number) => self.raise_at(number, edit.kind()),
             None => Change::Same,
         }

@@ -30,13 +30,13 @@ use Rattle.kept_records.specs.Kept.{Kept, AreKept}
 use Rattle.kept_records.specs.Change.{CyclesStay}
 use Rattle.kept_records.specs.Short.{SourceAloneSees, LeadsUp}
 use Rattle.mark_store.specs.declared.record.Record.{Record}
-use Rattle.mark_store.specs.Places.{Places}
+use Rattle.mark_store.specs.Places.{Places, holds}
 use Rattle.mark_incremental.specs.Reading.{kept_by, IsRecordOf, records_at, AreRecordsOf}
 use Rattle.kept_records.specs.Change.{AreNear, near_size}
 use Rattle.kept_records.proofs.OnWalks.{on_new_source}
 use Rattle.kept_records.proofs.Sizes.{walk_once, length_within}
 use Rattle.kept_records.proofs.OneSize.{live_along, kept_along}
-use Rattle.mark_incremental.specs.Looking.{holds, AreRoots}
+use Rattle.mark_incremental.specs.Looking.{AreRoots}
 use Rattle.type_core.specs.TypeTable.{KeepsTypes}
 use Rattle.ctx_table.specs.CtxTable.{KeepsContexts}
 use Rattle.mark_incremental.specs.Standing.{KeptMarks, StandFor, kept_in, records_in}

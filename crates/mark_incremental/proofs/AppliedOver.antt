@@ -1,5 +1,5 @@
 -- What an edit did to a graph and marks that are as others were.
-use Rattle.std.proofs.Common.{◌≡◌, ℕ, ◌≤◌, [], ◌∷◌, sym, ap, subst, ◌∙◌}
+use Rattle.std.proofs.Common.{ℕ, [], ◌∷◌, sym, ap, subst, ◌∙◌}
 use Rattle.std.specs.Prelude.{Result, Ok, Err, IfOk, OnOk, OnErr}
 use Rattle.edge_lattice.specs.State.{state_join}
 use Rattle.grove_edits.specs.declared.edit.Edit.{Edit}

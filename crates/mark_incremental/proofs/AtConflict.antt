@@ -1,16 +1,14 @@
 -- A position with a conflict both before an edit and after it.
-use Rattle.std.proofs.Common.{◌≡◌, ◌⊎◌, inl, inr, ℕ, suc, ◌+◌, ◌<◌, ◌≤◌, Bool, true, false, List, [], ◌∷◌, ◌++◌, drop, drop-cons, get_or, length, Option, Some, None, is_some, refl, sym, ap, subst, ◌∙◌, arith}
-use Rattle.std.specs.Prelude.{◌||◌, IfSome}
+use Rattle.std.proofs.Common.{◌≡◌, ◌⊎◌, inl, inr, ℕ, ◌+◌, ◌≤◌, Bool, true, false, List, [], ◌∷◌, ◌++◌, Option, Some, None, is_some, refl, sym, ap, subst, ◌∙◌, arith}
+use Rattle.std.specs.Prelude.{IfSome}
 use Rattle.std.specs.Option.{option_map}
 use Rattle.std.specs.List.{AllByRecursion}
 use Rattle.grove_sorts.specs.Ctor.{sort_of_ctor}
 use Rattle.grove_edits.specs.declared.vertex.Vertex.{Vertex}
 use Rattle.grove_edits.specs.declared.edge.Edge.{Edge}
 use Rattle.grove_edits.specs.Edge.{IsWellFormed}
-use Rattle.grove_edits.specs.Graph.{is_same_edge}
 use Rattle.graph_words.specs.declared.class.Class.TheVariants.{Inner}
 use Rattle.graph_words.specs.Class.{class}
-use Rattle.graph_words.specs.Live.{holds_edge}
 use Rattle.type_core.specs.Typ.{Typ}
 use Rattle.type_core.specs.TypeTable.{KeepsTypes}
 use Rattle.ctx_table.specs.Context.{Context}

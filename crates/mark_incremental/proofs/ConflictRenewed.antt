@@ -48,9 +48,9 @@ use Rattle.kept_records.proofs.Cost.{edges_leave}
 use Rattle.kept_records.proofs.Sizes.{sum_within}
 use Rattle.kept_records.proofs.Conflict.{conflict_kept, conflict_within}
 use Rattle.mark_store.specs.declared.record.Record.{Record}
-use Rattle.mark_store.specs.Places.{Places, value_at}
+use Rattle.mark_store.specs.Places.{Places, value_at, holds}
 use Rattle.mark_incremental.specs.Reading.{kept_by, records_at, AreRecordsOf}
-use Rattle.mark_incremental.specs.Looking.{on, holds}
+use Rattle.mark_incremental.specs.Looking.{on}
 use Rattle.mark_incremental.specs.Walking.{Level, demands, IsStart, start_at, LeavesRightBelow, meant}
 use Rattle.mark_incremental.specs.ShortWalks.{IsSeenByOne, IsDemandThere, IsCameOrSource}
 use Rattle.mark_incremental.specs.AtConflict.{MaySeeAlone, StoodSeveral, level_at, MakesAtConflict, heads, stays, begins_there, StandsAtEdge, HasMadeAtConflict, IsConflictPaidFor}

@@ -17,7 +17,6 @@ use Rattle.graph_words.specs.Whole.{AreLive}
 use Rattle.grove_terms.proofs.OneGrove.{one_live}
 use Rattle.grove_terms.proofs.WellSorted.{live_well_formed}
 use Rattle.type_core.specs.Typ.{Typ}
-use Rattle.graph_words.specs.States.{Entries, state_in}
 use Rattle.judging.proofs.Kept.{types-itself, contexts-itself}
 use Rattle.type_core.specs.TypeTable.{KeepsTypes}
 use Rattle.ctx_table.specs.Context.{Context}
@@ -28,10 +27,10 @@ use Rattle.kept_records.specs.Change.{CyclesStay, is_on_walks}
 use Rattle.kept_records.specs.Renewal.{MakesTrees, AreAllInTrees, put}
 use Rattle.kept_records.proofs.OneSize.{live_along, kept_along}
 use Rattle.mark_store.specs.declared.record.Record.{Record}
-use Rattle.mark_store.specs.Places.{Places, value_at}
+use Rattle.mark_store.specs.Places.{Places, value_at, holds}
 use Rattle.mark_incremental.specs.declared.passing.Ends.{Ends}
 use Rattle.mark_incremental.specs.Reading.{kept_by, IsRecordOf, records_at, AreRecordsOf}
-use Rattle.mark_incremental.specs.Looking.{on, holds, AreRoots}
+use Rattle.mark_incremental.specs.Looking.{on, AreRoots}
 use Rattle.mark_incremental.specs.Walking.{meant, HasMadeTrees, LeavesRight}
 use Rattle.mark_incremental.specs.Passing.{AreWalks, HoldsThese}
 use Rattle.mark_incremental.specs.Standing.{KeptMarks, StandFor, records_in, put_in}

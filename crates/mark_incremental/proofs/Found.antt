@@ -23,9 +23,9 @@ use Rattle.std.specs.Prelude.{unwrap_or}
 use Rattle.kept_records.specs.Local.{is_inner}
 use Rattle.kept_records.proofs.Numbers.{one_demand}
 use Rattle.mark_store.specs.declared.record.Record.{Record}
-use Rattle.mark_store.specs.Places.{Places, value_at}
+use Rattle.mark_store.specs.Places.{Places, value_at, holds}
 use Rattle.mark_incremental.specs.Reading.{IsRecordOf, AreRecordsOf, demand_of}
-use Rattle.mark_incremental.specs.Looking.{holds, AreRoots}
+use Rattle.mark_incremental.specs.Looking.{AreRoots}
 
 -- ---- whether a vertex stands in the tree of another, by its parents
 

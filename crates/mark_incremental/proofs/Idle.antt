@@ -11,7 +11,7 @@ use Rattle.graph_words.specs.States.{Entries, state_in}
 use Rattle.judging.proofs.Kept.{types-itself, contexts-itself}
 use Rattle.mark_store.specs.declared.record.Record.{Record}
 use Rattle.mark_incremental.specs.declared.applying.Applied.{Applied}
-use Rattle.mark_incremental.specs.Looking.{holds}
+use Rattle.mark_store.specs.Places.{holds}
 use Rattle.mark_incremental.specs.Standing.{KeptMarks, StandFor, kept_in}
 use Rattle.mark_incremental.specs.Applying.{put_back_in, roots_back, WasApplied}
 use Rattle.mark_incremental.proofs.Raised.{same_graph_from}

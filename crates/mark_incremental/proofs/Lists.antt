@@ -7,8 +7,7 @@ use Rattle.grove_edits.specs.declared.vertex.Vertex.{Vertex}
 use Rattle.grove_edits.specs.Vertex.{is_same_vertex, stands_in}
 use Rattle.grove_edits.proofs.Vertices.{same_vertex_exact, same_vertex_laws}
 use Rattle.kept_records.specs.Change.{StandOnce}
-use Rattle.mark_store.specs.Places.{Places}
-use Rattle.mark_incremental.specs.Looking.{holds}
+use Rattle.mark_store.specs.Places.{Places, holds}
 use Rattle.mark_incremental.specs.Passing.{HoldsThese}
 
 pub all_init : {X : Type 0} (P : X → Type 0) (xs : List X) (x : X) → AllByRecursion P (xs ++ x ∷ []) → AllByRecursion P xs

@@ -22,9 +22,9 @@ use Rattle.kept_records.proofs.Edited.{made_within}
 use Rattle.kept_records.proofs.Cost.{whole_weigh, edges_leave}
 use Rattle.kept_records.proofs.Sizes.{weight_within}
 use Rattle.mark_store.specs.declared.record.Record.{Record}
-use Rattle.mark_store.specs.Places.{Places}
+use Rattle.mark_store.specs.Places.{Places, holds}
 use Rattle.mark_incremental.specs.Reading.{records_at}
-use Rattle.mark_incremental.specs.Looking.{on, holds}
+use Rattle.mark_incremental.specs.Looking.{on}
 use Rattle.mark_incremental.specs.Walking.{LeavesRight}
 use Rattle.mark_incremental.specs.Passing.{HoldsThese}
 use Rattle.mark_incremental.specs.Ticks.{weight, weight_of, AreTreesPaid, AreTreesPaidFor}

@@ -16,9 +16,9 @@ use Rattle.kept_records.specs.Local.{is_inner}
 use Rattle.kept_records.specs.Change.{CyclesStay, is_on_walks}
 use Rattle.kept_records.specs.Renewal.{MakesTrees, put}
 use Rattle.mark_store.specs.declared.record.Record.{Record}
-use Rattle.mark_store.specs.Places.{Places, value_at}
+use Rattle.mark_store.specs.Places.{Places, value_at, holds}
 use Rattle.mark_incremental.specs.Reading.{kept_by, records_at}
-use Rattle.mark_incremental.specs.Looking.{on, holds}
+use Rattle.mark_incremental.specs.Looking.{on}
 use Rattle.mark_incremental.specs.Walking.{meant, HasMadeTrees, LeavesRight}
 use Rattle.mark_incremental.specs.Passing.{HoldsThese}
 use Rattle.mark_incremental.specs.Standing.{put_in}

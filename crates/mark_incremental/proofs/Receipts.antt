@@ -1,5 +1,5 @@
 -- Edits that were applied one after the other, and are taken back.
-use Rattle.std.proofs.Common.{◌≡◌, ◌+◌, Bool, List, [], ◌∷◌, ◌++◌, Option, Some, None, IfSome, refl, sym, ap, subst, ◌∙◌, arith}
+use Rattle.std.proofs.Common.{◌≡◌, Bool, List, [], ◌∷◌, ◌++◌, Option, Some, None, IfSome, refl, sym, ap, subst, ◌∙◌}
 use Rattle.std.specs.Prelude.{reverse}
 use Rattle.std.proofs.lemmas.List.{reverse-append}
 use Rattle.grove_edits.specs.declared.vertex.Vertex.{Vertex}
@@ -14,11 +14,10 @@ use Rattle.ctx_table.specs.CtxTable.{KeepsContexts}
 use Rattle.judging.proofs.Kept.{types-then, contexts-then}
 use Rattle.live_graph.specs.NumberOf.{KeepsNumbersOf}
 use Rattle.mark_store.specs.declared.record.Record.{Record}
-use Rattle.mark_store.specs.Places.{HasRoom}
+use Rattle.mark_store.specs.Places.{HasRoom, holds}
 use Rattle.mark_incremental.specs.declared.applying.Applied.{Applied}
 use Rattle.mark_incremental.specs.declared.applying_all.Receipt.{Receipt}
 use Rattle.mark_incremental.specs.Reading.{IsRecordOf}
-use Rattle.mark_incremental.specs.Looking.{holds}
 use Rattle.mark_incremental.specs.Standing.{KeptMarks, kept_in}
 use Rattle.mark_incremental.specs.Applying.{HaveGrown, KeepMarksRoom, put_back_in, roots_back}
 use Rattle.mark_incremental.specs.Receipts.{Held, IsAsBefore, HasLed, HaveLed}

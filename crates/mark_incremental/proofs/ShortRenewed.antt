@@ -37,9 +37,9 @@ use Rattle.kept_records.proofs.Edited.{near_vertex}
 use Rattle.kept_records.proofs.Raised.{vertex_was}
 use Rattle.kept_records.proofs.Standing.{has_place}
 use Rattle.mark_store.specs.declared.record.Record.{Record}
-use Rattle.mark_store.specs.Places.{Places, value_at}
+use Rattle.mark_store.specs.Places.{Places, value_at, holds}
 use Rattle.mark_incremental.specs.Reading.{kept_by, records_at, AreRecordsOf}
-use Rattle.mark_incremental.specs.Looking.{on, holds}
+use Rattle.mark_incremental.specs.Looking.{on}
 use Rattle.mark_incremental.specs.Walking.{start_at, IsStart, LeavesRightBelow, meant}
 use Rattle.mark_incremental.specs.ShortWalks.{IsSeenByOne, IsDemandThere, EndsWithType, IsCameOrSource, IsAlone, MakesAlone, inner, begins, left, by_itself, LeavesRightAlone, MakesBoth, HasMadeBoth, AreBothPaidFor}
 use Rattle.mark_incremental.specs.Standing.{KeptMarks, records_in, put_in}

@@ -1,10 +1,8 @@
 -- What two walks down make, one for the target of an edge and one from near its source.
-use Rattle.std.proofs.Common.{◌≡◌, ◌⊎◌, inl, inr, ℕ, ◌+◌, ◌-◌, ◌*◌, ◌≤◌, Bool, true, false, List, [], ◌∷◌, ◌++◌, length, refl, sym, ap, subst, ◌∙◌, arith}
+use Rattle.std.proofs.Common.{◌≡◌, ℕ, ◌+◌, ◌-◌, ◌≤◌, Bool, true, false, List, [], ◌∷◌, ◌++◌, length, refl, sym, ap, subst, ◌∙◌, arith}
 use Rattle.grove_sorts.specs.Ctor.{sort_of_ctor}
 use Rattle.grove_edits.specs.declared.vertex.Vertex.{Vertex}
 use Rattle.grove_edits.specs.declared.edge.Edge.{Edge}
-use Rattle.graph_words.specs.declared.class.Class.TheVariants.{Inner}
-use Rattle.graph_words.specs.Class.{class}
 use Rattle.std.specs.Prelude.{Some, Option, IfSome, slice_get}
 use Rattle.grove_edits.specs.Vertex.{is_same_vertex}
 use Rattle.grove_edits.proofs.Vertices.{same_vertex_itself}
@@ -19,8 +17,8 @@ use Rattle.judging.proofs.Running.{Agree}
 use Rattle.kept_records.specs.Kept.{Kept, Records, alone}
 use Rattle.kept_records.specs.Short.{MakesFrom}
 use Rattle.mark_incremental.specs.Walking.{Start, start_at, IsStart, HasMade}
-use Rattle.mark_incremental.specs.Ticks.{weight_of, IsWalkPaid}
-use Rattle.mark_incremental.specs.ShortWalks.{IsAlone, MakesAlone, by_itself, IsAlonePaid, MakesBoth, AreBothPaid}
+use Rattle.mark_incremental.specs.Ticks.{IsWalkPaid}
+use Rattle.mark_incremental.specs.ShortWalks.{IsAlone, MakesAlone, by_itself, IsAlonePaid, AreBothPaid}
 use Rattle.mark_incremental.proofs.Paid.{joined}
 
 -- what a number says is demanded is the same over tables that have grown

@@ -8,8 +8,7 @@ use Rattle.graph_words.specs.Walk.{above, above_last, GoesOn, IsEnd, IsWalk, wal
 use Rattle.graph_words.specs.Class.{is_vertex_of}
 use Rattle.graph_words.proofs.Endings.{walk_is, walk_is_one}
 use Rattle.graph_words.specs.Cycle.{is_on_cycle}
-use Rattle.mark_store.specs.Places.{Places}
-use Rattle.mark_incremental.specs.Looking.{holds}
+use Rattle.mark_store.specs.Places.{Places, holds}
 use Rattle.mark_incremental.specs.Passing.{IsUpTo}
 
 some_same : (x y : Vertex) → Some x ≡ Some y → x ≡ y

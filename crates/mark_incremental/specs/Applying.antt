@@ -15,12 +15,12 @@ use Rattle.ctx_table.specs.Context.{Context}
 use Rattle.ctx_table.specs.CtxTable.{KeepsContexts}
 use Rattle.kept_records.specs.Kept.{AreKept}
 use Rattle.mark_store.specs.declared.record.Record.{Record}
-use Rattle.mark_store.specs.Places.{Places, value_at, HasRoom, KeepsRoom}
+use Rattle.mark_store.specs.Places.{Places, value_at, HasRoom, KeepsRoom, holds}
 use Rattle.mark_incremental.specs.declared.applying.OldRecords.{OldRecords}
 use Rattle.mark_incremental.specs.declared.applying.Applied.{Applied}
 use Rattle.mark_incremental.specs.declared.passing.Ends.{Ends}
 use Rattle.mark_incremental.specs.Reading.{IsRecordOf}
-use Rattle.mark_incremental.specs.Looking.{holds, AreRoots}
+use Rattle.mark_incremental.specs.Looking.{AreRoots}
 use Rattle.mark_incremental.specs.Passing.{AreWalks}
 use Rattle.mark_incremental.specs.Raising.{WasRaised}
 use Rattle.mark_incremental.specs.Standing.{KeptMarks, StandFor, kept_in, records_in}

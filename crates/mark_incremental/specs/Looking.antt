@@ -1,5 +1,5 @@
 -- Inner model, which no public contract cites: what is found of the child of a vertex, before it is judged again or left as it is.
-use Rattle.std.specs.Prelude.{◌≡◌, ◌⊎◌, Bool, ◌||◌, true, false, List, Option, None, Some, is_some, unwrap_or}
+use Rattle.std.specs.Prelude.{◌≡◌, ◌⊎◌, Bool, ◌||◌, true, false, List, Option, None, Some, unwrap_or}
 use Rattle.grove_sorts.specs.declared.sort.Sort.{Sort}
 use Rattle.grove_sorts.specs.declared.sort.Sort.TheVariants.{Top, Exp, Pat, Typ as TypeSort}
 use Rattle.grove_sorts.specs.declared.ctor.Ctor.{Ctor}
@@ -18,12 +18,8 @@ use Rattle.judging.specs.Frames.{given_at}
 use Rattle.judging.specs.Machine as machine
 use Rattle.kept_records.specs.Kept.{Kept}
 use Rattle.mark_store.specs.declared.record.Record.{Record}
-use Rattle.mark_store.specs.Places.{Places, value_at}
+use Rattle.mark_store.specs.Places.{Places, value_at, holds}
 use Rattle.mark_incremental.specs.Reading.{kept_by, demand_of}
-
--- the vertices of a set
-abbrev pub holds : Places Bool → Vertex → Bool
-holds places v = is_some (value_at places v)
 
 -- the set has exactly the roots of the cycles of a graph with these live edges
 abbrev pub AreRoots : List Edge → Places Bool → Type 0

@@ -7,8 +7,7 @@ use Rattle.graph_words.specs.Walk.{above, GoesOn, IsWalk, walk}
 use Rattle.graph_words.specs.Cycle.{is_on_cycle}
 use Rattle.mark_incremental.specs.declared.passing.Ends.{Ends}
 use Rattle.kept_records.specs.Change.{StandOnce}
-use Rattle.mark_store.specs.Places.{Places}
-use Rattle.mark_incremental.specs.Looking.{holds}
+use Rattle.mark_store.specs.Places.{Places, holds}
 
 -- These vertices, which the set holds, are the first of the walk, and this is the last of them. Others are left.
 pub record IsUpTo (live : List Edge) (start at : Vertex) (passed : Places Bool) (vertices : List Vertex) : Type 0 where

@@ -1,5 +1,5 @@
 -- Inner model, which no public contract cites: a walk down that begins near the source of an edge.
-use Rattle.std.specs.Prelude.{◌≡◌, ◌⊎◌, Bool, true, false, ℕ, ◌+◌, ◌*◌, ◌≤◌, List, [], ◌∷◌, ◌++◌, length, IsTrue, Option, Some, None}
+use Rattle.std.specs.Prelude.{◌≡◌, ◌⊎◌, Bool, true, false, ℕ, ◌+◌, ◌*◌, ◌≤◌, List, [], ◌∷◌, ◌++◌, IsTrue, Option, Some, None}
 use Rattle.grove_sorts.specs.declared.sort.Sort.TheVariants.{Top, Exp}
 use Rattle.grove_sorts.specs.Ctor.{positions, sort_of_ctor}
 use Rattle.grove_edits.specs.declared.vertex.Vertex.{Vertex}
@@ -15,7 +15,7 @@ use Rattle.graph_words.specs.Live.{holds_edge, parents_of}
 use Rattle.graph_words.specs.declared.few.Few.{Few}
 use Rattle.graph_words.specs.Few.{first_two}
 use Rattle.mark_incremental.specs.Looking.{AreRoots}
-use Rattle.graph_words.specs.Walk.{above, walk}
+use Rattle.graph_words.specs.Walk.{above}
 use Rattle.type_core.specs.Typ.{Typ}
 use Rattle.ctx_table.specs.Context.{Context}
 use Rattle.mark_step.specs.declared.node.Demand.{Demand}

@@ -8,7 +8,7 @@ ghost use Rattle.grove_edits.specs.Graph.{IsSame, graph as graph_of, graph_join,
 ghost use Rattle.live_graph.specs.NumberOf.{KeepsNumbersOf};
 ghost use Rattle.graph_words.specs.States.{state_in, Entries, HasRoom, KeepsRoom};
 ghost use Rattle.kept_records.specs.Size.{IsSize};
-ghost use Rattle.mark_incremental.specs.Looking.{holds};
+ghost use Rattle.mark_store.specs.Places.{holds};
 ghost use Rattle.mark_incremental.specs.Standing.{StandFor, KeptMarks, kept_in};
 ghost use Rattle.mark_incremental.specs.Applying.{HaveGrown, KeepMarksRoom, put_back_in, roots_back, CanRenewBack, WasApplied, IsApplied, IsBack, CanTakeBack};
 

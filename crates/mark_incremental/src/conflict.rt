@@ -38,7 +38,7 @@ use grove_edits::{Edge, Vertex, is_same_vertex};
 use grove_sorts::place_at;
 use live_graph::{Edges, LiveGraph};
 use mark_step::Demand;
-use mark_store::{MarkStore, Record, VertexMap};
+use mark_store::{MarkStore, Record, VertexSet};
 use std::alloc::Global;
 use std::sync::ledger::Ledger;
 use text_parts::NoMemory;
@@ -252,7 +252,7 @@ impl Marks {
     // What a walk down from the target of an edge at a conflict makes, over the tables of these marks.
     fn make_below_conflict<L: Ledger>(
         &mut self,
-        judged: &VertexMap<bool>,
+        judged: &VertexSet,
         edge: &Edge,
         demand: Demand,
         graph: &LiveGraph,

@@ -20,7 +20,7 @@ use grove_sorts::{Sort, sort_of};
 use judging::{Given, nothing};
 use live_graph::LiveGraph;
 use mark_step::{Demand, Mode};
-use mark_store::{MarkStore, Record, VertexMap};
+use mark_store::{MarkStore, Record, VertexMap, VertexSet};
 use std::sync::ledger::Ledger;
 use type_core::TypeTable;
 
@@ -34,7 +34,7 @@ pub(crate) struct Walk<'t> {
     /// All vertices are judged again.
     pub(crate) whole: bool,
     /// These are, where not all are.
-    pub(crate) passed: &'t VertexMap<bool>,
+    pub(crate) passed: &'t VertexSet,
     ghost rooted: { AreRoots (live graph.now) roots.now },
     ghost well_formed: { AllByRecursion IsWellFormed (live graph.now) } by { Prim.hlevel props },
 }
@@ -68,7 +68,7 @@ impl<'t> Walk<'t> {
     pub(crate) fn is_judged(&self, vertex: &Vertex) -> bool
         ensures { result ≡ on self.now.whole self.now.passed.now vertex.now }
     {
-        self.whole || holds(self.passed, vertex)
+        self.whole || self.passed.holds(vertex)
     }
 
     // What a tree gives, of whose vertex this is demanded, where it is left as it is.

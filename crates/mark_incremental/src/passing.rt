@@ -2,13 +2,13 @@ ghost use Rattle.std.specs.Prelude.{◌≡◌, ◌+◌, ◌*◌, ◌≤◌, ◌|
 ghost use Rattle.grove_edits.specs.declared.vertex.Vertex.{Vertex};
 ghost use Rattle.grove_edits.specs.Vertex.{is_same_vertex, stands_in};
 ghost use Rattle.graph_words.specs.Walk.{walk};
-ghost use Rattle.mark_incremental.specs.Looking.{holds};
+ghost use Rattle.mark_store.specs.Places.{holds};
 ghost use Rattle.mark_incremental.specs.Passing.{AreWalks, HoldsThese};
 
-use crate::walks_up::{WalkUp, enter, holds, walk_up};
+use crate::walks_up::{WalkUp, walk_up};
 use graph_words::{ParentOf, Steps};
 use grove_edits::{Edge, Vertex};
-use mark_store::VertexMap;
+use mark_store::VertexSet;
 use seeded_hash::HashSeed;
 use std::alloc::Global;
 use std::sync::ledger::Ledger;
@@ -40,7 +40,7 @@ pub(crate) fn walk_from_ends<P: ParentOf, L: Ledger>(
 /// Vertices, each once.
 #[derive(Drop)]
 pub(crate) struct Passed {
-    pub(crate) set: VertexMap<bool>,
+    pub(crate) set: VertexSet,
     pub(crate) vertices: Vec<Vertex>,
 }
 
@@ -50,11 +50,11 @@ fn add(passed: &mut Passed, vertex: &Vertex) -> Result<(), NoMemory>
     ensures added { OnOk result ((v : Vertex) → holds passed.new.set v ≡ (is_same_vertex vertex.now v || holds passed.old.set v)) }
     ensures these { OnOk result (HoldsThese passed.new.set passed.new.vertices.items) }
 {
-    if holds(&passed.set, vertex) {
+    if passed.set.holds(vertex) {
         return Ok(());
     }
     passed.vertices.push(*vertex)?;
-    enter(&mut passed.set, vertex)
+    passed.set.enter(vertex)
 }
 
 fn add_all(passed: &mut Passed, vertices: &[Vertex]) -> Result<(), NoMemory>
@@ -80,7 +80,7 @@ pub(crate) fn passed_by(
     ensures these { IfOk result (λ it. HoldsThese it.set it.vertices.items) }
 {
     let mut passed = Passed {
-        set: VertexMap::with_seed(alloc, seed),
+        set: VertexSet::with_seed(alloc, seed),
         vertices: Vec::new(alloc),
     };
     add_all(&mut passed, &before.source.vertices)?;
@@ -103,7 +103,7 @@ pub(crate) fn passed_with(
     ensures these { IfOk result (λ it. HoldsThese it.set it.vertices.items) }
 {
     let mut passed = Passed {
-        set: VertexMap::with_seed(alloc, seed),
+        set: VertexSet::with_seed(alloc, seed),
         vertices: Vec::new(alloc),
     };
     add_all(&mut passed, &source.vertices)?;

@@ -20,7 +20,8 @@ ghost use Rattle.kept_records.specs.Change.{CyclesStay, AreNear, near_size};
 ghost use Rattle.kept_records.specs.Size.{IsSize};
 ghost use Rattle.mark_incremental.specs.Reading.{AreRecordsOf};
 ghost use Rattle.mark_incremental.specs.Rooting.{IsOnlyRoot};
-ghost use Rattle.mark_incremental.specs.Looking.{holds, on, AreRoots};
+ghost use Rattle.mark_store.specs.Places.{holds};
+ghost use Rattle.mark_incremental.specs.Looking.{on, AreRoots};
 ghost use Rattle.mark_incremental.specs.Walking.{AreMadeOf, HasMadeTrees};
 ghost use Rattle.mark_incremental.specs.Ticks.{AreTreesPaidFor};
 ghost use Rattle.mark_incremental.specs.Passing.{AreWalks};
@@ -39,7 +40,7 @@ use graph_words::Steps;
 use grove_edits::{Edge, Vertex};
 use kept_records::whole_trees_renew_the_records;
 use live_graph::LiveGraph;
-use mark_store::{Record, VertexMap};
+use mark_store::{Record, VertexSet};
 use std::sync::ledger::Ledger;
 use text_parts::NoMemory;
 
@@ -50,7 +51,7 @@ impl Marks {
         &mut self,
         whole: bool,
         vertices: &[Vertex],
-        passed: &VertexMap<bool>,
+        passed: &VertexSet,
         graph: &LiveGraph,
         steps: &mut Steps<L>,
     ) -> Result<Vec<(Vertex, Record)>, NoMemory>

@@ -2,8 +2,7 @@ ghost use Rattle.std.specs.Ordering.{is_gt};
 ghost use Rattle.std.specs.Prelude.{◌≡◌, if◌then◌else◌};
 ghost use Rattle.grove_edits.specs.declared.vertex.Vertex.{Vertex};
 ghost use Rattle.grove_edits.specs.Vertex.{is_same_vertex};
-ghost use Rattle.mark_store.specs.Places.{HasRoom, KeepsRoom};
-ghost use Rattle.mark_incremental.specs.Looking.{holds};
+ghost use Rattle.mark_store.specs.Places.{HasRoom, KeepsRoom, holds};
 ghost use Rattle.mark_incremental.specs.Rooting.{IsLeastOf, IsChangedRoot};
 
 use crate::passing::Ends;

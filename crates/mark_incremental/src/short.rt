@@ -38,7 +38,7 @@ use grove_edits::{Edge, Vertex, is_same_vertex};
 use grove_sorts::{Sort, sort_of};
 use live_graph::LiveGraph;
 use mark_step::{Demand, Mode};
-use mark_store::{MarkStore, Record, VertexMap};
+use mark_store::{MarkStore, Record, VertexMap, VertexSet};
 use std::alloc::Global;
 use std::sync::ledger::Ledger;
 use text_parts::NoMemory;
@@ -206,7 +206,7 @@ impl Marks {
     // What two walks down make, over the tables of these marks.
     fn make_both<L: Ledger>(
         &mut self,
-        judged: &VertexMap<bool>,
+        judged: &VertexSet,
         target: &Vertex,
         start: &Vertex,
         demand: Demand,

@@ -3,11 +3,11 @@ ghost use Rattle.grove_edits.specs.declared.vertex.Vertex.{Vertex};
 ghost use Rattle.grove_edits.specs.Vertex.{is_same_vertex};
 ghost use Rattle.graph_words.specs.Walk.{walk};
 ghost use Rattle.graph_words.specs.Cycle.{is_on_cycle};
-ghost use Rattle.mark_incremental.specs.Looking.{holds};
+ghost use Rattle.mark_store.specs.Places.{holds};
 
 use graph_words::{ParentOf, Steps, vertex_above};
 use grove_edits::{Vertex, is_same_vertex};
-use mark_store::VertexMap;
+use mark_store::{VertexMap, VertexSet};
 use seeded_hash::HashSeed;
 use std::alloc::Global;
 use std::sync::ledger::Ledger;
@@ -28,14 +28,6 @@ pub(crate) fn holds(set: &VertexMap<bool>, vertex: &Vertex) -> bool
     set.get(vertex).is_some()
 }
 
-/// Adds a vertex to a set, which may have it already.
-pub(crate) fn enter(set: &mut VertexMap<bool>, vertex: &Vertex) -> Result<(), NoMemory>
-    ensures { OnOk result ((v : Vertex) → holds set.new v ≡ (is_same_vertex vertex.now v || holds set.old v)) }
-{
-    set.insert(vertex, true)?;
-    Ok(())
-}
-
 /// The walk up from a vertex. The vertices that it passed are found by their hash under a seed. It ticks at most three times for each
 /// vertex of the walk.
 pub(crate) fn walk_up<P: ParentOf, L: Ledger>(
@@ -50,10 +42,10 @@ pub(crate) fn walk_up<P: ParentOf, L: Ledger>(
     ensures ticks { steps.new ≤ steps.old + 3 * length (walk (P.live parents.now) start.now) }
 {
     let mut vertices = Vec::new(alloc);
-    let mut passed = VertexMap::with_seed(alloc, seed);
+    let mut passed = VertexSet::with_seed(alloc, seed);
     let mut at = *start;
     vertices.push(at)?;
-    enter(&mut passed, &at)?;
+    passed.enter(&at)?;
     for _ in 0..u64::MAX {
         let Some(next) = vertex_above(&at, parents, steps) else {
             return Ok(WalkUp {
@@ -61,7 +53,7 @@ pub(crate) fn walk_up<P: ParentOf, L: Ledger>(
                 comes_back: false,
             });
         };
-        if holds(&passed, &next) {
+        if passed.holds(&next) {
             return Ok(WalkUp {
                 vertices,
                 comes_back: is_same_vertex(&next, start),
@@ -69,7 +61,7 @@ pub(crate) fn walk_up<P: ParentOf, L: Ledger>(
         }
         at = next;
         vertices.push(at)?;
-        enter(&mut passed, &at)?;
+        passed.enter(&at)?;
     }
     // A walk is no longer than memory.
     Err(NoMemory)

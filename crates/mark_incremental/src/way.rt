@@ -3,14 +3,15 @@ ghost use Rattle.grove_edits.specs.declared.vertex.Vertex.{Vertex};
 ghost use Rattle.grove_edits.specs.Vertex.{is_same_vertex, stands_in};
 ghost use Rattle.live_graph.specs.Live.{live};
 ghost use Rattle.kept_records.specs.Short.{LeadsUp};
-ghost use Rattle.mark_incremental.specs.Looking.{holds, AreRoots};
+ghost use Rattle.mark_store.specs.Places.{holds};
+ghost use Rattle.mark_incremental.specs.Looking.{AreRoots};
 ghost use Rattle.mark_incremental.specs.ShortWalks.{IsAboveInner};
 
-use crate::walks_up::{enter, holds};
+use crate::walks_up::holds;
 use graph_words::{Few, ParentOf, Steps};
 use grove_edits::Vertex;
 use live_graph::LiveGraph;
-use mark_store::VertexMap;
+use mark_store::{VertexMap, VertexSet};
 use seeded_hash::HashSeed;
 use std::alloc::Global;
 use std::sync::ledger::Ledger;
@@ -79,14 +80,14 @@ pub(crate) fn judged_with(
     start: &Vertex,
     way: &[Vertex],
     further: &Vertex,
-) -> Result<VertexMap<bool>, NoMemory>
+) -> Result<VertexSet, NoMemory>
     ensures { IfOk result (λ set. (v : Vertex) → holds set v ≡ (stands_in v way.now || (is_same_vertex further.now v || is_same_vertex start.now v))) }
 {
-    let mut set = VertexMap::with_seed(alloc, seed);
-    enter(&mut set, start)?;
-    enter(&mut set, further)?;
+    let mut set = VertexSet::with_seed(alloc, seed);
+    set.enter(start)?;
+    set.enter(further)?;
     for vertex in way {
-        enter(&mut set, vertex)?;
+        set.enter(vertex)?;
     }
     Ok(set)
 }

@@ -1,18 +1,27 @@
 -- What the code's map of vertices finds.
-use Rattle.std.proofs.Common.{◌≡◌, Bool, true, false, cond, IsSome, is_some, refl, sym, ap, subst, ◌∙◌}
-use Rattle.std.specs.Prelude.{Option, Some, None, unwrap_or}
+use Rattle.std.proofs.Common.{◌≡◌, ℕ, Bool, true, false, cond, IsSome, is_some, refl, sym, ap, subst, ◌∙◌}
+use Rattle.std.specs.Prelude.{Option, Some, None, slice_get, unwrap_or, IfSome}
+use Rattle.std.specs.Cmp.{IsEquivalence}
 use Rattle.std.specs.Option.{option_map}
 use Rattle.std.specs.Map.{lookup}
-use Rattle.indexmap.specs.IndexMap.{IndexMap, Updates, WritesThrough}
+use Rattle.std.proofs.lemmas.Map.Entries.{lookup_from_place}
+use Rattle.indexmap.specs.IndexMap.{IndexMap, IsUnique, Updates, WritesThrough, set_value_at, with_value_at}
+use Rattle.indexmap.proofs.CallerLemmas.{updates-with_value_at}
 use Rattle.grove_edits.specs.declared.vertex.Vertex.{Vertex}
 use Rattle.grove_edits.specs.Vertex.{is_same_vertex}
 use Rattle.grove_edits.specs.contracts.vertex.VertexPartialEq.TheImpl as vertex_eq
-use Rattle.grove_edits.proofs.Vertices.{eq_is_same_vertex, same_vertex_exact}
+use Rattle.grove_edits.proofs.Vertices.{eq_is_same_vertex, same_vertex_exact, same_vertex_laws}
 use Rattle.mark_store.specs.Places.{Places, place_at, value_at, HasRoom, KeepsRoom}
 
 -- the code's map tells vertices apart as the definitions do
 pub same_tests : vertex_eq.eq-value.it ≡ is_same_vertex
 same_tests = λ j v k. eq_is_same_vertex v k j
+
+set_laws : IsEquivalence vertex_eq.eq-value.it
+set_laws = subst (λ (test : Vertex → Vertex → Bool). IsEquivalence test) (sym same_tests) same_vertex_laws
+
+pub found_is : (found vertex : Vertex) → vertex_eq.eq-value.it found vertex ≡ true → found ≡ vertex
+found_is found vertex same = same_vertex_exact found vertex (sym (eq_is_same_vertex found vertex) ∙ same)
 
 module _ {V : Type 0} where
   pub lookup_is_place : (places : Places V) (v : Vertex) → lookup (vertex_eq.eq-value.it v) places ≡ place_at places v
@@ -114,11 +123,11 @@ module _ {V : Type 0} where
         by_test true is = ap is_some (there_after v true is)
         by_test false is = ap is_some (there_after v false is) ∙ has
 
-    pub writes_through : (old value : Option V) → Some old ≡ lookup (vertex_eq.eq-value.it vertex) before.entries
-        → WritesThrough vertex_eq.eq-value.it (vertex_eq.eq-value.it vertex) before value after → Writes vertex value before.entries after.entries
-    writes_through old value found writes v = by_test (is_same_vertex vertex v) refl where
+    updated : (old value : Option V) → Some old ≡ lookup (vertex_eq.eq-value.it vertex) before.entries → Updates vertex_eq.eq-value.it before after vertex (Some value)
+        → Writes vertex value before.entries after.entries
+    updated old value found updates v = by_test (is_same_vertex vertex v) refl where
       all : (u : Vertex) → place_at after.entries u ≡ cond (is_same_vertex vertex u) (Some value) (place_at before.entries u)
-      all = changed value (writes.3 (sym (ap is_some found))).0
+      all = changed value updates.0
 
       there : (u : Vertex) → vertex ≡ u → place_at before.entries u ≡ Some old
       there u one = ap (place_at before.entries) (sym one) ∙ sym (lookup_is_place before.entries vertex) ∙ sym found
@@ -130,6 +139,20 @@ module _ {V : Type 0} where
       by_test false is =
           all v ∙ ap (λ t. cond t (Some value) (place_at before.entries v)) is ∙ sym (ap (λ t. cond t (option_map (λ _. value) (place_at before.entries v)) (place_at before.entries v)) is)
 
+    pub writes_through : (old value : Option V) → Some old ≡ lookup (vertex_eq.eq-value.it vertex) before.entries
+        → WritesThrough vertex_eq.eq-value.it (vertex_eq.eq-value.it vertex) before value after → Writes vertex value before.entries after.entries
+    writes_through old value found writes = updated old value found (writes.3 (sym (ap is_some found)))
+
+  pub writes_at : {S : Type 0} (vertex : Vertex) (map : IndexMap Vertex (Option V) S) (i : ℕ) (old value : Option V) → IsUnique vertex_eq.eq-value.it map
+      → slice_get map.entries i ≡ Some (vertex, old) → Writes vertex value map.entries (set_value_at map.entries i value)
+  writes_at vertex map i old value unique at =
+      updated vertex map (with_value_at map i value) old value (sym (lookup_from_place set_laws map.entries i vertex old unique at)) (updates-with_value_at map i value set_laws unique vertex old at)
+
+  -- what is found at the place of a vertex stands there
+  pub found_there : (places : Places V) (found vertex : Vertex) (value : Option V) → lookup (vertex_eq.eq-value.it found) places ≡ Some value → vertex_eq.eq-value.it found vertex ≡ true
+      → place_at places vertex ≡ Some value
+  found_there places found vertex value there same = ap (place_at places) (sym (found_is found vertex same)) ∙ sym (lookup_is_place places found) ∙ there
+
   pub writes_nothing : (vertex : Vertex) (value : Option V) (places : Places V) → None ≡ lookup (vertex_eq.eq-value.it vertex) places → Writes vertex value places places
   writes_nothing vertex value places none v = by_test (is_same_vertex vertex v) refl where
     by_test : (b : Bool) → is_same_vertex vertex v ≡ b → place_at places v ≡ cond (is_same_vertex vertex v) (option_map (λ _. value) (place_at places v)) (place_at places v)
@@ -137,6 +160,10 @@ module _ {V : Type 0} where
         let there : place_at places v ≡ None = ap (place_at places) (sym (same_vertex_exact vertex v is)) ∙ sym (lookup_is_place places vertex) ∙ sym none in
         there ∙ sym (ap (option_map (λ _. value)) there) ∙ sym (ap (λ t. cond t (option_map (λ _. value) (place_at places v)) (place_at places v)) is)
     by_test false is = sym (ap (λ t. cond t (option_map (λ _. value) (place_at places v)) (place_at places v)) is)
+
+pub has_room : {V : Type 0} (places : Places V) (v : Vertex) (o : Option (Option V)) → IfSome o (λ value. place_at places v ≡ Some value) → is_some o ≡ true → HasRoom places v
+has_room places v None there is = absurd cc
+has_room places v (Some value) there is = ap is_some there
 
 pub none_from : {X : Type 0} (o : Option X) → is_some o ≡ false → None ≡ o
 none_from None is = refl

@@ -1,5 +1,5 @@
 -- What a map by vertex has: the value of each vertex that has one, and which vertices have room.
-use Rattle.std.specs.Prelude.{List, Option, None, unwrap_or, IsSome}
+use Rattle.std.specs.Prelude.{Bool, true, List, map, Option, None, Some, is_some, unwrap_or, IsSome}
 use Rattle.std.specs.Map.{lookup}
 use Rattle.grove_edits.specs.declared.vertex.Vertex.{Vertex}
 use Rattle.grove_edits.specs.Vertex.{is_same_vertex}
@@ -21,3 +21,13 @@ HasRoom places v = IsSome (place_at places v)
 
 abbrev pub KeepsRoom : {V : Type 0} → Places V → Places V → Type 0
 KeepsRoom before after = (v : Vertex) → HasRoom before v → HasRoom after v
+
+-- ---- sets
+
+-- the vertices of a set
+abbrev pub holds : Places Bool → Vertex → Bool
+holds places v = is_some (value_at places v)
+
+-- the set of the vertices of a list
+abbrev pub listed_places : List Vertex → Places Bool
+listed_places vs = map (λ v. (v, Some true)) vs

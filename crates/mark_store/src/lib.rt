@@ -6,8 +6,10 @@
 mod mark_store;
 mod record;
 mod vertex_map;
+mod vertex_set;
 
 pub use mark_store::MarkStore;
 pub use record::Record;
 pub use text_parts::NoMemory;
 pub use vertex_map::VertexMap;
+pub use vertex_set::VertexSet;

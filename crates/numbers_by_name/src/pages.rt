@@ -117,7 +117,7 @@ impl Pages {
         make_room(&mut self.list)?;
         self.places.insert(page_of(name), at)?;
         self.list.push_reserved(page);
-        self.guesses.note_last(&self.list);
+        note_last(&mut self.guesses, &self.list);
         Ok(())
     }
 
@@ -292,4 +292,15 @@ fn make_room(list: &mut Vec<Page>) -> Result<(), NoMemory>
         list.reserve_exact(list.len() / GROWTH + 1)?;
     }
     Ok(())
+}
+
+// Takes note of the last page.
+fn note_last(guesses: &mut Guesses, pages: &[Page]) {
+    if guesses.grow_for(pages.len()) {
+        for (place, page) in pages.iter().enumerate() {
+            guesses.note(page.name, place);
+        }
+    } else if let Some(last) = pages.last() {
+        guesses.note(last.name, pages.len() - 1);
+    }
 }

@@ -1,5 +1,5 @@
 -- No edge leads to the target, or one that comes from the source.
-use Rattle.std.proofs.Common.{◌≡◌, sym, ◌∙◌}
+use Rattle.std.proofs.Common.{sym, ◌∙◌}
 use Rattle.grove_edits.proofs.Vertices.{same_vertex_exact}
 use Rattle.mark_incremental.proofs.ApartFrom.{zero_led, one_led}
 use Rattle.mark_incremental.proofs.apart.is_from.Goals as goal

@@ -1,7 +1,7 @@
 -- The way goes on where a vertex is above, unless that is the target, and ends where nothing is above.
-use Rattle.std.proofs.Common.{◌≡◌, ◌+◌, ◌*◌, ◌≤◌, true, false, not, length, sym, ap, ◌∙◌, arith}
+use Rattle.std.proofs.Common.{sym, ◌∙◌, arith}
 use Rattle.live_graph.specs.Live.{live}
-use Rattle.mark_incremental.proofs.ApartFrom.{begun_apart, more_apart, none_above}
+use Rattle.mark_incremental.proofs.ApartFrom.{begun_apart, more_apart}
 use Rattle.mark_incremental.proofs.apart.passes_by.Goals as goal
 
 pub loop-init : goal.loop-init

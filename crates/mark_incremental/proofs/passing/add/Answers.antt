@@ -11,6 +11,6 @@ returns-then-holds-clause-added c = λ v. held_already c.args.passed.now.set c.a
 pub returns-clause-these : goal.returns-clause-these
 returns-clause-these c =
     on_ok_weaker c.enter.result
-    (λ entered. subst (HoldsThese c.enter.new.set) (sym c.in_ok-push.ensures.items)
-    (these_more c.args.passed.now.set c.enter.new.set c.args.vertex.now c.args.passed.now.vertices.items c.requires (sym c.holds.ensures ∙ c.if-holds.false) entered))
+    (λ entered. subst (HoldsThese c.enter.new.self) (sym c.in_ok-push.ensures.items)
+    (these_more c.args.passed.now.set c.enter.new.self c.args.vertex.now c.args.passed.now.vertices.items c.requires (sym c.holds.ensures ∙ c.if-holds.false) entered))
     c.enter.ensures

@@ -4,7 +4,7 @@ use Rattle.grove_edits.specs.declared.edge.Edge.{Edge}
 use Rattle.grove_edits.specs.Edit.{edit_edge, edit_kind}
 use Rattle.grove_edits.specs.Graph.{state_of}
 use Rattle.graph_words.specs.Change.{IsChange}
-use Rattle.graph_words.specs.States.{Entries, state_in, HasRoom, with_state}
+use Rattle.graph_words.specs.States.{state_in, HasRoom, with_state}
 use Rattle.mark_incremental.proofs.Raised.{same_graph_from, put_back_same}
 use Rattle.mark_incremental.proofs.raising.put_back.Goals as goal
 

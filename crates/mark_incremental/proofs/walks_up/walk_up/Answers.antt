@@ -1,5 +1,5 @@
 -- The walk ends where no vertex is above, or at one that was passed.
-use Rattle.std.proofs.Common.{◌≡◌, ◌+◌, List, [], ◌∷◌, ◌++◌, length, Bool, Option, is_some, unwrap_or, Some, None, sym, ap, subst, ◌∙◌, length-append, arith}
+use Rattle.std.proofs.Common.{◌≡◌, ◌+◌, List, [], ◌∷◌, ◌++◌, length, Some, None, sym, ap, subst, ◌∙◌, length-append, arith}
 use Rattle.grove_edits.specs.declared.vertex.Vertex.{Vertex}
 use Rattle.mark_incremental.specs.Passing.{IsUpTo}
 use Rattle.mark_incremental.proofs.WalksUp.{begun, next, ticked, ends_at_none, ends_at_passed, comes_back}
@@ -38,8 +38,8 @@ loop-preserved g c =
     let more = c.in-Some.ensures.ticks in
     record {
       up =
-          subst (IsUpTo live c.args.start.now c.in-Some.next c.enter-in-loop.new.set) (sym c.in_ok-push-2.ensures.items)
-          (next live c.args.start.now c.loop.at c.in-Some.next c.loop.passed c.enter-in-loop.new.set c.loop.vertices.items c.loop.invariant.up (sym c.in-Some.ensures.above)
+          subst (IsUpTo live c.args.start.now c.in-Some.next c.enter-in-loop.new.self) (sym c.in_ok-push-2.ensures.items)
+          (next live c.args.start.now c.loop.at c.in-Some.next c.loop.passed c.enter-in-loop.new.self c.loop.vertices.items c.loop.invariant.up (sym c.in-Some.ensures.above)
           (sym c.holds.ensures ∙ c.if-holds.false) c.in_ok-enter-2.ensures);
       ticks = omega (arith, pushed, before, more);
     }
@@ -51,8 +51,8 @@ loop-init g c =
     let one : length c.push.new.self.items ≡ 1 = ap length only in
     record {
       up =
-          subst (IsUpTo live c.args.start.now c.args.start.now c.enter.new.set) (sym only)
-          (begun live c.args.start.now c.with_seed-passed.result c.enter.new.set (λ v. ap (λ (o : Option (Option Bool)). is_some (unwrap_or o None)) (c.with_seed-passed.ensures.empty v)) c.in_ok-enter.ensures);
+          subst (IsUpTo live c.args.start.now c.args.start.now c.enter.new.self) (sym only)
+          (begun live c.args.start.now c.with_seed-passed.result c.enter.new.self c.with_seed-passed.ensures.empty c.in_ok-enter.ensures);
       ticks = omega (arith, one);
     }
 

@@ -1,5 +1,5 @@
 -- Both ends are in the set, and one more vertex each time.
-use Rattle.std.proofs.Common.{◌≤◌, Bool, true, List, length, Option, None, is_some, unwrap_or, take, ap, ◌∙◌, arith}
+use Rattle.std.proofs.Common.{◌≤◌, List, length, take, ap, ◌∙◌, arith}
 use Rattle.std.specs.Prelude.{◌||◌}
 use Rattle.grove_edits.specs.declared.vertex.Vertex.{Vertex}
 use Rattle.grove_edits.specs.Vertex.{is_same_vertex, stands_in}
@@ -12,7 +12,7 @@ pub loop-vertex-init : goal.loop-vertex-init
 loop-vertex-init c = λ v.
     c.in_ok-enter-2.ensures v
     ∙ ap (λ b. is_same_vertex c.args.further.now v || b)
-    (c.in_ok-enter.ensures v ∙ ap (λ b. is_same_vertex c.args.start.now v || b) (ap (λ (o : Option (Option Bool)). is_some (unwrap_or o None)) (c.with_seed-set.ensures.empty v))
+    (c.in_ok-enter.ensures v ∙ ap (λ b. is_same_vertex c.args.start.now v || b) (c.with_seed-set.ensures.empty v)
     ∙ or_false (is_same_vertex c.args.start.now v))
 
 pub loop-vertex-preserved : goal.loop-vertex-preserved

@@ -3,7 +3,7 @@ use Rattle.std.proofs.Common.{◌≡◌, take}
 use Rattle.std.specs.Prelude.{◌||◌}
 use Rattle.grove_edits.specs.declared.vertex.Vertex.{Vertex}
 use Rattle.grove_edits.specs.Vertex.{is_same_vertex, stands_in}
-use Rattle.mark_incremental.specs.Looking.{holds}
+use Rattle.mark_store.specs.Places.{holds}
 use Rattle.mark_incremental.proofs.way.judged_with.Given as goal
 
 abbrev pub invariant-loop-vertex : goal.invariant-loop-vertex

@@ -1,5 +1,5 @@
 -- The way leads up to where it has come.
-use Rattle.std.proofs.Common.{◌≡◌, ◌+◌, List, [], ◌∷◌, ◌++◌, length, refl, subst, append-nil, length-append, arith}
+use Rattle.std.proofs.Common.{List, [], ◌∷◌, ◌++◌, refl, subst, append-nil, length-append, arith}
 use Rattle.live_graph.specs.Live.{live}
 use Rattle.grove_edits.specs.declared.vertex.Vertex.{Vertex}
 use Rattle.kept_records.specs.Short.{LeadsUp}

@@ -10,14 +10,14 @@ use Rattle.live_graph.proofs.live_graph.LiveGraph.make_room.Goals as goal
 
 pub returns-in-Some-clause-room : goal.returns-in-Some-clause-room
 returns-in-Some-clause-room c =
-    let number = c.in-Some.ensures in
+    let number = c.in-Some.ensures.number in
     subst (λ (es : Entries). HasRoom es c.args.edge.now) c.self.view_is (subst (HasRoom c.self.inside.edges.entries) number.1 (room-at c.self.inside.edges.entries c.in-Some.number number.0))
 
 pub returns-clause-room : goal.returns-clause-room
 returns-clause-room c = room_made c.enter.result c.self.inside.edges.entries c.enter.new.edges.entries c.args.edge.now c.enter.ensures.entries
 
 pub returns-in-Some-clause-number : goal.returns-in-Some-clause-number
-returns-in-Some-clause-number c = subst (λ (es : Entries). IsNumberOf es c.args.edge.now c.in-Some.number) c.self.view_is c.in-Some.ensures
+returns-in-Some-clause-number c = subst (λ (es : Entries). IsNumberOf es c.args.edge.now c.in-Some.number) c.self.view_is c.in-Some.ensures.number
 
 pub returns-clause-numbers_stay : goal.returns-clause-numbers_stay
 returns-clause-numbers_stay c = subst (λ (es : Entries). KeepsNumbersOf es c.enter.new.edges.entries) c.self.view_is c.enter.ensures.numbers_stay

@@ -1,9 +1,8 @@
 -- What is demanded by other numbers is another demand.
-use Rattle.std.proofs.Common.{◌≡◌, true, false, sym, ap, ◌∙◌}
+use Rattle.std.proofs.Common.{◌≡◌, false, sym, ap, ◌∙◌}
 use Rattle.std.specs.Prelude.{IsTrue}
 use Rattle.std.specs.Option.{option_map}
-use Rattle.grove_sorts.specs.declared.sort.Sort.{Sort}
-use Rattle.grove_sorts.specs.declared.sort.Sort.TheVariants.{Top, Exp, Pat, Typ as TypeSort}
+use Rattle.grove_sorts.specs.declared.sort.Sort.TheVariants.{Exp}
 use Rattle.grove_sorts.specs.Ctor.{sort_of_ctor}
 use Rattle.mark_incremental.specs.Reading.{kept_by}
 use Rattle.mark_incremental.proofs.Found.{record_is, other_demand, exp_found}

@@ -1,6 +1,5 @@
 -- Nothing is made for a vertex in the tree of another, for one that is left as it is, or where the other walk begins.
-use Rattle.std.proofs.Common.{◌≡◌, true, false, sym, ap, ◌∙◌, arith, refl}
-use Rattle.grove_edits.specs.Vertex.{is_same_vertex}
+use Rattle.std.proofs.Common.{sym, ap, ◌∙◌, arith, refl}
 use Rattle.grove_edits.proofs.Vertices.{same_vertex_exact}
 use Rattle.live_graph.specs.Live.{live}
 use Rattle.mark_incremental.specs.Looking.{on}

@@ -1,5 +1,5 @@
 -- The records that the second walk makes stand behind those of the first.
-use Rattle.std.proofs.Common.{◌≡◌, ◌++◌, sym, ap, ◌∙◌, arith}
+use Rattle.std.proofs.Common.{◌++◌, sym, ap, ◌∙◌, arith}
 use Rattle.live_graph.specs.Live.{live}
 use Rattle.kept_records.proofs.Standing.{stands_under}
 use Rattle.mark_incremental.specs.Looking.{on}

@@ -1,6 +1,5 @@
 -- The graph is joined with the edit, or is as before, and the marks stand for it.
 use Rattle.std.proofs.Common.{[], ◌∷◌, None, refl, subst, ◌∙◌, arith}
-use Rattle.grove_edits.specs.Edit.{edit_edge, edit_kind}
 use Rattle.grove_edits.specs.Graph.{graph, graph_join, IsSame}
 use Rattle.graph_words.specs.declared.change.Change.TheVariants.{Same}
 use Rattle.graph_words.specs.States.{state_in}
@@ -10,7 +9,7 @@ use Rattle.mark_incremental.specs.Standing.{StandFor}
 use Rattle.mark_incremental.specs.Applying.{WasApplied, IsApplied, IsBack, HaveGrown}
 use Rattle.mark_incremental.proofs.Receipts.{room_then}
 use Rattle.mark_incremental.proofs.Stack.{if_ok_so}
-use Rattle.grove_sorts.proofs.Truths.{after_error, none_from_cases}
+use Rattle.grove_sorts.proofs.Truths.{none_from_cases}
 use Rattle.mark_incremental.proofs.Edited.{grown_stands, nothing_grown}
 use Rattle.mark_incremental.proofs.Idle.{joined_same, nothing_applied}
 use Rattle.mark_incremental.proofs.AppliedOver.{if_ok_on, on_err_so, either_way, grown_then, joined_over, applied_over, size_over}

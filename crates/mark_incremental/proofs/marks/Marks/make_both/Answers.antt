@@ -1,5 +1,5 @@
 -- The tables of the marks are those that the walks read and grow.
-use Rattle.std.proofs.Common.{false, sym, subst}
+use Rattle.std.proofs.Common.{false, subst}
 use Rattle.live_graph.specs.Live.{live}
 use Rattle.mark_step.specs.Expression.{Demanded}
 use Rattle.std.specs.Prelude.{IfOk}

@@ -3,8 +3,7 @@ use Rattle.std.proofs.Common.{Bool, ap, ◌∙◌, arith}
 use Rattle.grove_edits.specs.declared.edge.Edge.{Edge}
 use Rattle.graph_words.specs.States.{state_in}
 use Rattle.live_graph.specs.Live.{live}
-use Rattle.mark_store.specs.Places.{Places}
-use Rattle.mark_incremental.specs.Looking.{holds}
+use Rattle.mark_store.specs.Places.{Places, holds}
 use Rattle.mark_incremental.proofs.Edited.{new_live, new_well_formed, walked, walk_on, cycles_kept, rooted_still, rooted_after, rooted_before, only_root, stands_after}
 use Rattle.mark_incremental.proofs.SizeBound.{size_of, near_of, walks_after}
 use Rattle.mark_incremental.proofs.Outcomes.{on_ok_three}

@@ -1,9 +1,8 @@
 -- The records are those of the new graph.
-use Rattle.std.proofs.Common.{◌≡◌, List, ◌∷◌, false, sym, ap, subst, ◌∙◌, arith}
+use Rattle.std.proofs.Common.{List, ◌∷◌, ap, subst, ◌∙◌, arith}
 use Rattle.grove_edits.specs.declared.vertex.Vertex.{Vertex}
 use Rattle.grove_edits.specs.Graph.{graph}
 use Rattle.live_graph.specs.Live.{live}
-use Rattle.kept_records.specs.Kept.{AreKept}
 use Rattle.kept_records.specs.Local.{kept_demand}
 use Rattle.mark_store.specs.declared.record.Record.{Record}
 use Rattle.mark_store.specs.Places.{Places, value_at}

@@ -1,6 +1,5 @@
 -- The source alone sees what the edit makes of the target, or nothing is done.
-use Rattle.std.proofs.Common.{◌≡◌, length, ap, arith}
-use Rattle.graph_words.specs.Live.{children_of}
+use Rattle.std.proofs.Common.{arith}
 use Rattle.live_graph.specs.Live.{live}
 use Rattle.graph_words.specs.States.{state_in}
 use Rattle.mark_incremental.proofs.ApartFrom.{seen_by_one, rooted_there, well_there, stands_there, size_near, stand_if, few_short}

@@ -4,8 +4,7 @@ use Rattle.grove_edits.specs.declared.vertex.Vertex.{Vertex}
 use Rattle.grove_edits.specs.Vertex.{is_same_vertex}
 use Rattle.type_core.specs.TypeTable.{KeepsTypes}
 use Rattle.ctx_table.specs.CtxTable.{KeepsContexts}
-use Rattle.mark_store.specs.Places.{Places, value_at}
-use Rattle.mark_incremental.specs.Looking.{holds}
+use Rattle.mark_store.specs.Places.{Places, value_at, holds}
 use Rattle.mark_incremental.specs.Standing.{KeptMarks}
 use Rattle.mark_incremental.proofs.Puts.{root_back}
 use Rattle.mark_incremental.proofs.marks.Marks.renew_with_root.Goals as goal
