@@ -1,20 +1,24 @@
 -- The answer in the words of the course.
-use Rattle.std.proofs.Common.{◌≡◌, ◌⊎◌, inl, inr, ℕ, List, [], ◌++◌, take, refl, sym, ap, subst, ◌∙◌}
+use Rattle.std.proofs.Common.{◌≡◌, ◌≢◌, ◌⊎◌, inl, inr, ℕ, List, [], ◌++◌, length, take, refl, sym, ap, subst, ◌∙◌}
 use Rattle.std.proofs.Math.Path.{fun_ext}
-use Rattle.std.specs.Prelude.{Option, Some, None, Result, Ok, Err, IfOk}
+use Rattle.std.specs.Prelude.{Option, Some, None, Result, Ok, Err, IfOk, OnOk}
 use Rattle.edge_lattice.specs.State.{state_join}
 use Rattle.grove_edits.specs.declared.edge.Edge.{Edge}
 use Rattle.grove_edits.specs.declared.edit.Edit.{Edit}
 use Rattle.grove_edits.specs.Graph.{Graph, graph, IsSame}
 use Rattle.grove_undo.specs.declared.change.Change.{Change}
+use Rattle.graph_words.specs.Whole.{AreLive}
+use Rattle.grove_undo.specs.declared.undo_fault.UndoFault.{UndoFault}
+use Rattle.grove_undo.specs.declared.undo_fault.UndoFault.TheVariants.{NoMemory as no_memory}
 use Rattle.grove_undo.specs.Change.{IsChangeOf}
+use Rattle.grove_undo.specs.Undoing.{IsUndoing, IsUndoFault}
 use Rattle.replica_core.specs.Canonical.{with_edits}
 use Rattle.replica_core.proofs.WithEdits.{graph-with_edits}
 use Rattle.text_parts.specs.declared.no_memory.NoMemory.{NoMemory}
 use Rattle.undo_answers.specs.declared.course.Acted.{Acted}
 use Rattle.undo_answers.specs.declared.course.Course.{Course as Kept}
 use Rattle.undo_answers.specs.Course.{Course, Done}
-use Rattle.undo_answers.specs.UndoText.{IsAnswer, IsAnswerTo, IsUndone, IsRefused}
+use Rattle.undo_answers.specs.UndoText.{Answers, IsAnswer, IsAnswerTo, undone_line, refused_line}
 use Rattle.undo_answers.specs.Kept.{AnswersLast, IsLast, StandsFor}
 
 -- graphs that are the same are one
@@ -25,19 +29,39 @@ one_graph g h same = fun_ext same
 graph-taken : (edits : List Edit) → graph (with_edits edits []) ≡ graph edits
 graph-taken edits = fun_ext (λ e. graph-with_edits edits [] e)
 
-pub answer_whole : (r : Result (List Edit) NoMemory) (before : Graph) (edits : List Edit) (in_graph now : Graph) (author : ℕ) (change : Change) (old new : List ℕ) → IsChangeOf before edits change → IsSame in_graph now
-    → IfOk r (λ undoing. (line : List ℕ) × (new ≡ old ++ line) × (IsUndone in_graph author change undoing line ⊎ IsRefused in_graph author change undoing line))
-    → IfOk r (λ undoing. (line : List ℕ) × (new ≡ old ++ line) × IsAnswerTo before edits now author undoing line)
-answer_whole (Err e) before edits in_graph now author change old new of same is = is
-answer_whole (Ok undoing) before edits in_graph now author change old new of same is = (
-  is.0,
-  is.1,
-  record {
-    change = change;
-    is_change = of;
-    answered = subst (λ (g : Graph). IsUndone g author change undoing is.0 ⊎ IsRefused g author change undoing is.0) (one_graph in_graph now same) is.2;
-  },
+-- edits that undo a change, and their line
+pub undone_answers : (r : Result (List Edit) NoMemory) (now : Graph) (live : List Edge) (author : ℕ) (change : Change) (edits : List Edit) (old new : List ℕ) → AreLive now live → IsUndoing now live author change edits
+    → OnOk r (new ≡ old ++ undone_line (length edits)) → IfOk r (λ same. same ≡ edits) → IfOk r (λ undoing. (line : List ℕ) × (new ≡ old ++ line) × Answers now author change undoing line)
+undone_answers (Err e) now live author change edits old new are is line same = tt
+undone_answers (Ok undoing) now live author change edits old new are is line same = (
+  undone_line (length edits),
+  line,
+  inl (record { live = live; are_live = are; is = subst (IsUndoing now live author change) (sym same) is; told = ap (λ (es : List Edit). undone_line (length es)) (sym same) }),
 )
+
+-- and why it is refused
+pub refused_answers : (r : Result (List Edit) NoMemory) (now : Graph) (live : List Edge) (author : ℕ) (change : Change) (fault : UndoFault) (old new : List ℕ) → AreLive now live → IsUndoFault now live author change fault
+    → OnOk r (new ≡ old ++ refused_line fault) → OnOk r (fault ≢ no_memory) → IfOk r (λ edits. edits ≡ []) → IfOk r (λ undoing. (line : List ℕ) × (new ≡ old ++ line) × Answers now author change undoing line)
+refused_answers (Err e) now live author change fault old new are is line known none = tt
+refused_answers (Ok undoing) now live author change fault old new are is line known none = (
+  refused_line fault,
+  line,
+  inr (record { live = live; are_live = are; fault = fault; known = known; is = is; none = none; told = refl }),
+)
+
+-- the same of the same graph
+pub answers_along : (r : Result (List Edit) NoMemory) (in_graph now : Graph) (author : ℕ) (change : Change) (old new : List ℕ) → IsSame in_graph now
+    → IfOk r (λ undoing. (line : List ℕ) × (new ≡ old ++ line) × Answers in_graph author change undoing line)
+    → IfOk r (λ undoing. (line : List ℕ) × (new ≡ old ++ line) × Answers now author change undoing line)
+answers_along (Err e) in_graph now author change old new same is = tt
+answers_along (Ok undoing) in_graph now author change old new same is = (is.0, is.1, subst (λ (g : Graph). Answers g author change undoing is.0) (one_graph in_graph now same) is.2)
+
+-- and of the change of some edits
+pub answer_whole : (r : Result (List Edit) NoMemory) (before : Graph) (edits : List Edit) (now : Graph) (author : ℕ) (change : Change) (old new : List ℕ) → IsChangeOf before edits change
+    → IfOk r (λ undoing. (line : List ℕ) × (new ≡ old ++ line) × Answers now author change undoing line)
+    → IfOk r (λ undoing. (line : List ℕ) × (new ≡ old ++ line) × IsAnswerTo before edits now author undoing line)
+answer_whole (Err e) before edits now author change old new of is = tt
+answer_whole (Ok undoing) before edits now author change old new of is = (is.0, is.1, record { change = change; is_change = of; answered = is.2 })
 
 -- what is answered in the words of what is kept, in those of the course
 pub answer_is : (taken : List Edit) (last : Option Acted) (done : Option Done) (content : List Edit) (author : ℕ) (undoing : List Edit) (line : List ℕ) → content ≡ with_edits taken [] → IsLast taken last done

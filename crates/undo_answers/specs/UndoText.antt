@@ -47,11 +47,15 @@ pub record IsRefused (now : Graph) (author : ℕ) (change : Change) (undoing : L
   pub none : undoing ≡ []
   pub told : line ≡ refused_line fault
 
+-- it is undone, or is refused
+abbrev pub Answers : Graph → ℕ → Change → List Edit → List ℕ → Type 0
+Answers now author change undoing line = IsUndone now author change undoing line ⊎ IsRefused now author change undoing line
+
 -- what some edits changed in one graph is undone in another, or is refused
 pub record IsAnswerTo (before : Graph) (edits : List Edit) (now : Graph) (author : ℕ) (undoing : List Edit) (line : List ℕ) : Type 0 where
   pub change : Change
   pub is_change : IsChangeOf before edits change
-  pub answered : IsUndone now author change undoing line ⊎ IsRefused now author change undoing line
+  pub answered : Answers now author change undoing line
 
 -- the author's last action that was not refused is undone, where there is one
 abbrev pub IsAnswer : Option Done → Graph → ℕ → List Edit → List ℕ → Type 0

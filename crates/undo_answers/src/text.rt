@@ -1,18 +1,18 @@
-ghost use Rattle.std.specs.Prelude.{◌≡◌, ◌⊎◌, ◌<◌, ◌≤◌, ◌++◌, ℕ, List, length, take, IfOk};
+ghost use Rattle.std.specs.Prelude.{◌≡◌, ◌<◌, ◌≤◌, ◌++◌, ℕ, List, length, take, IfOk};
 ghost use Rattle.grove_edits.specs.Graph.{graph};
 ghost use Rattle.graph_words.specs.States.{state_in};
-ghost use Rattle.grove_undo.specs.Change.{IsOfEdits};
+ghost use Rattle.grove_undo.specs.Change.{IsChangeOf, IsOfEdits};
 ghost use Rattle.session_script.specs.Session.{IsSession};
 ghost use Rattle.undo_answers.specs.Fit.{IsFit};
 ghost use Rattle.undo_answers.specs.Course.{Course as CourseOf};
-ghost use Rattle.undo_answers.specs.UndoText.{IsUndoText, IsAnswerTo, IsRefused, IsTextOf, IsUndone};
+ghost use Rattle.undo_answers.specs.UndoText.{Answers, IsUndoText, IsAnswerTo, IsTextOf};
 ghost use Rattle.undo_answers.specs.Kept.{AnswersLast, IsWithin, StandsFor};
 
 use crate::course::{Acted, Course};
 use crate::taking::take;
 use crate::writing::{append_nothing, append_refused, append_undone};
 use grove_edits::{Edit, EditList};
-use grove_undo::{Change, UndoFault, UndoView, change_of, graph_of, undo};
+use grove_undo::{Change, UndoView, change_of, graph_of, undo};
 use live_graph::LiveGraph;
 use seeded_hash::HashSeed;
 use session_script::Session;
@@ -86,9 +86,39 @@ fn append_undoing(
     ensures { IfOk result (λ undoing. (line : List ℕ) × (out.new.items ≡ out.old.items ++ line)
         × IsAnswerTo (graph (take acted.now.before taken.now)) acted.now.edits (graph taken.now) author undoing line) }
 {
-    let change = change_of(alloc, seed, &taken[..acted.before], acted.edits.as_slice())?;
+    let change = change_by(alloc, seed, taken, acted)?;
+    append_undoing_of(alloc, seed, author, taken, &change, out)
+}
+
+// What an action changed in the graph before it.
+fn change_by(
+    alloc: Global,
+    seed: HashSeed,
+    taken: &[Edit],
+    acted: &Acted,
+) -> Result<Change, NoMemory>
+    requires { acted.now.before ≤ length taken.now }
+    ensures { IfOk result (IsChangeOf (graph (take acted.now.before taken.now)) acted.now.edits) }
+{
+    let before = &taken[..acted.before];
+    change_of(alloc, seed, before, acted.edits.as_slice())
+}
+
+fn append_undoing_of(
+    alloc: Global,
+    seed: HashSeed,
+    author: u32,
+    taken: &[Edit],
+    change: &Change,
+    out: &mut Vec<u8>,
+) -> Result<EditList, NoMemory>
+    requires author { 0 < author }
+    requires change { IsOfEdits change.now }
+    ensures { IfOk result (λ undoing. (line : List ℕ) × (out.new.items ≡ out.old.items ++ line)
+        × Answers (graph taken.now) author change.now undoing line) }
+{
     let graph = graph_of(alloc, seed, taken)?;
-    append_undoing_in(alloc, &graph, author, &change, out)
+    append_undoing_in(alloc, &graph, author, change, out)
 }
 
 fn append_undoing_in(
@@ -101,12 +131,11 @@ fn append_undoing_in(
     requires author { 0 < author }
     requires change { IsOfEdits change.now }
     ensures { IfOk result (λ undoing. (line : List ℕ) × (out.new.items ≡ out.old.items ++ line)
-        × (IsUndone (state_in graph.now) author change.now undoing line ⊎ IsRefused (state_in graph.now) author change.now undoing line)) }
+        × Answers (state_in graph.now) author change.now undoing line) }
 {
     graph.known();
     match undo(alloc, graph, author, change) {
         Ok(undoing) => append_undone(undoing, out),
-        Err(UndoFault::NoMemory) => Err(NoMemory),
         Err(fault) => append_refused(alloc, fault, out),
     }
 }

@@ -1,4 +1,5 @@
-ghost use Rattle.std.specs.Prelude.{◌≡◌, ◌++◌, [], IfOk, OnOk, length};
+ghost use Rattle.std.specs.Prelude.{◌≡◌, ◌≢◌, ◌++◌, [], IfOk, OnOk, length};
+ghost use Rattle.grove_undo.specs.declared.undo_fault.UndoFault.TheVariants.{NoMemory as no_memory};
 ghost use Rattle.undo_answers.specs.UndoText.{nothing_line, refused_line, undone_line, fault_text};
 
 use grove_edits::EditList;
@@ -27,13 +28,14 @@ pub(crate) fn append_undone(edits: EditList, out: &mut Vec<u8>) -> Result<EditLi
     Ok(edits)
 }
 
-/// Appends the line that tells why an action is not undone. There are no edits.
+/// Appends the line that tells why an action is not undone. There are no edits. Want of memory is no such line: it is answered as it is.
 pub(crate) fn append_refused(
     alloc: Global,
     fault: UndoFault,
     out: &mut Vec<u8>,
 ) -> Result<EditList, NoMemory>
     ensures line { OnOk result (out.new.items ≡ out.old.items ++ refused_line fault) }
+    ensures known { OnOk result (fault ≢ no_memory) }
     ensures edits { IfOk result (λ edits. edits ≡ []) }
 {
     out.extend_from_slice(b"refused ")?;
@@ -43,17 +45,20 @@ pub(crate) fn append_refused(
 }
 
 fn append_fault(fault: UndoFault, out: &mut Vec<u8>) -> Result<(), NoMemory>
-    ensures { OnOk result (out.new.items ≡ out.old.items ++ fault_text fault) }
+    ensures text { OnOk result (out.new.items ≡ out.old.items ++ fault_text fault) }
+    ensures known { OnOk result (fault ≢ no_memory) }
 {
     match fault {
         UndoFault::Touched { edge } => {
             out.extend_from_slice(b"1 touched ")?;
-            write_name(edge.name, out)
+            write_name(edge.name, out)?;
+            Ok(())
         }
         UndoFault::NamesSpent { greatest } => {
             out.extend_from_slice(b"2 names-spent ")?;
-            write_number(greatest, out)
+            write_number(greatest, out)?;
+            Ok(())
         }
-        UndoFault::NoMemory => Ok(()),
+        UndoFault::NoMemory => Err(NoMemory),
     }
 }
