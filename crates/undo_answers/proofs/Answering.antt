@@ -1,5 +1,5 @@
 -- The answer in the words of the course.
-use Rattle.std.proofs.Common.{◌≡◌, ◌≢◌, ◌⊎◌, inl, inr, ℕ, List, [], ◌++◌, length, take, refl, sym, ap, subst, ◌∙◌}
+use Rattle.std.proofs.Common.{◌≡◌, ◌≢◌, ◌≤◌, ◌⊎◌, inl, inr, ℕ, List, [], ◌++◌, length, take, refl, sym, ap, subst, ◌∙◌}
 use Rattle.std.proofs.Math.Path.{fun_ext}
 use Rattle.std.specs.Prelude.{Option, Some, None, Result, Ok, Err, IfOk, OnOk}
 use Rattle.edge_lattice.specs.State.{state_join}
@@ -18,8 +18,8 @@ use Rattle.text_parts.specs.declared.no_memory.NoMemory.{NoMemory}
 use Rattle.undo_answers.specs.declared.course.Acted.{Acted}
 use Rattle.undo_answers.specs.declared.course.Course.{Course as Kept}
 use Rattle.undo_answers.specs.Course.{Course, Done}
-use Rattle.undo_answers.specs.UndoText.{Answers, IsAnswer, IsAnswerTo, undone_line, refused_line}
-use Rattle.undo_answers.specs.Kept.{AnswersLast, IsLast, StandsFor}
+use Rattle.undo_answers.specs.UndoText.{Answers, IsAnswer, IsAnswerTo, nothing_line, undone_line, refused_line}
+use Rattle.undo_answers.specs.Kept.{AnswersLast, IsLast, IsWithin}
 
 -- graphs that are the same are one
 pub one_graph : (g h : Graph) → IsSame g h → g ≡ h
@@ -62,6 +62,30 @@ pub answer_whole : (r : Result (List Edit) NoMemory) (before : Graph) (edits : L
     → IfOk r (λ undoing. (line : List ℕ) × (new ≡ old ++ line) × IsAnswerTo before edits now author undoing line)
 answer_whole (Err e) before edits now author change old new of is = tt
 answer_whole (Ok undoing) before edits now author change old new of is = (is.0, is.1, record { change = change; is_change = of; answered = is.2 })
+
+-- the answer where there is no such action
+pub nothing_last : (r : Result (List Edit) NoMemory) (taken : List Edit) (last : Option Acted) (author : ℕ) (old new : List ℕ) → last ≡ None → OnOk r (new ≡ old ++ nothing_line) → IfOk r (λ edits. edits ≡ [])
+    → IfOk r (λ undoing. (line : List ℕ) × (new ≡ old ++ line) × AnswersLast taken last author undoing line)
+nothing_last (Err e) taken last author old new is line none = tt
+nothing_last (Ok undoing) taken last author old new is line none =
+    subst (λ (l : Option Acted). (line : List ℕ) × (new ≡ old ++ line) × AnswersLast taken l author undoing line) (sym is) (nothing_line, line, (none, refl))
+
+-- and where there is one
+pub some_last : (r : Result (List Edit) NoMemory) (taken slice : List Edit) (last : Option Acted) (acted : Acted) (author : ℕ) (old new : List ℕ) → last ≡ Some acted → slice ≡ taken
+    → IfOk r (λ undoing. (line : List ℕ) × (new ≡ old ++ line) × IsAnswerTo (graph (take acted.before slice)) acted.edits (graph slice) author undoing line)
+    → IfOk r (λ undoing. (line : List ℕ) × (new ≡ old ++ line) × AnswersLast taken last author undoing line)
+some_last (Err e) taken slice last acted author old new is same answered = tt
+some_last (Ok undoing) taken slice last acted author old new is same answered = (
+  answered.0,
+  answered.1,
+  subst (λ (l : Option Acted). AnswersLast taken l author undoing answered.0) (sym is)
+  (subst (λ (es : List Edit). IsAnswerTo (graph (take acted.before es)) acted.edits (graph es) author undoing answered.0) same answered.2),
+)
+
+pub within_some : (taken slice : List Edit) (last : Option Acted) (acted : Acted) → last ≡ Some acted → slice ≡ taken → IsWithin taken last → acted.before ≤ length slice
+within_some taken slice last acted is same within =
+    let here : acted.before ≤ length taken = subst (λ (l : Option Acted). IsWithin taken l) is within in
+    subst (λ (es : List Edit). acted.before ≤ length es) (sym same) here
 
 -- what is answered in the words of what is kept, in those of the course
 pub answer_is : (taken : List Edit) (last : Option Acted) (done : Option Done) (content : List Edit) (author : ℕ) (undoing : List Edit) (line : List ℕ) → content ≡ with_edits taken [] → IsLast taken last done

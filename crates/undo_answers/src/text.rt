@@ -2,7 +2,9 @@ ghost use Rattle.std.specs.Prelude.{◌≡◌, ◌<◌, ◌≤◌, ◌++◌, ℕ
 ghost use Rattle.grove_edits.specs.Graph.{graph};
 ghost use Rattle.graph_words.specs.States.{state_in};
 ghost use Rattle.grove_undo.specs.Change.{IsChangeOf, IsOfEdits};
+ghost use Rattle.grove_answers.specs.Texts.{IsPrintText};
 ghost use Rattle.session_script.specs.Session.{IsSession};
+ghost use Rattle.replica_core.specs.Content.{with_taken};
 ghost use Rattle.undo_answers.specs.Fit.{IsFit};
 ghost use Rattle.undo_answers.specs.Course.{Course as CourseOf};
 ghost use Rattle.undo_answers.specs.UndoText.{Answers, IsUndoText, IsAnswerTo, IsTextOf};
@@ -14,6 +16,7 @@ use crate::writing::{append_nothing, append_refused, append_undone};
 use grove_edits::{Edit, EditList};
 use grove_undo::{Change, UndoView, change_of, graph_of, undo};
 use live_graph::LiveGraph;
+use replica_core::Replica;
 use seeded_hash::HashSeed;
 use session_script::Session;
 use std::alloc::Global;
@@ -33,25 +36,54 @@ pub fn undo_text(
     requires author { 0 < author }
     ensures { IfOk result (λ text. IsUndoText session.now author text.items) }
 {
-    let course = Course::of(alloc, seed, session.items.as_slice(), author)?;
-    text_of(alloc, seed, course, author)
+    let mut course = Course::of(alloc, seed, session.items.as_slice(), author)?;
+    text_in(alloc, seed, &mut course, author)
 }
 
-fn text_of(alloc: Global, seed: HashSeed, course: Course, author: u32) -> Result<Vec<u8>, NoMemory>
+fn text_in(
+    alloc: Global,
+    seed: HashSeed,
+    course: &mut Course,
+    author: u32,
+) -> Result<Vec<u8>, NoMemory>
     requires author { 0 < author }
-    requires within { IsWithin course.taken course.last }
-    ensures { (of : CourseOf) → StandsFor course of → IfOk result (λ text. IsTextOf of author text.items) }
+    requires within { IsWithin course.old.taken course.old.last }
+    ensures { (of : CourseOf) → StandsFor course.old of → IfOk result (λ text. IsTextOf of author text.items) }
 {
-    let Course {
-        mut replica,
-        taken,
-        last,
-    } = course;
     let mut text = Vec::new(alloc);
-    let undoing = append_answer(alloc, seed, author, taken.as_slice(), &last, &mut text)?;
-    take(&mut replica, &undoing)?;
-    replica.print(alloc, &mut text)?;
+    append_text(alloc, seed, course, author, &mut text)?;
     Ok(text)
+}
+
+fn append_text(
+    alloc: Global,
+    seed: HashSeed,
+    course: &mut Course,
+    author: u32,
+    out: &mut Vec<u8>,
+) -> Result<(), NoMemory>
+    requires author { 0 < author }
+    requires within { IsWithin course.old.taken course.old.last }
+    ensures { (of : CourseOf) → StandsFor course.old of
+        → OnOk result ((text : List ℕ) × IsTextOf of author text × (out.new.items ≡ out.old.items ++ text)) }
+{
+    let undoing = append_answer(alloc, seed, author, &course.taken, &course.last, out)?;
+    append_print(alloc, &mut course.replica, &undoing, out)?;
+    Ok(())
+}
+
+// Takes the edits of undoing, and appends the print text.
+fn append_print(
+    alloc: Global,
+    replica: &mut Replica,
+    undoing: &EditList,
+    out: &mut Vec<u8>,
+) -> Result<(), NoMemory>
+    ensures { OnOk result ((print : List ℕ) × IsPrintText (graph (with_taken undoing.now replica.old).edits) print × (out.new.items ≡ out.old.items ++ print)) }
+{
+    take(replica, undoing)?;
+    replica.print(alloc, out)?;
+    Ok(())
 }
 
 // Appends the line that tells what undoing does, and answers its edits.
@@ -59,7 +91,7 @@ fn append_answer(
     alloc: Global,
     seed: HashSeed,
     author: u32,
-    taken: &[Edit],
+    taken: &EditList,
     last: &Option<Acted>,
     out: &mut Vec<u8>,
 ) -> Result<EditList, NoMemory>
@@ -69,7 +101,7 @@ fn append_answer(
 {
     match last {
         None => append_nothing(alloc, out),
-        Some(acted) => append_undoing(alloc, seed, author, taken, acted, out),
+        Some(acted) => append_undoing(alloc, seed, author, taken.as_slice(), acted, out),
     }
 }
 
