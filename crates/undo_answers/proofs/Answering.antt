@@ -2,7 +2,7 @@
 use Rattle.std.proofs.Common.{◌≡◌, ◌≢◌, ◌≤◌, ◌⊎◌, inl, inr, ℕ, List, [], ◌++◌, length, take, refl, sym, ap, subst, ◌∙◌}
 use Rattle.std.proofs.Math.Path.{fun_ext}
 use Rattle.std.specs.Prelude.{Option, Some, None, Result, Ok, Err, IfOk, OnOk}
-use Rattle.edge_lattice.specs.State.{state_join}
+use Rattle.edge_lattice.proofs.States.{Absent-state_join}
 use Rattle.grove_edits.specs.declared.edge.Edge.{Edge}
 use Rattle.grove_edits.specs.declared.edit.Edit.{Edit}
 use Rattle.grove_edits.specs.Graph.{Graph, graph, IsSame}
@@ -27,7 +27,7 @@ one_graph g h same = fun_ext same
 
 -- edits, and the canonical list of their graph
 graph-taken : (edits : List Edit) → graph (with_edits edits []) ≡ graph edits
-graph-taken edits = fun_ext (λ e. graph-with_edits edits [] e)
+graph-taken edits = fun_ext (λ e. graph-with_edits edits [] e ∙ Absent-state_join (graph edits e))
 
 -- edits that undo a change, and their line
 pub undone_answers : (r : Result (List Edit) NoMemory) (now : Graph) (live : List Edge) (author : ℕ) (change : Change) (edits : List Edit) (old new : List ℕ) → AreLive now live → IsUndoing now live author change edits

@@ -130,6 +130,6 @@ stands_passed old new author by action edits course stands are replica taken cou
     }
 
 pub within_last : (taken : List Edit) (last : Option Acted) (done : Option Done) → IsLast taken last done → IsWithin taken last
-within_last taken None done is = tt
+within_last taken None _ is = tt
 within_last taken (Some acted) None is = absurd is
 within_last taken (Some acted) (Some done) is = is.0

@@ -16,9 +16,15 @@ use Rattle.replica_core.specs.Content.{with_taken}
 use Rattle.undo_answers.specs.Course.{Course, Done, course_of}
 
 -- the number of a fault, its word, and what it shows
+abbrev pub touched_text : Edge → List ℕ
+touched_text edge = codes "1 touched " ++ name_text edge.name
+
+abbrev pub spent_text : ℕ → List ℕ
+spent_text greatest = codes "2 names-spent " ++ decimal greatest
+
 abbrev pub fault_text : UndoFault → List ℕ
-fault_text (Touched edge) = codes "1 touched " ++ name_text edge.name
-fault_text (NamesSpent greatest) = codes "2 names-spent " ++ decimal greatest
+fault_text (Touched edge) = touched_text edge
+fault_text (NamesSpent greatest) = spent_text greatest
 fault_text NoMemory = []
 
 abbrev pub nothing_line : List ℕ

@@ -1,4 +1,4 @@
-ghost use Rattle.std.specs.Prelude.{◌≡◌, ◌<◌, ◌≤◌, ◌++◌, ℕ, List, length, take, IfOk};
+ghost use Rattle.std.specs.Prelude.{◌≡◌, ◌<◌, ◌≤◌, ◌++◌, ℕ, List, length, take, IfOk, OnOk};
 ghost use Rattle.grove_edits.specs.Graph.{graph};
 ghost use Rattle.graph_words.specs.States.{state_in};
 ghost use Rattle.grove_undo.specs.Change.{IsChangeOf, IsOfEdits};

@@ -1,8 +1,8 @@
 ghost use Rattle.std.specs.Prelude.{◌≡◌, ◌≢◌, ◌++◌, [], IfOk, OnOk, length};
 ghost use Rattle.grove_undo.specs.declared.undo_fault.UndoFault.TheVariants.{NoMemory as no_memory};
-ghost use Rattle.undo_answers.specs.UndoText.{nothing_line, refused_line, undone_line, fault_text};
+ghost use Rattle.undo_answers.specs.UndoText.{nothing_line, refused_line, undone_line, fault_text, touched_text, spent_text};
 
-use grove_edits::EditList;
+use grove_edits::{Edge, EditList};
 use grove_names::write_name;
 use grove_undo::UndoFault;
 use std::alloc::Global;
@@ -50,15 +50,29 @@ fn append_fault(fault: UndoFault, out: &mut Vec<u8>) -> Result<(), NoMemory>
 {
     match fault {
         UndoFault::Touched { edge } => {
-            out.extend_from_slice(b"1 touched ")?;
-            write_name(edge.name, out)?;
+            append_touched(edge, out)?;
             Ok(())
         }
         UndoFault::NamesSpent { greatest } => {
-            out.extend_from_slice(b"2 names-spent ")?;
-            write_number(greatest, out)?;
+            append_spent(greatest, out)?;
             Ok(())
         }
         UndoFault::NoMemory => Err(NoMemory),
     }
+}
+
+fn append_touched(edge: Edge, out: &mut Vec<u8>) -> Result<(), NoMemory>
+    ensures { OnOk result (out.new.items ≡ out.old.items ++ touched_text edge) }
+{
+    out.extend_from_slice(b"1 touched ")?;
+    write_name(edge.name, out)?;
+    Ok(())
+}
+
+fn append_spent(greatest: u64, out: &mut Vec<u8>) -> Result<(), NoMemory>
+    ensures { OnOk result (out.new.items ≡ out.old.items ++ spent_text greatest) }
+{
+    out.extend_from_slice(b"2 names-spent ")?;
+    write_number(greatest, out)?;
+    Ok(())
 }

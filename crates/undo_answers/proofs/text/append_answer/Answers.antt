@@ -2,7 +2,7 @@ use Rattle.undo_answers.proofs.Answering.{nothing_last, some_last, within_some}
 use Rattle.undo_answers.proofs.text.append_answer.Goals as goal
 
 pub append_undoing-requires-clause-within : goal.append_undoing-requires-clause-within
-append_undoing-requires-clause-within c = within_some c.args.taken.now c.as_slice.result.now c.args.last.now c.in-Some.acted.now c.in-Some.is c.as_slice.ensures c.requires.within
+append_undoing-requires-clause-within c = within_some c.args.taken.now c.as_slice.result.now c.args.last.now c.in-Some.acted c.in-Some.is c.as_slice.ensures c.requires.within
 
 pub returns-in-None : goal.returns-in-None
 returns-in-None c =
@@ -10,5 +10,5 @@ returns-in-None c =
 
 pub returns-in-Some : goal.returns-in-Some
 returns-in-Some c =
-    some_last c.append_undoing.result c.args.taken.now c.as_slice.result.now c.args.last.now c.in-Some.acted.now c.args.author c.args.out.now.items c.append_undoing.new.out.items c.in-Some.is c.as_slice.ensures
+    some_last c.append_undoing.result c.args.taken.now c.as_slice.result.now c.args.last.now c.in-Some.acted c.args.author c.args.out.now.items c.append_undoing.new.out.items c.in-Some.is c.as_slice.ensures
     c.append_undoing.ensures
