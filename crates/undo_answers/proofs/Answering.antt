@@ -79,7 +79,7 @@ some_last (Ok undoing) taken slice last acted author old new is same answered = 
   answered.0,
   answered.1,
   subst (λ (l : Option Acted). AnswersLast taken l author undoing answered.0) (sym is)
-  (subst (λ (es : List Edit). IsAnswerTo (graph (take acted.before es)) acted.edits (graph es) author undoing answered.0) same answered.2),
+      (subst (λ (es : List Edit). IsAnswerTo (graph (take acted.before es)) acted.edits (graph es) author undoing answered.0) same answered.2),
 )
 
 pub within_some : (taken slice : List Edit) (last : Option Acted) (acted : Acted) → last ≡ Some acted → slice ≡ taken → IsWithin taken last → acted.before ≤ length slice
