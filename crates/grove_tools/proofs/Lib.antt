@@ -4,3 +4,4 @@ pub mod Inferring
 pub mod Reporting
 pub mod Fails
 pub mod Known
+pub mod Unasked

@@ -26,3 +26,14 @@ IsWithinLimits Json = Unit {0}
 -- the words are those of the form
 abbrev pub AreOf : Tool → List (String Global) → Type 0
 AreOf tool words = (map string_bytes words ≡ words_of tool) × IsWithinLimits tool
+
+-- the words are those of no form of one word
+pub record AreOfNoWord (words : List (String Global)) : Type 0 where
+  pub infer : AreOf Infer words → ⊥
+  pub keep : AreOf Keep words → ⊥
+  pub json : AreOf Json words → ⊥
+
+-- and of none of a word and a number
+pub record AreOfNoNumber (words : List (String Global)) : Type 0 where
+  pub relay : (senders : ℕ) → AreOf (Relay senders) words → ⊥
+  pub undo : (author : ℕ) → AreOf (Undo author) words → ⊥

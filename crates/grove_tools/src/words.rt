@@ -2,7 +2,7 @@ ghost use Rattle.std.specs.Prelude.{◌≡◌, ◌<◌, ◌≤◌, ◌^◌, ℕ,
 ghost use Rattle.grove_calls.specs.Rules.{AreOfNone};
 ghost use Rattle.grove_tools.specs.declared.tool.Tool.TheVariants.{Relay, Undo};
 ghost use Rattle.grove_tools.specs.Due.{tool_rules};
-ghost use Rattle.grove_tools.specs.Words.{AreOf, most_senders};
+ghost use Rattle.grove_tools.specs.Words.{AreOf, AreOfNoNumber, AreOfNoWord, most_senders};
 
 use crate::tool::{MOST_SENDERS, Tool};
 use grove_calls::is_word;
@@ -13,17 +13,39 @@ pub(crate) fn tool_of(words: &[String]) -> Option<Tool>
     ensures found { IfSome result (λ tool. AreOf tool words.now) }
     ensures none { IfNone result (AreOfNone tool_rules words.now) }
 {
+    match plain_tool_of(words) {
+        Some(tool) => Some(tool),
+        None => numbered_tool_of(words),
+    }
+}
+
+// The form of one word that is asked for, if any.
+fn plain_tool_of(words: &[String]) -> Option<Tool>
+    ensures found { IfSome result (λ tool. AreOf tool words.now) }
+    ensures none { IfNone result (AreOfNoWord words.now) }
+{
     if is_word(words, "infer") {
         Some(Tool::Infer)
     } else if is_word(words, "keep") {
         Some(Tool::Keep)
     } else if is_word(words, "json") {
         Some(Tool::Json)
-    } else if let Some(senders) = senders_of(words) {
-        Some(Tool::Relay { senders })
     } else {
-        let author = author_of(words)?;
-        Some(Tool::Undo { author })
+        None
+    }
+}
+
+// The form of a word and a number that is asked for, if any.
+fn numbered_tool_of(words: &[String]) -> Option<Tool>
+    ensures found { IfSome result (λ tool. AreOf tool words.now) }
+    ensures none { IfNone result (AreOfNoNumber words.now) }
+{
+    match senders_of(words) {
+        Some(senders) => Some(Tool::Relay { senders }),
+        None => {
+            let author = author_of(words)?;
+            Some(Tool::Undo { author })
+        }
     }
 }
 
