@@ -1,5 +1,7 @@
 pub mod Sound
 pub mod Dealing
 pub mod Inferring
+pub mod Reporting
 pub mod Fails
 pub mod Known
+pub mod Unasked

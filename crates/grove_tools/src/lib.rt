@@ -6,9 +6,11 @@ mod infer;
 mod keep;
 mod outcome;
 mod relay;
+mod report;
 mod tool;
 mod tool_form;
 mod top;
+mod undoing;
 mod words;
 
 pub use grove_calls::{Ending as ToolStatus, Fault, MOST_BYTES, exit_status};

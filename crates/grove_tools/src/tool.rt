@@ -13,4 +13,9 @@ pub enum Tool {
     /// Keeps the edits of the input in a log on a disk in memory, opens the log again, and writes the canonical text of the edits found
     /// in it, behind the line of the input's version.
     Keep,
+    /// Undoes the last action of this author, from 1 on, that was not refused in the session of the input, and writes how many edits that
+    /// takes, or why it is refused, and the print text.
+    Undo { author: u32 },
+    /// Writes the report of the graph of the input as JSON.
+    Json,
 }

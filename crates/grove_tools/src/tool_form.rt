@@ -3,7 +3,9 @@ use crate::infer::form_infer;
 use crate::keep::form_keep;
 use crate::outcome::Handed;
 use crate::relay::form_relay;
+use crate::report::form_json;
 use crate::tool::Tool;
+use crate::undoing::form_undo;
 use grove_calls::{Form, Formed, Refusal};
 use seeded_hash::HashSeed;
 use std::alloc::Global;
@@ -43,6 +45,8 @@ impl<'r, R: Threads + Wait + Sync> Form for ToolForm<'r, R> {
             Tool::Relay { senders } => form_relay(self.rt, alloc, self.seed, senders, text),
             Tool::Infer => form_infer(alloc, self.seed, text),
             Tool::Keep => form_keep(alloc, text),
+            Tool::Undo { author } => form_undo(alloc, self.seed, author, text),
+            Tool::Json => form_json(alloc, self.seed, text),
         }
     }
 

@@ -7,6 +7,8 @@ mod ctx_table_tests;
 #[cfg(test)]
 mod grove_answers_tests;
 #[cfg(test)]
+mod grove_json_tests;
+#[cfg(test)]
 mod grove_printer_tests;
 #[cfg(test)]
 mod mark_incremental_tests;

@@ -13,4 +13,6 @@ mod kept_marks_tests;
 #[cfg(test)]
 mod replica_core_tests;
 #[cfg(test)]
+mod undo_tests;
+#[cfg(test)]
 mod user_actions_tests;

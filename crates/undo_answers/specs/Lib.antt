@@ -1,0 +1,4 @@
+pub mod Fit
+pub mod Course
+pub mod UndoText
+pub mod Kept
