@@ -1,55 +1,16 @@
-ghost use Rattle.std.specs.Prelude.{◌+◌, ◌%◌, ◌^◌};
-ghost use Rattle.grove_edits.specs.declared.answer.Answer.TheVariants.{Done};
-
+use crate::counter::Counter;
 use author_desk::{Cuts, run_lines};
 use edge_board::Board;
 use edge_lattice::State;
-use graph_words::Steps;
-use grove_edits::{Action, Actor, Answer, Command, Edge, Edit, EditList, Place, Vertex};
+use grove_edits::{Action, Actor, Command, Edge, Edit, EditList, Place, Vertex};
 use grove_io::{Gate, OpenGate};
 use grove_names::Name;
 use grove_sorts::{Ctor, Position};
-use shared_replica::{Journal, Machine, Shared};
+use shared_replica::{Journal, Shared};
 use std::alloc::Global;
 use std::sync::Wait;
 use std::sync::atomic::{AtomicU64, Ordering};
-use std::sync::ledger::Ledger;
 use std::test::Fail;
-
-/// Counts its steps, and answers `Done`.
-#[derive(Drop)]
-struct Counter {
-    steps: u64,
-}
-
-impl Machine for Counter {
-    type Command = Command;
-
-    type Effect = u64;
-
-    type Reply = Answer;
-
-    ghost after = { λ counter _ _. record { steps = (counter.steps + 1) % 2 ^ 64 } };
-
-    ghost effect = { λ counter _ _. counter.steps };
-
-    ghost reply = { λ _ _ _. Done };
-
-    ghost cost = { λ _ _ _. 1 };
-
-    fn step<L: Ledger>(
-        &mut self,
-        _alloc: Global,
-        _actor: Actor,
-        _command: &Command,
-        steps: &mut Steps<L>,
-    ) -> Result<(u64, Answer), shared_replica::NoMemory> {
-        steps.tick();
-        let number = self.steps;
-        self.steps = self.steps.wrapping_add(1);
-        Ok((number, Answer::Done))
-    }
-}
 
 fn name(author: u32, counter: u64) -> Name {
     Name { author, counter }

@@ -4,6 +4,8 @@
 #[cfg(test)]
 mod author_desk_tests;
 #[cfg(test)]
+mod counter;
+#[cfg(test)]
 mod edge_board_tests;
 #[cfg(test)]
 mod live_relay_tests;

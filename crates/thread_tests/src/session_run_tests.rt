@@ -1,4 +1,4 @@
-ghost use Rattle.std.specs.Prelude.{◌≡◌, ◌+◌, ◌%◌, ◌^◌, ◌<◌, [], ◌∷◌, length, map, IfOk};
+ghost use Rattle.std.specs.Prelude.{◌≡◌, ◌<◌, [], ◌∷◌, length, map, IfOk};
 ghost use Rattle.std.specs.List.{AllByRecursion};
 ghost use Rattle.grove_edits.specs.declared.answer.Answer.TheVariants.{Done};
 ghost use Rattle.grove_edits.specs.Graph.{Ascends};
@@ -6,6 +6,7 @@ ghost use Rattle.edge_board.specs.Seats.{BoardOf};
 ghost use Rattle.author_desk.specs.Cuts.{opening_edits, CanRaise, HasPartsFor};
 ghost use Rattle.session_script.specs.Session.{IsSession};
 
+use crate::counter::Counter;
 use author_desk::Cuts;
 use edge_board::{Board, BoardSeat};
 use edge_lattice::State;
@@ -22,40 +23,6 @@ use std::sync::ledger::Ledger;
 use std::sync::{Mutex, Wait};
 use std::test::Fail;
 use std::thread::{self, Threads};
-
-/// Counts its steps, and tells before each how many there were.
-#[derive(Drop)]
-struct Counter {
-    steps: u64,
-}
-
-impl Machine for Counter {
-    type Command = Command;
-
-    type Effect = u64;
-
-    type Reply = Answer;
-
-    ghost after = { λ counter _ _. record { steps = (counter.steps + 1) % 2 ^ 64 } };
-
-    ghost effect = { λ counter _ _. counter.steps };
-
-    ghost reply = { λ _ _ _. Done };
-
-    ghost cost = { λ _ _ _. 0 };
-
-    fn step<L: Ledger>(
-        &mut self,
-        _alloc: Global,
-        _actor: Actor,
-        _command: &Command,
-        _steps: &mut Steps<L>,
-    ) -> Result<(u64, Answer), NoRoom> {
-        let before = self.steps;
-        self.steps = before.wrapping_add(1);
-        Ok((before, Answer::Done))
-    }
-}
 
 // A block in which both authors act and one replica sends, and then the edits that it sends.
 const SESSION: &[u8] =
