@@ -17,12 +17,12 @@ const TOO_MUCH: u64 = u64::MAX;
 
 // Takes so long that whoever waits for its turn meanwhile falls asleep.
 fn linger() {
-    for _ in 0..5_000u32 {
+    for _ in 0..20_000u32 {
         thread::yield_now();
     }
 }
 
-/// A sum. A command is added to it, and the answer is the sum then. Each hundredth number takes long.
+/// A sum. A command is added to it, and the answer is the sum then. Each five hundredth number takes long.
 #[derive(Drop)]
 struct Sum {
     total: u64,
@@ -53,7 +53,7 @@ impl Machine for Sum {
         if *command == TOO_MUCH {
             return Err(NoMemory);
         }
-        if *command % 100 == 0 {
+        if *command % 500 == 0 {
             linger();
         }
         steps.tick();
