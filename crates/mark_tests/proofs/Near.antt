@@ -128,7 +128,8 @@ body_after = body_kept after well_after inside_after heads_after program_after (
 pub body_is_far : IsNear (edit_edge to_annotation) before after body → ⊥
 body_is_far (inl on) = let clash : false ≡ true = on in cc
 body_is_far (inr d) =
-    d.other
-    (one_kept before well_before body d.kept_before synthesised d.is_before.marked body_before
-    ∙ one_kept after well_after body synthesised d.kept_after body_after d.is_after.marked,
-    d.is_before.children_are ∙ sym d.is_after.children_are)
+    d.other (
+      one_kept before well_before body d.kept_before synthesised d.is_before.marked body_before
+          ∙ one_kept after well_after body synthesised d.kept_after body_after d.is_after.marked,
+      d.is_before.children_are ∙ sym d.is_after.children_are,
+    )

@@ -1,7 +1,6 @@
 -- A function that is applied to 1 and has `true` for its body, before and after its parameter gets the type of numbers.
 use Rattle.std.specs.Prelude.{◌≡◌, ℕ, true, List, [], ◌∷◌, refl}
 use Rattle.grove_names.specs.declared.name.Name.{Name}
-use Rattle.grove_sorts.specs.declared.ctor.Ctor.{Ctor}
 use Rattle.grove_sorts.specs.declared.ctor.Ctor.TheVariants.{Ap, Lam, Num, LitTrue, TNum}
 use Rattle.grove_sorts.specs.declared.plain.Plain.{Plain}
 use Rattle.grove_sorts.specs.declared.plain.Plain.TheVariants as plain
@@ -73,3 +72,7 @@ before = edit_edge to_application ∷ edit_edge to_function ∷ edit_edge to_arg
 -- and after it
 abbrev pub after : List Edge
 after = edit_edge to_annotation ∷ before
+
+-- the vertices near the edit
+abbrev pub near : List Vertex
+near = annotation ∷ root ∷ application ∷ function ∷ argument ∷ []
