@@ -1,1 +1,3 @@
+mod Near
+mod NearSize
 mod Samples

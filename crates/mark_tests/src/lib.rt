@@ -17,6 +17,8 @@ mod mark_rules_tests;
 #[cfg(test)]
 mod mark_store_tests;
 #[cfg(test)]
+mod near_tests;
+#[cfg(test)]
 mod plain_typing_tests;
 #[cfg(test)]
 mod type_core_tests;
