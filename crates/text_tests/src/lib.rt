@@ -1,9 +1,11 @@
-//! Tests of texts and of what they say: numbers, names, constructors, edits, whole texts of edits, sessions, and what replicas send each
+//! Tests of texts and of what they say: numbers, names, constructors, edits, whole texts of edits, logs of edits, sessions, and what replicas send each
 //! other. Each test calls what a crate makes public.
 #![tactic(auto)]
 
 #[cfg(test)]
 mod edge_lattice_tests;
+#[cfg(test)]
+mod edit_journal_tests;
 #[cfg(test)]
 mod edit_stream_tests;
 #[cfg(test)]
