@@ -13,6 +13,7 @@ use std::sync::Wait;
 use std::sync::ledger::Ledger;
 use std::test::Fail;
 use std::thread::{self, Threads, join};
+use std::time::{Clock, Instant};
 
 /// Counts its steps, and tells before each how many there were. It has room for so many, and no memory for more.
 #[derive(Drop)]
@@ -100,18 +101,35 @@ fn a_full_queue_gives_the_edit_back(rt: HostRuntime) -> Result<(), Fail> {
     Ok(())
 }
 
-/// How often a worker tries before it gives up, so that the test ends in any case.
-const MOST_TRIES: u32 = 10_000_000;
+/// How many seconds a worker tries before it gives up, so that the test ends in any case.
+const TIME_LIMIT: u64 = 20;
 
-// Sends all edits, each again until there is room.
-fn send_all<R: Wait>(rt: &R, relay: &Relay, mut sender: Sender, edits: &[Edit]) -> Sender
+// Whether the time of a test that began then is over.
+fn is_over<R: Clock>(rt: &R, begun: Instant) -> bool {
+    match begun.elapsed(rt) {
+        Ok(elapsed) => TIME_LIMIT <= elapsed.as_secs(),
+        Err(_) => true,
+    }
+}
+
+// Sends all edits, each again until there is room or the time is over.
+fn send_all<R: Wait + Clock>(
+    rt: &R,
+    relay: &Relay,
+    begun: Instant,
+    mut sender: Sender,
+    edits: &[Edit],
+) -> Sender
     requires { sender.relay ≡ relay.now }
     ensures { (result.relay ≡ relay.now) × (result.number ≡ sender.number) }
 {
     for edit in edits {
-        for _ in 0..MOST_TRIES {
+        for _ in rt.forever() {
             if relay.try_send(rt, &mut sender, *edit).is_ok() {
                 break;
+            }
+            if is_over(rt, begun) {
+                return sender;
             }
             thread::yield_now();
         }
@@ -119,10 +137,11 @@ fn send_all<R: Wait>(rt: &R, relay: &Relay, mut sender: Sender, edits: &[Edit]) 
     sender
 }
 
-// Takes until so many edits of each sender came, and tells whether they were these, in order.
-fn take_all<R: Wait>(
+// Takes until so many edits of each sender came or the time is over, and tells whether they were these, in order.
+fn take_all<R: Wait + Clock>(
     rt: &R,
     relay: &Relay,
+    begun: Instant,
     mut receiver: Receiver,
     first: &[Edit],
     second: &[Edit],
@@ -132,8 +151,8 @@ fn take_all<R: Wait>(
 {
     let mut are = true;
     let (mut of_first, mut of_second) = (0, 0);
-    for _ in 0..MOST_TRIES {
-        if of_first == first.len() && of_second == second.len() {
+    for _ in rt.forever() {
+        if (of_first == first.len() && of_second == second.len()) || is_over(rt, begun) {
             break;
         }
         match relay.try_take(rt, &mut receiver) {
@@ -152,9 +171,10 @@ fn take_all<R: Wait>(
 }
 
 // What arrives of two senders, each in a thread of its own, and how many edits are left at the end.
-fn arrives<R: Threads + Wait + Sync>(
+fn arrives<R: Threads + Wait + Clock + Sync>(
     rt: &R,
     alloc: Global,
+    begun: Instant,
     first: &[Edit],
     second: &[Edit],
 ) -> Result<(bool, u64), NoMemory> {
@@ -168,7 +188,7 @@ fn arrives<R: Threads + Wait + Sync>(
         || -> Sender
             requires { one.relay ≡ relay_of.now }
             ensures { (result.relay ≡ relay_of.entry.now) × (result.number ≡ one.number) }
-        { send_all(rt, relay_of, one, first) },
+        { send_all(rt, relay_of, begun, one, first) },
         || -> (Sender, (Receiver, bool))
             requires { (two.relay ≡ relay_of.now) × (receiver.relay ≡ relay_of.now) }
             ensures { (result.0.relay ≡ relay_of.entry.now) × (result.0.number ≡ two.number) × (result.1.0.relay ≡ relay_of.entry.now) }
@@ -178,11 +198,11 @@ fn arrives<R: Threads + Wait + Sync>(
                 || -> Sender
                     requires { two.relay ≡ relay_of.now }
                     ensures { (result.relay ≡ relay_of.entry.now) × (result.number ≡ two.number) }
-                { send_all(rt, relay_of, two, second) },
+                { send_all(rt, relay_of, begun, two, second) },
                 || -> (Receiver, bool)
                     requires { receiver.relay ≡ relay_of.now }
                     ensures { result.0.relay ≡ relay_of.entry.now }
-                { take_all(rt, relay_of, receiver, first, second) },
+                { take_all(rt, relay_of, begun, receiver, first, second) },
             )
         },
     );
@@ -196,7 +216,8 @@ fn arrives<R: Threads + Wait + Sync>(
 fn two_senders_fifo(rt: HostRuntime) -> Result<(), Fail> {
     let first = edits(rt.alloc(), 1, 300)?;
     let second = edits(rt.alloc(), 2, 200)?;
-    let arrived = arrives(&rt, rt.alloc(), first.as_slice(), second.as_slice())?;
+    let begun = Instant::now(&rt)?;
+    let arrived = arrives(&rt, rt.alloc(), begun, first.as_slice(), second.as_slice())?;
     assert_eq!(rt; arrived, (true, 0));
     Ok(())
 }
