@@ -1,3 +1,4 @@
+pub mod BadLines
+pub mod Codes
 pub mod Held
-pub mod Kinds
 pub mod Texts

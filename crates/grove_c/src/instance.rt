@@ -1,7 +1,9 @@
-ghost use Rattle.std.specs.Prelude.{◌≡◌, ◌++◌, List, ℕ, OnOk, OnErr, IfOk, IfSome, IfNone};
+ghost use Rattle.std.specs.Prelude.{◌≡◌, IfOk};
+ghost use Rattle.grove_c.specs.Texts.{IsTextOf};
+ghost use Rattle.grove_editor.specs.State.{at_start};
 
 use crate::text_kind::TextKind;
-use grove_editor::{Editor, NoMemory, TextFault};
+use grove_editor::{Editor, HashSeed, NoMemory};
 use std::alloc::Global;
 use std::marker::Model;
 
@@ -15,15 +17,15 @@ pub struct MadeText {
 /// An editor, and the text that was last made of it, as long as it is a text of the editor as it is. Contracts see the editor alone.
 #[derive(Drop)]
 pub struct Instance {
-    editor: Editor,
-    text: Option<MadeText>,
+    pub(crate) editor: Editor,
+    pub(crate) text: Option<MadeText>,
 }
 
 impl Model for Instance {
-    ghost use Rattle.grove_editor.specs.Editing.{Editing};
+    ghost use Rattle.grove_editor.specs.State.{State};
     ghost use Rattle.grove_c.specs.Texts.{IsKept};
 
-    ghost Value = { Editing };
+    ghost Value = { State };
 
     ghost view = { λ instance. instance.editor };
 
@@ -31,22 +33,11 @@ impl Model for Instance {
 }
 
 impl Instance {
-    ghost use Rattle.grove_editor.specs.Editing.{no_editing, with_fed, with_applied};
-    ghost use Rattle.grove_c.specs.Texts.{IsTextOf};
-
-    pub(crate) fn new(alloc: Global, seed: u64) -> Result<Instance, NoMemory>
-        ensures empty { IfOk result (λ instance. instance ≡ no_editing) }
+    pub(crate) fn new(alloc: Global, seed: HashSeed) -> Result<Instance, NoMemory>
+        ensures start { IfOk result (λ instance. instance ≡ at_start) }
     {
         let editor = Editor::new(alloc, seed)?;
         Ok(Instance { editor, text: None })
-    }
-
-    pub(crate) fn apply(&mut self, alloc: Global, edits: &[u8]) -> Result<(), TextFault>
-        ensures taken { OnOk result (self.new ≡ with_applied edits.now self.old) }
-        ensures unchanged { OnErr result (self.new ≡ self.old) }
-    {
-        self.text = None;
-        self.editor.apply(alloc, edits)
     }
 
     /// Takes out a text of this kind: the one that is kept, or a new one.
@@ -57,24 +48,8 @@ impl Instance {
     {
         match self.text.take() {
             Some(text) if text.kind == kind => Ok(text),
-            _ => self.made_text(alloc, kind),
+            _ => made_text(alloc, &self.editor, kind),
         }
-    }
-
-    fn made_text(&self, alloc: Global, kind: TextKind) -> Result<MadeText, NoMemory>
-        ensures kind { IfOk result (λ text. text.kind ≡ kind) }
-        ensures text { IfOk result (λ text. IsTextOf self.now kind text.bytes.items) }
-    {
-        let mut bytes = Vec::new(alloc);
-        match kind {
-            TextKind::Print => self.editor.print(alloc, &mut bytes)?,
-            TextKind::Canonical => self.editor.print(alloc, &mut bytes)?,
-            TextKind::Json => self.editor.print(alloc, &mut bytes)?,
-            TextKind::Answer => bytes.extend_from_slice(self.editor.answer())?,
-            TextKind::Edits => bytes.extend_from_slice(self.editor.edits())?,
-            TextKind::Changed => bytes.extend_from_slice(self.editor.changed())?,
-        }
-        Ok(MadeText { kind, bytes })
     }
 
     /// Keeps a text for the next call that asks for it.
@@ -84,4 +59,20 @@ impl Instance {
     {
         self.text = Some(text);
     }
+}
+
+fn made_text(alloc: Global, editor: &Editor, kind: TextKind) -> Result<MadeText, NoMemory>
+    ensures kind { IfOk result (λ text. text.kind ≡ kind) }
+    ensures text { IfOk result (λ text. IsTextOf editor.now kind text.bytes.items) }
+{
+    let mut bytes = Vec::new(alloc);
+    match kind {
+        TextKind::Print => editor.append_print(&mut bytes)?,
+        TextKind::Canonical => editor.append_canonical(&mut bytes)?,
+        TextKind::Json => editor.append_json(&mut bytes)?,
+        TextKind::Answer => editor.append_reply(&mut bytes)?,
+        TextKind::Edits => editor.append_made(&mut bytes)?,
+        TextKind::Changed => editor.append_changed(&mut bytes)?,
+    }
+    Ok(MadeText { kind, bytes })
 }

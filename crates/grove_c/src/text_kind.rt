@@ -1,5 +1,5 @@
 ghost use Rattle.std.specs.Prelude.{◌≡◌, ◌≢◌, IfSome, IfNone};
-ghost use Rattle.grove_c.specs.Kinds.{number_of};
+ghost use Rattle.grove_c.specs.Texts.{number_of};
 ghost use Rattle.grove_c.specs.declared.text_kind.TextKind.{TextKind};
 
 /// The texts of an editor.
