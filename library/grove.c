@@ -83,9 +83,9 @@ uint32_t grove_undo(grove_editor *editor, uint32_t author)
     return is_open(editor) ? grove_c_undo(editor, author) : GROVE_WRONG_CALL;
 }
 
-uint32_t grove_begin_block(grove_editor *editor)
+uint32_t grove_redo(grove_editor *editor, uint32_t author)
 {
-    return is_open(editor) ? grove_c_begin_block(editor) : GROVE_WRONG_CALL;
+    return is_open(editor) ? grove_c_redo(editor, author) : GROVE_WRONG_CALL;
 }
 
 uint32_t grove_text(grove_editor *editor, uint32_t which, uint8_t *room, size_t room_length, size_t *length)
@@ -106,5 +106,6 @@ uint32_t grove_greatest(grove_editor *editor, uint32_t author, uint64_t *counter
 {
     if (!is_open(editor) || counter == NULL)
         return GROVE_WRONG_CALL;
-    return grove_c_greatest(editor, author, counter);
+    *counter = grove_c_greatest(editor, author);
+    return GROVE_DONE;
 }

@@ -92,8 +92,9 @@ uint32_t grove_take(grove_editor *editor, grove_bad_line *bad);
 /* Joins an edit text to the graph, whole lines, all of them or none. GROVE_DONE, GROVE_MALFORMED, GROVE_NO_MEMORY; `bad` may be null. */
 uint32_t grove_apply(grove_editor *editor, const uint8_t *edits, size_t length, grove_bad_line *bad);
 
-/* Does an action of an author, one line without a line feed, as `construct 1.1 cond true`. GROVE_ANSWER and GROVE_EDITS then have what it
- * answered and the edits that it made, until another call acts. GROVE_DONE; GROVE_REFUSED, with an answer; GROVE_MALFORMED: it is no action;
+/* Does an action of an author, one line without a line feed, as `construct 1.1 cond true`. GROVE_ANSWER, GROVE_EDITS and GROVE_CHANGED then have
+ * what it answered, the edits that it made and the records that it changed, until another call acts or takes edits, so this call need never be
+ * made again to hear of it. Each action is in a block of its own: `cut` deletes what has the name as the call is made. GROVE_DONE; GROVE_REFUSED, with an answer; GROVE_MALFORMED: it is no action;
  * GROVE_NO_AUTHOR; GROVE_NO_MEMORY. */
 uint32_t grove_act(grove_editor *editor, uint32_t author, const uint8_t *line, size_t length);
 
@@ -101,8 +102,8 @@ uint32_t grove_act(grove_editor *editor, uint32_t author, const uint8_t *line, s
  * GROVE_NOTHING; GROVE_NO_AUTHOR; GROVE_NO_MEMORY. */
 uint32_t grove_undo(grove_editor *editor, uint32_t author);
 
-/* Opens a block: actions from here on plan on what the graph has now, as `cut` and `restore` do. GROVE_DONE; GROVE_NO_MEMORY. */
-uint32_t grove_begin_block(grove_editor *editor);
+/* Does again what the author undid last, where the author has not acted since. As grove_undo. */
+uint32_t grove_redo(grove_editor *editor, uint32_t author);
 
 /* Copies a text to the room, and writes its length. GROVE_DONE; GROVE_NO_ROOM: the length is written and the room is as it was;
  * GROVE_NO_MEMORY, GROVE_WRONG_CALL: nothing is written. The room may be null where its length is 0. A text is made once and then kept until

@@ -13,9 +13,9 @@ uint32_t grove_c_take(grove_editor *editor, grove_bad_line *bad);
 uint32_t grove_c_apply(grove_editor *editor, const uint8_t *edits, size_t length, grove_bad_line *bad);
 uint32_t grove_c_act(grove_editor *editor, uint32_t author, const uint8_t *line, size_t length);
 uint32_t grove_c_undo(grove_editor *editor, uint32_t author);
-uint32_t grove_c_begin_block(grove_editor *editor);
+uint32_t grove_c_redo(grove_editor *editor, uint32_t author);
 uint32_t grove_c_text(grove_editor *editor, uint32_t which, uint8_t *room, size_t room_length, size_t *length);
 uint32_t grove_c_judged(grove_editor *editor, const uint8_t *vertex, size_t vertex_length, uint8_t *room, size_t room_length, size_t *length);
-uint32_t grove_c_greatest(grove_editor *editor, uint32_t author, uint64_t *counter);
+uint64_t grove_c_greatest(grove_editor *editor, uint32_t author);
 
 #endif

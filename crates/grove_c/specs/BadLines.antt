@@ -1,9 +1,9 @@
 -- What C is told of the first bad line of an edit text.
 use Rattle.std.specs.Prelude.{ℕ}
-use Rattle.grove_editor.specs.declared.edits.LineFault.{LineFault}
-use Rattle.grove_editor.specs.declared.edits.LineFault.TheVariants.{Syntax, BadVertex, NoPosition, WrongSort}
-use Rattle.grove_editor.specs.declared.edits.TextFault.{TextFault}
-use Rattle.grove_editor.specs.declared.edits.TextFault.TheVariants.{Malformed, Rest, NoMemory}
+use Rattle.edit_text.specs.declared.line_fault.LineFault.{LineFault}
+use Rattle.edit_text.specs.declared.line_fault.LineFault.TheVariants.{Syntax, BadVertex, NoPosition, WrongSort}
+use Rattle.edit_text.specs.declared.text_fault.TextFault.{TextFault}
+use Rattle.edit_text.specs.declared.text_fault.TextFault.TheVariants.{Malformed, Rest, NoMemory}
 use Rattle.grove_c.specs.declared.bad_line.BadLine.{BadLine}
 use Rattle.grove_c.specs.declared.code.TheConstants.{MALFORMED, NO_MEMORY}
 

@@ -1,7 +1,7 @@
 -- What C is told of how a call ended.
 use Rattle.std.specs.Prelude.{ℕ, Bool, true, false, ◌==◌, ◌||◌}
-use Rattle.grove_editor.specs.declared.reply.Answer.{Answer}
-use Rattle.grove_editor.specs.declared.reply.Answer.TheVariants.{Taken, Made, Done, Refused}
+use Rattle.grove_edits.specs.declared.answer.Answer.{Answer}
+use Rattle.grove_edits.specs.declared.answer.Answer.TheVariants.{Refused}
 use Rattle.grove_editor.specs.declared.reply.Reply.{Reply}
 use Rattle.grove_editor.specs.declared.reply.Reply.TheVariants.{Unasked, Answered, Undone, Redone, NothingToTurn, NotTurned}
 use Rattle.grove_editor.specs.declared.author_fault.AuthorFault.{AuthorFault}

@@ -1,7 +1,13 @@
 -- The texts of an editor, and when one that was made may be given again.
 use Rattle.std.specs.Prelude.{◌≡◌, ℕ, List, Option, Some, None}
 use Rattle.grove_editor.specs.State.{State}
-use Rattle.grove_editor.specs.Relations.{IsPrintText, IsJsonText, edits_text, reply_text, AreRecordsTold, IsRecordTold}
+use Rattle.grove_edits.specs.declared.vertex.Vertex.{Vertex}
+use Rattle.grove_edits.specs.Graph.{graph}
+use Rattle.grove_answers.specs.Texts.{IsPrintText}
+use Rattle.grove_json.specs.JsonText.{IsJsonText}
+use Rattle.grove_editor.specs.EditsText.{edits_text}
+use Rattle.grove_editor.specs.Told.{reply_text}
+use Rattle.grove_editor.specs.Records.{AreRecordsTold, IsRecordTold, vertex_text}
 use Rattle.grove_c.specs.declared.text_kind.TextKind.{TextKind}
 use Rattle.grove_c.specs.declared.text_kind.TextKind.TheVariants.{Print, Canonical, Json, Answer, Edits, Changed}
 use Rattle.grove_c.specs.declared.instance.MadeText.{MadeText}
@@ -17,12 +23,12 @@ number_of Changed = 5
 
 -- these bytes are the text of this kind of an editor in this state
 abbrev pub IsTextOf : State → TextKind → List ℕ → Type 0
-IsTextOf state Print text = IsPrintText state.edits text
+IsTextOf state Print text = IsPrintText (graph state.edits) text
 IsTextOf state Canonical text = text ≡ edits_text state.edits
-IsTextOf state Json text = IsJsonText state.edits text
+IsTextOf state Json text = IsJsonText (graph state.edits) text
 IsTextOf state Answer text = text ≡ reply_text state.reply
 IsTextOf state Edits text = text ≡ edits_text state.made
-IsTextOf state Changed text = AreRecordsTold state.edits state.changed text
+IsTextOf state Changed text = AreRecordsTold (graph state.edits) state.changed text
 
 -- the editor has a text for which C has this number, and these bytes are that text
 pub record IsTextNumbered (state : State) (number : ℕ) (text : List ℕ) : Type 0 where
@@ -37,6 +43,6 @@ IsKept state (Some text) = IsTextOf state text.kind text.bytes.items
 
 -- these words name a vertex of the graph, and this is its record
 pub record IsRecordOf (state : State) (words text : List ℕ) : Type 0 where
-  pub vertex : List ℕ
-  pub named : words ≡ vertex
-  pub told : IsRecordTold state.edits vertex text
+  pub vertex : Vertex
+  pub named : words ≡ vertex_text vertex
+  pub told : IsRecordTold (graph state.edits) vertex text

@@ -1,5 +1,9 @@
-ghost use Rattle.std.specs.Prelude.{◌≡◌, ◌≢◌, false, ℕ, List, IsTrue, OnOk, OnErr, IfOk, IfErr};
-ghost use Rattle.grove_editor.specs.Relations.{HasActed, HasUndone, HasRedone, IsActionFault, IsAuthorFault, IsAuthor};
+ghost use Rattle.std.specs.Prelude.{◌≡◌, ◌≢◌, false, IsTrue, OnOk, OnErr, IfOk, IfErr};
+ghost use Rattle.edit_text.specs.Line.{spaced};
+ghost use Rattle.session_script.specs.Action.{action_parts, IsAuthor};
+ghost use Rattle.grove_edits.specs.declared.action.Action.{Action};
+ghost use Rattle.grove_editor.specs.Acted.{HasActed, IsActionFault};
+ghost use Rattle.grove_editor.specs.Turned.{HasUndone, HasRedone, IsAuthorFault};
 ghost use Rattle.grove_editor.specs.declared.action_fault.ActionFault.TheVariants as action_fault;
 ghost use Rattle.grove_c.specs.Codes.{answer_code, author_code, is_fault, reply_code};
 ghost use Rattle.grove_c.specs.declared.code.TheConstants.{MALFORMED, NO_AUTHOR};
@@ -7,12 +11,13 @@ ghost use Rattle.grove_c.specs.declared.code.TheConstants.{MALFORMED, NO_AUTHOR}
 use crate::code::{DONE, MALFORMED, NO_AUTHOR, NO_MEMORY, NOTHING, REFUSED};
 use crate::held::Held;
 use core::mem::replace_with;
-use grove_editor::{ActionFault, Answer, AuthorFault, Reply};
+use grove_editor::{ActionFault, AuthorFault, Reply};
+use grove_edits::Answer;
 
 /// An author's action, by its words. Where it is no fault the code tells what the reply came to.
 #[unsafe(no_mangle)]
 pub extern "C" fn grove_c_act(held: &mut Held, author: u32, line: &[u8]) -> u32
-    ensures acted { is_fault result ≡ false → (action : List ℕ) × (line.now ≡ action) × HasActed author action held.old.editor held.new.editor }
+    ensures acted { is_fault result ≡ false → (action : Action) × (line.now ≡ spaced (action_parts action)) × HasActed author action held.old.editor held.new.editor }
     ensures code { is_fault result ≡ false → result ≡ reply_code held.new.editor.reply }
     ensures unchanged { IsTrue (is_fault result) → held.new.editor ≡ held.old.editor }
     ensures no_author { result ≡ NO_AUTHOR → IsActionFault author line.now action_fault.NoAuthor }
@@ -27,7 +32,7 @@ pub extern "C" fn grove_c_act(held: &mut Held, author: u32, line: &[u8]) -> u32
 }
 
 fn act(held: Held, given: (u32, &[u8])) -> (Held, Result<u32, ActionFault>)
-    ensures acted { OnOk result.1 ((action : List ℕ) × (given.entry.1.now ≡ action) × HasActed given.entry.0 action held.editor result.0.editor) }
+    ensures acted { OnOk result.1 ((action : Action) × (given.entry.1.now ≡ spaced (action_parts action)) × HasActed given.entry.0 action held.editor result.0.editor) }
     ensures code { IfOk result.1 (λ code. code ≡ reply_code result.0.editor.reply) }
     ensures replied { IfOk result.1 (λ code. is_fault code ≡ false) }
     ensures fault { IfErr result.1 (IsActionFault given.entry.0 given.entry.1.now) }

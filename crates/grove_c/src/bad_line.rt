@@ -1,7 +1,7 @@
 ghost use Rattle.std.specs.Prelude.{◌≡◌};
 ghost use Rattle.grove_c.specs.BadLines.{bad_line, number_of_fault};
 
-use grove_editor::{LineFault, TextFault};
+use edit_text::{LineFault, TextFault};
 
 /// The first bad line of an edit text, counted from 1, and what is wrong with it by the number that C has for it. Both are 0 where nothing
 /// is.

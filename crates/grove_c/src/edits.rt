@@ -1,7 +1,10 @@
-ghost use Rattle.std.specs.Prelude.{◌≡◌, ◌≢◌, ◌++◌, ◌⊎◌, ℕ, List, OnOk, OnErr, IfErr};
+ghost use Rattle.std.specs.Prelude.{◌≡◌, ◌≢◌, ◌++◌, ◌⊎◌, List, OnOk, OnErr, IfErr};
 ghost use Rattle.grove_editor.specs.State.{with_fed, without_fed};
-ghost use Rattle.grove_editor.specs.Relations.{HasTaken, after_fault, IsTextOf, HasWholeFault};
-ghost use Rattle.grove_editor.specs.declared.edits.TextFault.{TextFault};
+ghost use Rattle.grove_editor.specs.Taken.{HasTaken, after_fault};
+ghost use Rattle.grove_sorts.specs.declared.version.Version.{Version};
+ghost use Rattle.grove_edits.specs.declared.edit.Edit.{Edit};
+ghost use Rattle.edit_text.specs.declared.text_fault.TextFault.{TextFault};
+ghost use Rattle.edit_text.specs.Whole.{HasWholeFault, IsTextOf};
 ghost use Rattle.grove_c.specs.BadLines.{bad_line, fault_code, no_bad_line};
 ghost use Rattle.grove_c.specs.declared.code.TheConstants.{DONE, MALFORMED, NO_MEMORY};
 
@@ -9,7 +12,8 @@ use crate::bad_line::{BadLine, NO_BAD_LINE, bad_line_of};
 use crate::code::{DONE, MALFORMED, NO_MEMORY};
 use crate::held::Held;
 use core::mem::replace_with;
-use grove_editor::{NoMemory, TextFault};
+use edit_text::TextFault;
+use grove_editor::NoMemory;
 
 /// Feeds some bytes of an edit text, which may be cut anywhere, behind those that were fed before.
 #[unsafe(no_mangle)]
@@ -38,7 +42,7 @@ fn feed(held: Held, bytes: &[u8]) -> (Held, Result<(), NoMemory>)
 /// Joins the edits that were fed to the graph, all of them or none, and drops what was fed; it is kept where memory runs out.
 #[unsafe(no_mangle)]
 pub extern "C" fn grove_c_take(held: &mut Held, bad: &mut BadLine) -> u32
-    ensures taken { result ≡ DONE → (edits : List ℕ) × IsTextOf held.old.editor.fed edits × HasTaken edits (without_fed held.old.editor) held.new.editor }
+    ensures taken { result ≡ DONE → (version : Version) × (edits : List Edit) × IsTextOf held.old.editor.fed version edits × HasTaken edits (without_fed held.old.editor) held.new.editor }
     ensures fault { result ≢ DONE → (fault : TextFault) × HasWholeFault held.old.editor.fed fault × (bad.new ≡ bad_line fault) × (held.new.editor ≡ after_fault fault held.old.editor) }
     ensures no_fault { result ≡ DONE → bad.new ≡ no_bad_line }
     ensures no_memory { result ≡ NO_MEMORY → held.new.editor ≡ held.old.editor }
@@ -49,7 +53,7 @@ pub extern "C" fn grove_c_take(held: &mut Held, bad: &mut BadLine) -> u32
 }
 
 fn take(held: Held, _nothing: ()) -> (Held, Result<(), TextFault>)
-    ensures taken { OnOk result.1 ((edits : List ℕ) × IsTextOf held.editor.fed edits × HasTaken edits (without_fed held.editor) result.0.editor) }
+    ensures taken { OnOk result.1 ((version : Version) × (edits : List Edit) × IsTextOf held.editor.fed version edits × HasTaken edits (without_fed held.editor) result.0.editor) }
     ensures fault { IfErr result.1 (HasWholeFault held.editor.fed) }
     ensures left { IfErr result.1 (λ fault. result.0.editor ≡ after_fault fault held.editor) }
 {
@@ -63,7 +67,7 @@ fn take(held: Held, _nothing: ()) -> (Held, Result<(), TextFault>)
 /// Joins the edits of a whole text to the graph, all of them or none.
 #[unsafe(no_mangle)]
 pub extern "C" fn grove_c_apply(held: &mut Held, text: &[u8], bad: &mut BadLine) -> u32
-    ensures taken { result ≡ DONE → (edits : List ℕ) × IsTextOf text.now edits × HasTaken edits held.old.editor held.new.editor }
+    ensures taken { result ≡ DONE → (version : Version) × (edits : List Edit) × IsTextOf text.now version edits × HasTaken edits held.old.editor held.new.editor }
     ensures fault { result ≢ DONE → (fault : TextFault) × HasWholeFault text.now fault × (bad.new ≡ bad_line fault) }
     ensures no_fault { result ≡ DONE → bad.new ≡ no_bad_line }
     ensures unchanged { result ≢ DONE → held.new.editor ≡ held.old.editor }
@@ -73,7 +77,7 @@ pub extern "C" fn grove_c_apply(held: &mut Held, text: &[u8], bad: &mut BadLine)
 }
 
 fn apply(held: Held, text: &[u8]) -> (Held, Result<(), TextFault>)
-    ensures taken { OnOk result.1 ((edits : List ℕ) × IsTextOf text.now edits × HasTaken edits held.editor result.0.editor) }
+    ensures taken { OnOk result.1 ((version : Version) × (edits : List Edit) × IsTextOf text.now version edits × HasTaken edits held.editor result.0.editor) }
     ensures fault { IfErr result.1 (HasWholeFault text.now) }
     ensures unchanged { OnErr result.1 (result.0.editor ≡ held.editor) }
 {

@@ -3,7 +3,8 @@ ghost use Rattle.grove_c.specs.Texts.{IsTextOf};
 ghost use Rattle.grove_editor.specs.State.{at_start};
 
 use crate::text_kind::TextKind;
-use grove_editor::{Editor, HashSeed, NoMemory};
+use grove_editor::{Editor, NoMemory};
+use seeded_hash::HashSeed;
 use std::alloc::Global;
 use std::marker::Model;
 

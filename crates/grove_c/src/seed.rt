@@ -1,4 +1,4 @@
-use grove_editor::HashSeed;
+use seeded_hash::HashSeed;
 use std::io;
 use std::random::RandomSource;
 

@@ -1,5 +1,7 @@
 ghost use Rattle.std.specs.Prelude.{◌≡◌, ◌≢◌, ◌++◌, ◌<◌, ◌⊎◌, ℕ, List, length, drop, IfOk, IfErr};
-ghost use Rattle.grove_editor.specs.Relations.{IsRecordTold, IsVertexFault, IsGreatest};
+ghost use Rattle.grove_edits.specs.Graph.{graph};
+ghost use Rattle.graph_words.specs.Names.{IsGreatest, IsNameOf};
+ghost use Rattle.grove_editor.specs.Records.{IsVertexFault};
 ghost use Rattle.grove_editor.specs.declared.vertex_fault.VertexFault.TheVariants as vertex_fault;
 ghost use Rattle.grove_c.specs.Texts.{IsRecordOf, IsTextOf, IsTextNumbered, number_of};
 ghost use Rattle.grove_c.specs.declared.code.TheConstants.{DONE, WRONG_CALL, MALFORMED, NO_ROOM, NO_MEMORY, NO_VERTEX};
@@ -79,8 +81,8 @@ pub extern "C" fn grove_c_judged(
     ensures too_short { result ≡ NO_ROOM → (text : List ℕ) × IsRecordOf held.old.editor vertex.now text × (text_length.new ≡ length text) × (length room.old < length text) }
     ensures untouched { result ≢ DONE → room.new ≡ room.old }
     ensures no_length { result ≢ DONE → result ≢ NO_ROOM → text_length.new ≡ text_length.old }
-    ensures malformed { result ≡ MALFORMED → IsVertexFault held.old.editor.edits vertex.now vertex_fault.Syntax }
-    ensures no_vertex { result ≡ NO_VERTEX → IsVertexFault held.old.editor.edits vertex.now vertex_fault.NoVertex }
+    ensures malformed { result ≡ MALFORMED → IsVertexFault (graph held.old.editor.edits) vertex.now vertex_fault.Syntax }
+    ensures no_vertex { result ≡ NO_VERTEX → IsVertexFault (graph held.old.editor.edits) vertex.now vertex_fault.NoVertex }
     ensures never { result ≢ WRONG_CALL }
 {
     match replace_with(held, (alloc, vertex), judge) {
@@ -93,7 +95,7 @@ pub extern "C" fn grove_c_judged(
 
 fn judge(held: Held, given: (Global, &[u8])) -> (Held, Result<Vec<u8>, VertexFault>)
     ensures text { IfOk result.1 (λ text. IsRecordOf held.editor given.entry.1.now text.items) }
-    ensures fault { IfErr result.1 (IsVertexFault held.editor.edits given.entry.1.now) }
+    ensures fault { IfErr result.1 (IsVertexFault (graph held.editor.edits) given.entry.1.now) }
     ensures same { result.0.editor ≡ held.editor }
 {
     let (alloc, words) = given;
@@ -106,14 +108,14 @@ fn judge(held: Held, given: (Global, &[u8])) -> (Held, Result<Vec<u8>, VertexFau
 /// The greatest counter of an author among the names of the graph, and 0 where none is by the author.
 #[unsafe(no_mangle)]
 pub extern "C" fn grove_c_greatest(held: &mut Held, author: u32) -> u64
-    ensures greatest { IsGreatest held.old.editor.edits author result }
+    ensures greatest { IsGreatest (IsNameOf (graph held.old.editor.edits)) author result }
     ensures same { held.new.editor ≡ held.old.editor }
 {
     replace_with(held, author, greatest)
 }
 
 fn greatest(held: Held, author: u32) -> (Held, u64)
-    ensures greatest { IsGreatest held.editor.edits author result.1 }
+    ensures greatest { IsGreatest (IsNameOf (graph held.editor.edits)) author result.1 }
     ensures same { result.0.editor ≡ held.editor }
 {
     let instance = held.into_instance();
