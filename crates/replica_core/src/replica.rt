@@ -17,10 +17,11 @@ use crate::planning::planned;
 use crate::texts::append_print_text;
 use graph_words::Steps;
 use grove_answers::append_canonical_text;
-use grove_edits::{Action, Answer, Edit, EditList};
+use grove_edits::{Action, Answer, Command, Edit, EditList};
 use live_graph::LiveGraph;
 use mark_incremental::Marks;
 use seeded_hash::HashSeed;
+use shared_edits::{CutEffects, SharedEdits};
 use std::alloc::Global;
 use std::marker::Model;
 use std::sync::ledger::Ledger;
@@ -37,6 +38,8 @@ pub struct Replica {
     // Which edges were not Absent as the block opened.
     opening: OpeningFlags,
     marks: Marks,
+    // What cuts deleted, so that cuts that delete the same share it. Contracts do not see it.
+    cuts: CutEffects,
 }
 
 impl Model for Replica {
@@ -69,6 +72,7 @@ impl Replica {
             graph,
             opening,
             marks,
+            cuts: CutEffects::new(alloc),
         })
     }
 
@@ -117,7 +121,23 @@ impl Replica {
         self.take(edits.as_slice(), steps)
     }
 
-    fn take<L: Ledger>(&mut self, edits: &[Edit], steps: &mut Steps<L>) -> Result<(), NoMemory>
+    /// The edits of a step, which an entry of a journal may share with an earlier one.
+    pub(crate) fn shared(
+        &mut self,
+        alloc: Global,
+        command: &Command,
+        edits: EditList,
+    ) -> Result<SharedEdits, NoMemory>
+        ensures edits { IfOk result (λ shared. shared ≡ edits) }
+        ensures unchanged { self.new ≡ self.old }
+    {
+        match command {
+            Command::Act(Action::Cut { edge }) => self.cuts.of_cut(alloc, *edge, edits),
+            _ => SharedEdits::new(alloc, edits),
+        }
+    }
+
+    pub(crate) fn take<L: Ledger>(&mut self, edits: &[Edit], steps: &mut Steps<L>) -> Result<(), NoMemory>
         ensures taken { OnOk result (self.new ≡ with_taken edits.now self.old) }
         ensures unchanged { OnErr result (self.new ≡ self.old) }
         ensures bounded { steps.new ≤ steps.old + edits_cost self.old edits.now }

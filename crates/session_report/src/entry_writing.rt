@@ -4,13 +4,14 @@ ghost use Rattle.session_script.specs.Action.{action_line};
 ghost use Rattle.session_report.specs.Answer.{answer_parts, entry_line, entry_text};
 
 use crate::answer_writing::{append_answer, append_with_number};
-use grove_edits::{Action, Actor, Answer, Command, EditList};
+use grove_edits::{Action, Actor, Answer, Command};
 use session_script::write_action;
+use shared_edits::SharedEdits;
 use shared_replica::{Entry, Machine};
 use text_parts::NoMemory;
 
 /// Appends the line of an entry, with its LF.
-pub fn append_entry<M: Machine<Command = Command, Effect = EditList, Reply = Answer>>(
+pub fn append_entry<M: Machine<Command = Command, Effect = SharedEdits, Reply = Answer>>(
     entry: &Entry<M>,
     out: &mut Vec<u8>,
 ) -> Result<(), NoMemory>

@@ -6,13 +6,14 @@ ghost use Rattle.session_report.specs.Report.{block_heading, show_heading, repli
 
 use crate::answer_writing::append_with_number;
 use crate::entry_writing::append_entry;
-use grove_edits::{Answer, Command, EditList};
+use grove_edits::{Answer, Command};
 use grove_sorts::{Ident, write_ident};
+use shared_edits::SharedEdits;
 use shared_replica::{Journal, Machine};
 use text_parts::NoMemory;
 
 /// Appends what is written of a block: its number, counted from 1, and the journals of the replicas with these names.
-pub fn append_block<M: Machine<Command = Command, Effect = EditList, Reply = Answer>>(
+pub fn append_block<M: Machine<Command = Command, Effect = SharedEdits, Reply = Answer>>(
     block: u64,
     names: &[Ident],
     journals: &[Journal<M>],
@@ -56,7 +57,7 @@ pub fn append_replica_heading(name: &Ident, out: &mut Vec<u8>) -> Result<(), NoM
 }
 
 // After an error a part may stand, as in the functions below.
-fn append_journals<M: Machine<Command = Command, Effect = EditList, Reply = Answer>>(
+fn append_journals<M: Machine<Command = Command, Effect = SharedEdits, Reply = Answer>>(
     block: u64,
     names: &[Ident],
     journals: &[Journal<M>],
@@ -72,7 +73,7 @@ fn append_journals<M: Machine<Command = Command, Effect = EditList, Reply = Answ
     Ok(())
 }
 
-fn append_journal<M: Machine<Command = Command, Effect = EditList, Reply = Answer>>(
+fn append_journal<M: Machine<Command = Command, Effect = SharedEdits, Reply = Answer>>(
     name: &Ident,
     journal: &Journal<M>,
     out: &mut Vec<u8>,
