@@ -29,7 +29,9 @@ pub fn one_summary<M: Machine<Command = Command, Effect = SharedEdits, Reply = A
 
 /// Law: replicas that took the same edits, by loads, by actions and by what was sent to them, in any order and with any repeats,
 /// have the same section below the line with their names, in one report or in two.
-pub fn same_edits_same_section<M: Machine<Command = Command, Effect = SharedEdits, Reply = Answer>>()
+pub fn same_edits_same_section<
+    M: Machine<Command = Command, Effect = SharedEdits, Reply = Answer>,
+>()
     ensures { (journals others : Journals M) (a b : ℕ) (before earlier : List Item) (name other : Ident) (x y : List ℕ)
         → HasSameEdits (taken journals a before) (taken others b earlier) → IsSection name (taken journals a before) x → IsSection other (taken others b earlier) y
         → (shown : List ℕ) × (x ≡ replica_heading name ++ shown) × (y ≡ replica_heading other ++ shown) }
