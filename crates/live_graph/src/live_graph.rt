@@ -108,6 +108,14 @@ impl LiveGraph {
         find(&self.edges, &self.edge_names, edge)
     }
 
+    /// The edge with a number.
+    pub fn edge(&self, number: usize) -> Edge
+        requires { number < length self.now }
+        ensures { IsNumberOf self.now result number }
+    {
+        self.edges.edge(number)
+    }
+
     /// The state of an edge.
     pub fn state(&self, edge: &Edge) -> State
         ensures { result ≡ state_in self.now edge.now }
