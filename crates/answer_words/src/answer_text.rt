@@ -1,19 +1,32 @@
-//! Answers as text. After an error a part of the text may stand.
 ghost use Rattle.std.specs.Prelude.{◌≡◌, ◌∷◌, ◌++◌, OnOk, OnErr, decimal};
 ghost use Rattle.grove_names.specs.Name.{name_text};
 ghost use Rattle.grove_sorts.specs.Ctor.{ctor_text};
 ghost use Rattle.grove_sorts.specs.Position.{position_text};
 ghost use Rattle.grove_sorts.specs.Sort.{sort_text};
 ghost use Rattle.edit_text.specs.Line.{spaced, Extends};
-ghost use Rattle.session_report.specs.Answer.{answer_parts, fault_parts};
+ghost use Rattle.answer_words.specs.Answer.{answer_parts, answer_text, fault_parts};
 
 use grove_edits::{ActFault, Answer, Place, Vertex};
 use grove_names::{Name, write_name};
 use grove_sorts::{Ctor, Sort, write_ctor, write_position, write_sort};
 use text_parts::{NoMemory, write_number};
 
-pub(crate) fn append_answer(answer: &Answer, out: &mut Vec<u8>) -> Result<(), NoMemory>
-    ensures appended { OnOk result (out.new.items ≡ out.old.items ++ spaced (answer_parts answer.now)) }
+/// Appends the words of an answer, with a space between each two.
+pub fn write_answer(answer: &Answer, out: &mut Vec<u8>) -> Result<(), NoMemory>
+    ensures appended { OnOk result (out.new.items ≡ out.old.items ++ answer_text answer.now) }
+    ensures unchanged { OnErr result (out.new.items ≡ out.old.items) }
+{
+    let start = out.len();
+    let written = append_answer(answer, out);
+    if written.is_err() {
+        out.truncate(start);
+    }
+    written
+}
+
+// After an error the words may stand in part, as in the functions below.
+fn append_answer(answer: &Answer, out: &mut Vec<u8>) -> Result<(), NoMemory>
+    ensures appended { OnOk result (out.new.items ≡ out.old.items ++ answer_text answer.now) }
     ensures in_part { OnErr result (Extends out.old.items out.new.items) }
 {
     match answer {
@@ -61,11 +74,7 @@ fn append_fault(fault: &ActFault, out: &mut Vec<u8>) -> Result<(), NoMemory>
     }
 }
 
-pub(crate) fn append_with_number(
-    word: &[u8],
-    number: u64,
-    out: &mut Vec<u8>,
-) -> Result<(), NoMemory>
+fn append_with_number(word: &[u8], number: u64, out: &mut Vec<u8>) -> Result<(), NoMemory>
     ensures appended { OnOk result (out.new.items ≡ out.old.items ++ (word.now ++ decimal number)) }
     ensures in_part { OnErr result (Extends out.old.items out.new.items) }
 {

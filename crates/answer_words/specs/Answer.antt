@@ -1,22 +1,15 @@
--- What is written of the entries of a journal.
+-- What is written of an answer.
 -- The promise of the commands rests on these definitions.
-use Rattle.std.specs.Prelude.{ℕ, List, [], ◌∷◌, ◌++◌, codes, decimal}
+use Rattle.std.specs.Prelude.{ℕ, List, [], ◌∷◌, codes, decimal}
 use Rattle.grove_names.specs.Name.{name_text}
 use Rattle.grove_sorts.specs.Ctor.{ctor_text}
 use Rattle.grove_sorts.specs.Position.{position_text}
 use Rattle.grove_sorts.specs.Sort.{sort_text}
 use Rattle.edit_text.specs.Line.{spaced}
-use Rattle.grove_edits.specs.declared.edit.Edit.{Edit}
 use Rattle.grove_edits.specs.declared.act_fault.ActFault.{ActFault}
 use Rattle.grove_edits.specs.declared.act_fault.ActFault.TheVariants.{NoVertex, AmbiguousVertex, NoPosition, WrongSort, Occupied, Empty, CannotWrap, NoEdge, AmbiguousEdge, IntoItself, NotLoose, NamesSpent}
-use Rattle.grove_edits.specs.declared.actor.Actor.{Actor}
-use Rattle.grove_edits.specs.declared.actor.Actor.TheVariants.{Host, Author, Send}
 use Rattle.grove_edits.specs.declared.answer.Answer.{Answer}
 use Rattle.grove_edits.specs.declared.answer.Answer.TheVariants.{Made, Moved, Done, Taken, Refused}
-use Rattle.grove_edits.specs.declared.command.Command.{Command}
-use Rattle.grove_edits.specs.declared.command.Command.TheVariants.{Act, Take}
-use Rattle.shared_replica.specs.declared.journal.Entry.{Entry}
-use Rattle.session_script.specs.Action.{action_line}
 
 -- the number of a fault, its word, and what it shows
 abbrev pub fault_parts : ActFault → List (List ℕ)
@@ -34,6 +27,7 @@ fault_parts (IntoItself vertex) = codes "10" ∷ codes "into-itself" ∷ name_te
 fault_parts (NotLoose edge) = codes "11" ∷ codes "not-loose" ∷ name_text edge.name ∷ []
 fault_parts (NamesSpent greatest) = codes "12" ∷ codes "names-spent" ∷ decimal greatest ∷ []
 
+-- the word of an answer, and what it shows
 abbrev pub answer_parts : Answer → List (List ℕ)
 answer_parts (Made vertex) = codes "made" ∷ name_text vertex ∷ []
 answer_parts (Moved edge) = codes "moved" ∷ name_text edge ∷ []
@@ -41,12 +35,6 @@ answer_parts Done = codes "done" ∷ []
 answer_parts (Taken edits) = codes "edits" ∷ decimal edits ∷ []
 answer_parts (Refused fault) = codes "refused" ∷ fault_parts fault
 
--- an author's entry is the author's line and the answer; a piece's is the number of its `send` line, its own, and the answer
-abbrev pub entry_line : Actor → Command → Answer → List ℕ
-entry_line (Author author) (Act action) answer = action_line author action ++ (codes " = " ++ spaced (answer_parts answer))
-entry_line (Send number) (Take piece bytes edits) answer = spaced (codes "send" ∷ decimal number ∷ codes "piece" ∷ decimal piece ∷ answer_parts answer)
-entry_line actor command answer = []
-
-module _ {M E : Type 0} where
-  abbrev pub entry_text : Entry M Command E Answer → List ℕ
-  entry_text entry = entry_line entry.actor entry.command entry.reply ++ 10 ∷ []
+-- its words, with a space between each two
+abbrev pub answer_text : Answer → List ℕ
+answer_text answer = spaced (answer_parts answer)
