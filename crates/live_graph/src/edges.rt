@@ -2,6 +2,7 @@ ghost use Rattle.std.specs.Prelude.{◌≡◌, ◌==◌, ◌∷◌, [], length, 
 
 use edge_numbers::EdgeNumbers;
 use grove_edits::{Edge, Vertex};
+use grove_sorts::Position;
 use std::marker::Model;
 
 /// A live edge, lent by its graph, which keeps it as a few numbers.
@@ -28,6 +29,20 @@ impl<'g> LiveEdge<'g> {
         ensures { result ≡ self.now }
     {
         self.edges.edge(self.number)
+    }
+
+    /// The position from which it leads.
+    pub fn position(&self) -> Position
+        ensures { result ≡ self.now.position }
+    {
+        self.edges.position(self.number)
+    }
+
+    /// The vertex from which it leads.
+    pub fn source(&self) -> &'g Vertex
+        ensures { result.now ≡ self.now.source }
+    {
+        self.edges.vertex(self.edges.source(self.number))
     }
 
     /// The vertex that it leads to.

@@ -4,6 +4,7 @@
 
 mod by_name;
 mod edges;
+mod few_edges;
 mod greatest;
 mod live_graph;
 mod live_lists;
@@ -15,6 +16,7 @@ mod vertices;
 mod whole;
 
 pub use edges::{Edges, LiveEdge};
+pub use few_edges::FewEdges;
 pub use graph_words::{Change, Named};
 pub use live_graph::LiveGraph;
 pub use text_parts::NoMemory;

@@ -9,12 +9,15 @@ ghost use Rattle.graph_words.specs.Whole.{AreLive, AreVertices};
 ghost use Rattle.graph_words.specs.States.{state_in, with_state, HasRoom, KeepsRoom, well_formed};
 ghost use Rattle.graph_words.specs.Change.{IsChange};
 ghost use Rattle.graph_words.specs.Names.{IsGreatest, IsNameOf};
+ghost use Rattle.graph_words.specs.Few.{first_two, few_len};
+ghost use Rattle.live_graph.specs.FewEdges.{few_of};
 ghost use Rattle.live_graph.specs.Live.{live};
 ghost use Rattle.graph_words.specs.Named.{AreNamed, AreLeastTwo, IsVertexNamed};
 ghost use Rattle.live_graph.specs.NumberOf.{IsNumberOf, KeepsNumbersOf};
 
 use crate::by_name::{find, name_next_edge, sort_edges, with_name};
 use crate::edges::Edges;
+use crate::few_edges::{FewEdges, first_two_of};
 use crate::greatest::{greatest_of_edges, greatest_of_vertices};
 use crate::live_lists::enter;
 use crate::neighbours::{children_at, parents_at};
@@ -320,6 +323,25 @@ impl LiveGraph {
             edges: &self.edges,
             numbers: parents_at(&self.edges, &self.parents, vertex),
         }
+    }
+
+    /// The least two live parent edges of a vertex, lent. It ticks once for the call, and once for each edge answered, as `few` does.
+    pub fn few_parents<L: Ledger>(&self, vertex: &Vertex, steps: &mut Steps<L>) -> FewEdges<'_>
+        ensures least { few_of result ≡ first_two (parents_of vertex.now (live self.now)) }
+        ensures ticks { steps.new ≡ steps.old + 1 + few_len (few_of result) }
+        ensures in_order { IsInEdgeOrder (live self.now) }
+    {
+        let few = first_two_of(&self.parents_told(vertex));
+        steps.tick();
+        match &few {
+            FewEdges::Zero => {}
+            FewEdges::One(_) => steps.tick(),
+            FewEdges::More(_, _) => {
+                steps.tick();
+                steps.tick();
+            }
+        }
+        few
     }
 
     /// The live parent edges of a vertex, in edge order. It ticks once for the call, and once for each edge.
