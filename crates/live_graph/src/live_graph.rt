@@ -295,7 +295,7 @@ impl LiveGraph {
     {
         let numbers = children_at(&self.edges, &self.children, vertex, position);
         steps.tick();
-        for _child in numbers {
+        for _child in 0..numbers.len() {
             steps.tick();
         }
         Edges {
@@ -310,7 +310,7 @@ impl LiveGraph {
     {
         Edges {
             edges: &self.edges,
-            numbers: &[],
+            numbers: self.children.none(),
         }
     }
 
@@ -352,7 +352,7 @@ impl LiveGraph {
     {
         let numbers = parents_at(&self.edges, &self.parents, vertex);
         steps.tick();
-        for _parent in numbers {
+        for _parent in 0..numbers.len() {
             steps.tick();
         }
         Edges {
