@@ -9,7 +9,8 @@ none_is_some h = absurd cc
 
 pub returns-in_default-clause-edges : goal.returns-in_default-clause-edges
 returns-in_default-clause-edges c =
-    sym (no_parents c.args.edges.now c.args.vertex.now c.edge_count-edges.ensures.once c.edge_count-edges.ensures.ends (λ n is. none_is_some (c.in_default.ensures.only n is)))
+    ap (map (edge_at c.args.edges.now)) c.none.ensures
+    ∙ sym (no_parents c.args.edges.now c.args.vertex.now c.edge_count-edges.ensures.once c.edge_count-edges.ensures.ends (λ n is. none_is_some (c.in_default.ensures.only n is)))
 
 pub returns-then-number-vertex_count-clause-edges : goal.returns-then-number-vertex_count-clause-edges
 returns-then-number-vertex_count-clause-edges c =
@@ -17,7 +18,9 @@ returns-then-number-vertex_count-clause-edges c =
     let n = c.in-Some.number in
     let nothing : numbers_at lists n ≡ [] = nothing_at lists n (λ within. omega (arith, within, c.vertex_count.ensures, c.if-number-vertex_count.true)) in
     let none : edges_at c.args.edges.now lists n ≡ [] = ap (map (edge_at c.args.edges.now)) nothing in
-    sym none ∙ parents_listed c.args.edges.now c.args.vertex.now c.edge_count-edges.ensures.once c.vertex_count-vertices.ensures.once n c.in-Some.ensures.number lists c.requires
+    ap (map (edge_at c.args.edges.now)) c.none-then-number-vertex_count.ensures
+    ∙ sym none
+    ∙ parents_listed c.args.edges.now c.args.vertex.now c.edge_count-edges.ensures.once c.vertex_count-vertices.ensures.once n c.in-Some.ensures.number lists c.requires
 
 pub returns-clause-known : goal.returns-clause-known
 returns-clause-known c = subst (AreEdgeNumbers c.args.edges.now) (sym c.at.ensures.numbers) (c.requires.known c.in-Some.number)
