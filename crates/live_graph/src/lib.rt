@@ -13,6 +13,7 @@ mod parent_count;
 mod places;
 mod uses;
 mod vertices;
+mod walk_up;
 mod whole;
 
 pub use edges::{Edges, LiveEdge};

@@ -9,6 +9,7 @@ ghost use Rattle.graph_words.specs.Whole.{AreLive, AreVertices};
 ghost use Rattle.graph_words.specs.States.{state_in, with_state, HasRoom, KeepsRoom, well_formed};
 ghost use Rattle.graph_words.specs.Change.{IsChange};
 ghost use Rattle.graph_words.specs.Names.{IsGreatest, IsNameOf};
+ghost use Rattle.graph_words.specs.Cycle.{leads_to};
 ghost use Rattle.graph_words.specs.Few.{first_two, few_len};
 ghost use Rattle.live_graph.specs.FewEdges.{few_of};
 ghost use Rattle.live_graph.specs.Live.{live};
@@ -24,6 +25,7 @@ use crate::neighbours::{children_at, parents_at};
 use crate::parent_count::set_counted_state;
 use crate::uses::recount_ends;
 use crate::vertices::least_named;
+use crate::walk_up::leads_to;
 use crate::whole::{are_edits, edits_of, ends_of, sort_vertices};
 use edge_lattice::{State, join, leq};
 use edge_lists::{ByEdge, ByPosition, EdgeLists};
@@ -302,6 +304,13 @@ impl LiveGraph {
             edges: &self.edges,
             numbers,
         }
+    }
+
+    /// Whether the second vertex stands on the walk up from the first. It goes by the numbers of vertices, and takes no hash on the way.
+    pub fn leads_to(&self, from: &Vertex, vertex: &Vertex) -> bool
+        ensures { result ≡ leads_to (live self.now) from.now vertex.now }
+    {
+        leads_to(&self.edges, &self.parents, self.parent_count, from, vertex)
     }
 
     /// No edges, for what reads the live edges around vertices and is at none.

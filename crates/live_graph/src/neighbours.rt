@@ -1,7 +1,7 @@
 ghost use Rattle.std.specs.Prelude.{◌≡◌, map};
 ghost use Rattle.grove_edits.specs.Edge.{edge_cmp};
 ghost use Rattle.graph_words.specs.Live.{children_of, parents_of};
-ghost use Rattle.edge_numbers.specs.Numbered.{edge_at};
+ghost use Rattle.edge_numbers.specs.Numbered.{edge_at, vertex_at, IsVertexNumber};
 ghost use Rattle.edge_lists.specs.Lists.{AreEdgeNumbers};
 ghost use Rattle.edge_lists.specs.Order.{position_first};
 ghost use Rattle.live_graph.specs.Around.{AreAround, source_of, target_of};
@@ -35,6 +35,26 @@ pub(crate) fn children_at<'g>(
     children.at_position(number, position, edges)
 }
 
+/// The numbers of the live edges to the vertex with a number.
+pub(crate) fn parents_of_number<'g>(
+    edges: &EdgeNumbers,
+    parents: &'g EdgeLists<ByEdge>,
+    number: usize,
+) -> LentNumbers<'g>
+    requires around { AreAround target_of edge_cmp edges.now parents.now }
+    requires number { IsVertexNumber edges.now number }
+    ensures known { AreEdgeNumbers edges.now result }
+    ensures edges { map (edge_at edges.now) result ≡ parents_of (vertex_at edges.now number) (live edges.now.entries) }
+{
+    // Nothing has two numbers.
+    let _edges = edges.edge_count();
+    let _vertices = edges.vertex_count();
+    if number >= parents.vertex_count() {
+        return parents.none();
+    }
+    parents.at(number)
+}
+
 /// The numbers of the live edges to a vertex.
 pub(crate) fn parents_at<'g>(
     edges: &EdgeNumbers,
@@ -45,14 +65,10 @@ pub(crate) fn parents_at<'g>(
     ensures known { AreEdgeNumbers edges.now result }
     ensures edges { map (edge_at edges.now) result ≡ parents_of vertex.now (live edges.now.entries) }
 {
-    // Nothing has two numbers, and the ends of what has one are among the vertices.
+    // The ends of what has a number are among the vertices, so nothing leads to a vertex that has none.
     let _edges = edges.edge_count();
-    let _vertices = edges.vertex_count();
-    let Some(number) = edges.vertex_number(vertex) else {
-        return parents.none();
-    };
-    if number >= parents.vertex_count() {
-        return parents.none();
+    match edges.vertex_number(vertex) {
+        Some(number) => parents_of_number(edges, parents, number),
+        None => parents.none(),
     }
-    parents.at(number)
 }
