@@ -1,4 +1,4 @@
-use Rattle.std.proofs.Common.{◌≡◌, ◌≤◌, length, sym, ◌∙◌, arith}
+use Rattle.std.proofs.Common.{◌≤◌, length, sym, ◌∙◌, arith}
 use Rattle.graph_words.specs.Live.{targets_of}
 use Rattle.edge_numbers.specs.Numbered.{vertex_at}
 use Rattle.live_graph.specs.Live.{live}
