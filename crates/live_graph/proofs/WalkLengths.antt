@@ -1,9 +1,10 @@
 -- A walk up has at most one vertex more than there are vertices with a live parent edge.
-use Rattle.std.proofs.Common.{◌≡◌, ℕ, suc, ◌+◌, ◌<◌, ◌≤◌, Bool, true, false, cond, List, [], ◌∷◌, length, refl, sym, ap, ◌∙◌, arith}
-use Rattle.std.specs.Prelude.{◌||◌, ◌-◌, leb, Option, None, Some}
+use Rattle.std.proofs.Common.{◌≡◌, ℕ, suc, ◌+◌, ◌<◌, ◌≤◌, Bool, true, false, cond, List, [], ◌∷◌, length, refl, sym, ap, subst, ◌∙◌, arith}
+use Rattle.std.specs.Prelude.{◌||◌, ◌-◌, leb, Option, None, Some, IfSome}
 use Rattle.std.proofs.lemmas.Bool.{leb-true, leb-false}
 use Rattle.grove_edits.specs.declared.vertex.Vertex.{Vertex}
 use Rattle.grove_edits.specs.declared.edge.Edge.{Edge}
+use Rattle.edge_numbers.specs.Numbered.{Numbered, vertex_at, IsVertexNumber, IsNumberOfVertex}
 use Rattle.graph_words.specs.Live.{targets_of}
 use Rattle.grove_edits.specs.Vertex.{is_same_vertex, stands_in}
 use Rattle.graph_words.specs.Walk.{above, GoesOn, walk}
@@ -96,3 +97,23 @@ met_at_last live from vertex at step so_far enough = by_test (is_same_vertex at 
         let short = walk_short live from in
         let lt = w.1 in
         not_here live from vertex at step so_far other w.0 (omega arith) w.2
+
+-- where no vertex is above the first, the walk is that vertex alone
+pub met_at_first : (live : List Edge) (from vertex : Vertex) → above live from ≡ None → is_same_vertex from vertex ≡ leads_to live from vertex
+met_at_first live from vertex none = by_test (is_same_vertex from vertex) refl where
+  first : HasNotMet live from vertex from 0
+  first = record { here = refl; passed = λ j lt found. absurd (omega (arith, lt)) }
+
+  by_test : (b : Bool) → is_same_vertex from vertex ≡ b → b ≡ leads_to live from vertex
+  by_test true same = sym (met live from vertex from 0 first same)
+  by_test false other = sym (never_met live from vertex from 0 first other none)
+
+-- a vertex with a number is the one that is looked for where that has the number
+pub same_by_number : (edges : Numbered) (v : Vertex) (at : ℕ) (number : Option ℕ) (b : Bool) → IsVertexNumber edges at → IfSome number (IsNumberOfVertex edges v) → ((n : ℕ) → IsNumberOfVertex edges v n → number ≡ Some n)
+    → (b ≡ true → number ≡ Some at) → (number ≡ Some at → b ≡ true) → is_same_vertex (vertex_at edges at) v ≡ b
+same_by_number edges v at number true has known only found no_other =
+    let is : IsNumberOfVertex edges v at = subst (λ o. IfSome o (IsNumberOfVertex edges v)) (found refl) known in
+    ap (λ w. is_same_vertex w v) is.1 ∙ same_vertex_itself v
+same_by_number edges v at number false has known only found no_other =
+    false_from (is_same_vertex (vertex_at edges at) v)
+    (λ same. let wrong : false ≡ true = no_other (only at (has, same_vertex_exact (vertex_at edges at) v same)) in absurd cc)
