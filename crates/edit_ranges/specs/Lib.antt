@@ -1,0 +1,4 @@
+pub mod Ranges
+pub mod Summary
+pub mod Lacking
+pub mod Facts
