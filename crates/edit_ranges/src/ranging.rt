@@ -1,5 +1,5 @@
 ghost use Rattle.std.specs.Prelude.{◌≡◌, IfOk, true};
-ghost use Rattle.std.specs.List.{list_any, AllByRecursion};
+ghost use Rattle.std.specs.List.{list_any, All};
 ghost use Rattle.grove_names.specs.declared.name.Name.{Name};
 ghost use Rattle.edit_ranges.specs.declared.told.Told.{Told};
 ghost use Rattle.edit_ranges.specs.Ranges.{are_ranges, tell};
@@ -12,7 +12,7 @@ use text_parts::NoMemory;
 
 /// The ranges that tell facts, which may stand in any order and more than once.
 pub(crate) fn ranges_of(alloc: Global, facts: Vec<Fact>) -> Result<Vec<NameRange>, NoMemory>
-    requires in_range { AllByRecursion FactInRange facts.items }
+    requires in_range { All FactInRange facts.items }
     ensures in_order { IfOk result (λ ranges. are_ranges ranges.items ≡ true) }
     ensures told { IfOk result (λ ranges. (told : Told) (name : Name) → tell ranges.items told name ≡ list_any (is_fact told name) facts.items) }
 {
