@@ -10,9 +10,8 @@ use Rattle.grove_edits.specs.declared.edit.EditKind.{EditKind}
 use Rattle.grove_edits.specs.declared.edit.EditKind.TheVariants.{Insert, Delete}
 use Rattle.grove_edits.specs.Edit.{edit_edge, edit_kind}
 use Rattle.grove_edits.specs.Graph.{graph, state_of, is_same_edge}
-use Rattle.grove_edits.proofs.Orders.{one_edge}
+use Rattle.grove_edits.proofs.Orders.{one_edge, same_edge_laws}
 use Rattle.grove_edits.proofs.Graphs.{asked}
-use Rattle.grove_edits.proofs.Unique.{same_itself}
 
 -- ---- states
 
@@ -51,7 +50,7 @@ state_present Delete h = cc
 -- ---- edges of lists
 
 pub asked_itself : (x : Edit) → asked x (edit_edge x) ≡ state_of (edit_kind x)
-asked_itself x = ap (λ b. cond b (state_of (edit_kind x)) Absent) (same_itself (edit_edge x))
+asked_itself x = ap (λ b. cond b (state_of (edit_kind x)) Absent) (same_edge_laws.refl (edit_edge x))
 
 pub present_first : (x : Edit) (xs : List Edit) → graph (x ∷ xs) (edit_edge x) ≢ Absent
 present_first x xs h = state_present (edit_kind x) (sym (asked_itself x) ∙ absent_first (asked x (edit_edge x)) (graph xs (edit_edge x)) h)

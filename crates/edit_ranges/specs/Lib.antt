@@ -2,3 +2,4 @@ pub mod Ranges
 pub mod Summary
 pub mod Lacking
 pub mod Facts
+pub mod Text

@@ -4,20 +4,25 @@
 
 mod fact;
 mod facts;
+mod fault;
 mod laws;
 mod making;
 mod name_range;
 mod ranging;
+mod reading;
 mod sending;
 mod summary;
 mod telling;
 mod told;
+mod writing;
 
+pub use fault::{RangeFault, SummaryFault};
 pub use laws::{
     a_graph_has_one_summary, both_have_the_join, lacking_is_enough, nothing_is_invented,
 };
 pub use making::summary_of;
 pub use name_range::NameRange;
+pub use reading::read_summary;
 pub use sending::lacking;
 pub use summary::Summary;
 pub use text_parts::NoMemory;

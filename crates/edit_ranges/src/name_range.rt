@@ -1,5 +1,5 @@
 ghost use Rattle.std.specs.Prelude.{◌≡◌};
-ghost use Rattle.edit_ranges.specs.Ranges.{tells, ends_before};
+ghost use Rattle.edit_ranges.specs.Ranges.{tells, ends_before, is_apart};
 ghost use Rattle.edit_ranges.specs.Facts.{alone, meets};
 
 use crate::fact::Fact;
@@ -58,5 +58,18 @@ impl NameRange {
             return self.author < name.author;
         }
         self.last < name.counter
+    }
+
+    // Whether a range comes after this one, and not right behind it.
+    pub(crate) fn is_apart(&self, next: &NameRange) -> bool
+        ensures { result ≡ is_apart self.now next.now }
+    {
+        if self.told != next.told {
+            return self.told < next.told;
+        }
+        if self.author != next.author {
+            return self.author < next.author;
+        }
+        self.last < next.first && next.first - self.last > 1
     }
 }

@@ -1,11 +1,14 @@
 ghost use Rattle.std.specs.Prelude.{◌≡◌, ◌++◌, OnOk, OnErr};
 ghost use Rattle.edit_ranges.specs.Ranges.{tell};
+ghost use Rattle.edit_ranges.specs.Text.{summary_text};
 
 use crate::name_range::NameRange;
 use crate::telling::tell;
 use crate::told::Told;
+use crate::writing::write_ranges;
 use grove_names::Name;
 use std::marker::Model;
+use text_parts::NoMemory;
 
 /// What a replica has: of which names it has edges or vertices, and which edges are deleted. Contracts see the list of its ranges.
 #[derive(Debug, Drop)]
@@ -38,5 +41,13 @@ impl Summary {
         ensures { result ≡ tell self.now told name }
     {
         tell(&self.ranges, told, name)
+    }
+
+    /// Appends the text: a line for each range.
+    pub fn append_text(&self, out: &mut Vec<u8>) -> Result<(), NoMemory>
+        ensures appended { OnOk result (out.new.items ≡ out.old.items ++ summary_text self.now) }
+        ensures unchanged { OnErr result (out.new.items ≡ out.old.items) }
+    {
+        write_ranges(&self.ranges, out)
     }
 }
