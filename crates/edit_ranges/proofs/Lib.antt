@@ -3,6 +3,8 @@ pub mod InOrder
 pub mod Joined
 pub mod OneList
 pub mod Present
+pub mod RangeTexts
 pub mod Searching
 pub mod SharedNames
+pub mod SummaryTexts
 pub mod WhatEditsTell

@@ -1,9 +1,12 @@
-ghost use Rattle.std.specs.Prelude.{◌≡◌, List};
+ghost use Rattle.std.specs.Prelude.{◌≡◌, ℕ, true, List};
 ghost use Rattle.grove_edits.specs.declared.edit.Edit.{Edit};
 ghost use Rattle.grove_edits.specs.Graph.{Graph, graph, graph_join, Ascends, HasAll, IsBelow, IsSame};
 ghost use Rattle.edit_ranges.specs.declared.name_range.NameRange.{NameRange};
+ghost use Rattle.edit_ranges.specs.declared.fault.RangeFault.{RangeFault};
+ghost use Rattle.edit_ranges.specs.Ranges.{are_ranges};
 ghost use Rattle.edit_ranges.specs.Lacking.{AreNamesOnce, IsKnownByName, lacking};
 ghost use Rattle.edit_ranges.specs.Summary.{IsSummaryOf};
+ghost use Rattle.edit_ranges.specs.Text.{IsMalformed, summary_text};
 
 /// Law: a graph has one summary.
 pub fn a_graph_has_one_summary()
@@ -31,4 +34,11 @@ pub fn nothing_is_invented()
     ensures edits { (told : List NameRange) (a : List Edit) → HasAll a (lacking told a) }
     ensures in_order { (told : List NameRange) (a : List Edit) → Ascends a → Ascends (lacking told a) }
     ensures below { (told : List NameRange) (a b : List Edit) → IsBelow (graph_join (graph b) (graph (lacking told a))) (graph_join (graph a) (graph b)) }
+{}
+
+/// Law: a text is that of one summary at most, or it has one first bad line with one fault, and not both.
+pub fn summary_texts_are_exact()
+    ensures one_summary { (a b : List NameRange) → are_ranges a ≡ true → are_ranges b ≡ true → summary_text a ≡ summary_text b → a ≡ b }
+    ensures summary_or_fault { (text : List ℕ) (a : List NameRange) (line : ℕ) (fault : RangeFault) → are_ranges a ≡ true → text ≡ summary_text a → IsMalformed text line fault → ⊥ }
+    ensures one_fault { (text : List ℕ) (m n : ℕ) (f g : RangeFault) → IsMalformed text m f → IsMalformed text n g → (m ≡ n) × (f ≡ g) }
 {}
