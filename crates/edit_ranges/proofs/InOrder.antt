@@ -1,11 +1,11 @@
 -- Ranges in order: what each tells lies behind what the earlier ones tell.
-use Rattle.std.proofs.Common.{◌≡◌, ◌≢◌, ℕ, zero, suc, ◌+◌, ◌<◌, ◌≤◌, ◌⊎◌, Bool, true, false, List, [], ◌∷◌, length, get_or, refl, sym, ap, ◌∙◌, inl, inr, arith}
+use Rattle.std.proofs.Common.{◌≡◌, ℕ, ◌+◌, ◌<◌, ◌≤◌, ◌⊎◌, Bool, true, false, List, [], ◌∷◌, refl, inl, inr, arith}
 use Rattle.std.specs.Prelude.{◌&&◌, ◌||◌, ◌==◌, nat_le, nat_lt}
 use Rattle.std.proofs.lemmas.Bool.Decides.{nat_tests}
 use Rattle.grove_names.specs.declared.name.Name.{Name}
 use Rattle.edit_ranges.specs.declared.told.Told.{Told}
 use Rattle.edit_ranges.specs.declared.name_range.NameRange.{NameRange}
-use Rattle.edit_ranges.specs.Ranges.{told_number, tells, tell, comes_before, ends_before, is_apart, is_range, begins_apart, are_ranges}
+use Rattle.edit_ranges.specs.Ranges.{told_number, tells, tell, comes_before, is_apart, is_range, begins_apart, are_ranges}
 
 pub both : (a b : Bool) → (a && b) ≡ true → (a ≡ true) × (b ≡ true)
 both true b h = (refl, h)

@@ -1,8 +1,9 @@
 -- What the edits that a replica lacks make of its graph.
-use Rattle.std.proofs.Common.{◌≡◌, ◌≢◌, ℕ, zero, suc, ◌≤◌, ◌<◌, Bool, true, false, cond, List, [], ◌∷◌, length, get_or, refl, sym, ap, subst, ◌∙◌, ◌⊎◌, inl, inr, arith}
+use Rattle.std.proofs.Common.{◌≡◌, ◌≢◌, zero, suc, ◌<◌, Bool, true, false, cond, List, [], ◌∷◌, refl, sym, ap, subst, ◌∙◌, ◌⊎◌, inl, inr, arith}
 use Rattle.std.specs.Prelude.{not}
-use Rattle.std.specs.List.{AllByRecursion, Contains}
+use Rattle.std.specs.List.{AllByRecursion}
 use Rattle.std.specs.declared.cmp.Ordering.TheVariants.{Less}
+use Rattle.std.proofs.lemmas.Bool.{false≢true, cases_lt}
 use Rattle.edge_lattice.specs.declared.state.State.{State}
 use Rattle.edge_lattice.specs.declared.state.State.TheVariants.{Absent, Live, Deleted}
 use Rattle.edge_lattice.specs.State.{state_join, IsAtMost, rank}
@@ -17,10 +18,9 @@ use Rattle.grove_edits.specs.Edit.{edit_edge, edit_kind}
 use Rattle.grove_edits.specs.Graph.{Graph, graph, graph_join, state_of, is_same_edge, Ascends, HasAll, IsBelow, IsSame}
 use Rattle.grove_edits.proofs.Orders.{one_edge}
 use Rattle.grove_edits.proofs.Graphs.{asked}
-use Rattle.edit_ranges.specs.declared.told.Told.TheVariants as told
 use Rattle.edit_ranges.specs.declared.name_range.NameRange.{NameRange}
 use Rattle.edit_ranges.specs.Ranges.{tell}
-use Rattle.edit_ranges.specs.Summary.{IsHad, IsSummaryOf}
+use Rattle.edit_ranges.specs.Summary.{IsHad, IsOfOneEdge, IsSummaryOf}
 use Rattle.edit_ranges.specs.Lacking.{told_by, is_taken, lacking, IsKnownByName, AreNamesOnce}
 use Rattle.edit_ranges.proofs.Present.{absent_first, absent_second, deleted_present, present_first, present_later}
 
@@ -187,3 +187,36 @@ pub nothing_invented : (ranges : List NameRange) (a b : List Edit) → IsBelow (
 nothing_invented ranges a b e =
     least (graph b e) (graph (lacking ranges a) e) (state_join (graph a e) (graph b e)) (above_second (graph a e) (graph b e))
     (at_most_through (graph (lacking ranges a) e) (graph a e) (state_join (graph a e) (graph b e)) (lacking_below ranges a e) (above_first (graph a e) (graph b e)))
+
+-- ---- what is sent was lacking
+
+deleted_from : (s : State) → IsAtMost Deleted s → s ≡ Deleted
+deleted_from Absent le = absurd (omega arith)
+deleted_from Live le = absurd (omega arith)
+deleted_from Deleted le = refl
+
+not_absent : (s : State) → IsAtMost Live s → s ≢ Absent
+not_absent Absent le = absurd (omega arith)
+not_absent Live le = λ h. absurd cc
+not_absent Deleted le = λ h. absurd cc
+
+there_is_taken : (h : Graph) (ranges : List NameRange) (x : Edit) → IsSummaryOf h ranges → IsOfOneEdge h (edit_edge x).name → IsThere h x → is_taken ranges x ≡ true
+there_is_taken h ranges x summary once there = by_kind (edit_kind x) there where
+  by_kind : (k : EditKind) → IsAtMost (state_of k) (h (edit_edge x)) → tell ranges (told_by k) (edit_edge x).name ≡ true
+  by_kind Insert le = (summary.named (edit_edge x).name).1 ((edit_edge x, not_absent (h (edit_edge x)) le, inl refl), once)
+  by_kind Delete le = (summary.deleted (edit_edge x).name).1 ((edit_edge x, deleted_from (h (edit_edge x)) le, refl), once)
+
+pub none_in_vain : (a b : List Edit) (ranges : List NameRange) → IsSummaryOf (graph b) ranges → ((n : Name) → IsOfOneEdge (graph b) n)
+    → AllByRecursion (λ x. rank (graph b (edit_edge x)) < rank (state_of (edit_kind x))) (lacking ranges a)
+none_in_vain [] b ranges summary once = tt
+none_in_vain (x ∷ xs) b ranges summary once = by_test (is_taken ranges x) refl (none_in_vain xs b ranges summary once) where
+  by_test : (t : Bool) → is_taken ranges x ≡ t → AllByRecursion (λ x. rank (graph b (edit_edge x)) < rank (state_of (edit_kind x))) (lacking ranges xs)
+      → AllByRecursion (λ x. rank (graph b (edit_edge x)) < rank (state_of (edit_kind x))) (cond (not t) (x ∷ lacking ranges xs) (lacking ranges xs))
+  by_test true is rest = rest
+  by_test false is rest = (
+    elim (cases_lt (rank (graph b (edit_edge x))) (rank (state_of (edit_kind x)))) [
+      | inl less ↦ less
+      | inr there ↦ absurd (false≢true (sym is ∙ there_is_taken (graph b) ranges x summary (once (edit_edge x).name) there))
+    ],
+    rest,
+  )

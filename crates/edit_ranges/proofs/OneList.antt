@@ -1,14 +1,13 @@
 -- Ranges in order that tell the same are the same.
-use Rattle.std.proofs.Common.{◌≡◌, ◌≢◌, ℕ, zero, suc, ◌+◌, ◌<◌, ◌≤◌, ◌⊎◌, Bool, true, false, List, [], ◌∷◌, refl, sym, ap, ◌∙◌, inl, inr, arith}
+use Rattle.std.proofs.Common.{◌≡◌, ℕ, ◌+◌, ◌≤◌, Bool, true, false, List, [], ◌∷◌, refl, sym, ap, ◌∙◌, inl, inr, arith}
 use Rattle.std.specs.Prelude.{◌&&◌, ◌||◌, not}
 use Rattle.std.proofs.lemmas.Bool.{false≢true, cases_lt}
-use Rattle.std.proofs.lemmas.Bool.Decides.{nat_tests}
 use Rattle.grove_names.specs.declared.name.Name.{Name}
 use Rattle.edit_ranges.specs.declared.told.Told.{Told}
 use Rattle.edit_ranges.specs.declared.told.Told.TheVariants.{Named, Deleted}
 use Rattle.edit_ranges.specs.declared.name_range.NameRange.{NameRange}
-use Rattle.edit_ranges.specs.Ranges.{told_number, tells, tell, comes_before, is_range, are_ranges}
-use Rattle.edit_ranges.proofs.InOrder.{both, one_of, true_from, false_from, Before, before_from, before_not_after, one_place, in_from, in_test, parts_of, first_le_last, told_behind, not_told_behind}
+use Rattle.edit_ranges.specs.Ranges.{told_number, tells, tell, comes_before, are_ranges}
+use Rattle.edit_ranges.proofs.InOrder.{one_of, false_from, Before, before_from, one_place, in_from, in_test, parts_of, first_le_last, told_behind, not_told_behind}
 
 abbrev at : ℕ → ℕ → Name
 at author counter = record { author = author; counter = counter }
@@ -38,6 +37,7 @@ not_before_first y ys t n h is = false_from (comes_before (told_number t) n.auth
   where
     not_in : (t a c u b d : ℕ) → Before t a c u b d → u ≡ t → b ≡ a → d ≤ c → ⊥
     not_in t a c u b d less told author le = grind arith
+
     not_behind : (t a c u b d e : ℕ) → Before t a c u b d → d ≤ e → Before u b (e + 1) t a c → ⊥
     not_behind t a c u b d e less le behind = grind arith
 
@@ -114,8 +114,8 @@ one_list (x ∷ xs) [] of_x of_y same = absurd (false≢true (sym (same x.told (
 one_list (x ∷ xs) (y ∷ ys) of_x of_y same =
     let first = same_first x y xs ys of_x of_y same in
     let rest = one_list xs ys (parts_of x xs of_x).rest (parts_of y ys of_y).rest (λ t n.
-        told_rest x xs t n of_x
-        ∙ ap (λ (z : NameRange). not (tells z t n) && tell (x ∷ xs) t n) first
-        ∙ ap (λ b. not (tells y t n) && b) (same t n)
-        ∙ sym (told_rest y ys t n of_y)) in
+    told_rest x xs t n of_x
+    ∙ ap (λ (z : NameRange). not (tells z t n) && tell (x ∷ xs) t n) first
+    ∙ ap (λ b. not (tells y t n) && b) (same t n)
+    ∙ sym (told_rest y ys t n of_y)) in
     ap (λ (z : NameRange). z ∷ xs) first ∙ ap (λ (zs : List NameRange). y ∷ zs) rest

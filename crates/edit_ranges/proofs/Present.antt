@@ -1,8 +1,8 @@
 -- Which edges the graph of a list has, edit by edit.
-use Rattle.std.proofs.Common.{◌≡◌, ◌≢◌, ℕ, ◌≤◌, Bool, true, false, cond, List, [], ◌∷◌, refl, sym, ap, subst, ◌∙◌, ◌⊎◌, inl, inr, arith}
+use Rattle.std.proofs.Common.{◌≡◌, ◌≢◌, Bool, true, false, cond, List, ◌∷◌, refl, sym, ap, ◌∙◌, ◌⊎◌, inl, inr}
 use Rattle.edge_lattice.specs.declared.state.State.{State}
 use Rattle.edge_lattice.specs.declared.state.State.TheVariants.{Absent, Live, Deleted}
-use Rattle.edge_lattice.specs.State.{state_join, IsAtMost, rank}
+use Rattle.edge_lattice.specs.State.{state_join}
 use Rattle.edge_lattice.proofs.States.{state_join_comm, Absent-state_join}
 use Rattle.grove_edits.specs.declared.edge.Edge.{Edge}
 use Rattle.grove_edits.specs.declared.edit.Edit.{Edit}
@@ -77,6 +77,7 @@ deleted_by x xs e is = by_test (is_same_edge (edit_edge x) e) refl where
   by_kind : (k : EditKind) → edit_kind x ≡ k → edit_edge x ≡ e → state_join (state_of k) (graph xs e) ≡ Deleted → ((edit_edge x ≡ e) × (edit_kind x ≡ Delete)) ⊎ (graph xs e ≡ Deleted)
   by_kind Insert kind same h = inr (live_join (graph xs e) h)
   by_kind Delete kind same h = inl (same, kind)
+
   by_test : (b : Bool) → is_same_edge (edit_edge x) e ≡ b → ((edit_edge x ≡ e) × (edit_kind x ≡ Delete)) ⊎ (graph xs e ≡ Deleted)
   by_test true same = by_kind (edit_kind x) refl (one_edge (edit_edge x) e same) (ap (λ b. state_join (cond b (state_of (edit_kind x)) Absent) (graph xs e)) (sym same) ∙ is)
   by_test false other = inr (sym (ap (λ b. state_join (cond b (state_of (edit_kind x)) Absent) (graph xs e)) other ∙ Absent-state_join (graph xs e)) ∙ is)

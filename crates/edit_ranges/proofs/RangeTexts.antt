@@ -1,6 +1,6 @@
 -- The lines of ranges.
-use Rattle.std.proofs.Common.{◌≡◌, ◌≢◌, ℕ, zero, suc, ◌+◌, ◌-◌, ◌<◌, ◌≤◌, ◌^◌, ◌⊎◌, Bool, true, false, cond, List, [], ◌∷◌, ◌++◌, Option, Some, None, length, get_or, take, drop, decimal, refl, sym, ap, subst, ◌∙◌, inl, inr, arith, append_assoc, append-nil, length-append, lit<}
-use Rattle.std.specs.Prelude.{◌&&◌, ◌==◌, nat_le, nat_lt, unwrap_or, codes}
+use Rattle.std.proofs.Common.{◌≡◌, ◌≢◌, ℕ, suc, ◌-◌, ◌<◌, ◌≤◌, ◌^◌, Bool, true, false, cond, List, [], ◌∷◌, ◌++◌, Option, Some, None, length, get_or, take, drop, decimal, refl, sym, ap, subst, ◌∙◌, inl, arith, append_assoc, append-nil}
+use Rattle.std.specs.Prelude.{◌&&◌, ◌==◌, nat_le, nat_lt, unwrap_or}
 use Rattle.std.proofs.lemmas.Bool.Decides.{nat_tests}
 use Rattle.std.proofs.lemmas.List.{take_rest}
 use Rattle.std.proofs.lemmas.Grind.{flat_map-append}
@@ -15,9 +15,9 @@ use Rattle.grove_names.proofs.Texts.{Lacks-name_text, name_text_injective}
 use Rattle.edit_ranges.specs.declared.told.Told.{Told}
 use Rattle.edit_ranges.specs.declared.told.Told.TheVariants.{Named, Deleted}
 use Rattle.edit_ranges.specs.declared.name_range.NameRange.{NameRange}
-use Rattle.edit_ranges.specs.Ranges.{is_range, is_apart, begins_apart, are_ranges}
-use Rattle.edit_ranges.specs.Text.{word, last_text, range_text, range_line, summary_text}
-use Rattle.edit_ranges.proofs.InOrder.{parts_of, first_le_last, both, both_hold}
+use Rattle.edit_ranges.specs.Ranges.{is_range, is_apart, are_ranges}
+use Rattle.edit_ranges.specs.Text.{sign, last_text, range_text, range_line, summary_text}
+use Rattle.edit_ranges.proofs.InOrder.{parts_of, first_le_last, both}
 use Rattle.edit_ranges.proofs.OneList.{range_from_fields}
 
 -- ---- the numbers of a range
@@ -117,11 +117,17 @@ range_read text rest line after rs r so_far parts spells =
 
 -- ---- one range for each line
 
-same_word : (t u : Told) (x y : List ℕ) → word t ++ x ≡ word u ++ y → (t ≡ u) × (x ≡ y)
-same_word Named Named x y same = (refl, cc)
-same_word Named Deleted x y same = absurd (omega (arith, ap (λ (line : List ℕ). get_or line 0 0) same))
-same_word Deleted Named x y same = absurd (omega (arith, ap (λ (line : List ℕ). get_or line 0 0) same))
-same_word Deleted Deleted x y same = (refl, cc)
+same_sign : (t u : Told) → sign t ≡ sign u → t ≡ u
+same_sign Named Named same = refl
+same_sign Named Deleted same = absurd (omega arith)
+same_sign Deleted Named same = absurd (omega arith)
+same_sign Deleted Deleted same = refl
+
+same_first : (m n : ℕ) (x y : List ℕ) → m ∷ x ≡ n ∷ y → m ≡ n
+same_first m n x y same = ap (λ (line : List ℕ). get_or line 0 0) same
+
+same_rest : (m n : ℕ) (x y : List ℕ) → m ∷ x ≡ n ∷ y → x ≡ y
+same_rest m n x y same = ap (drop 1) same
 
 Lacks_dash : (r : NameRange) → is_range r ≡ true → Lacks 45 (name_text (first_name r))
 Lacks_dash r is = Lacks-name_text 45 (first_name r) (first_in_range r is) (λ h. omega arith) (inl (omega arith))
@@ -154,15 +160,17 @@ same_numbers r s of_r of_s same = by_tests (r.first == r.last) (s.first == s.las
 
 pub range_text_injective : (r s : NameRange) → is_range r ≡ true → is_range s ≡ true → range_text r ≡ range_text s → r ≡ s
 range_text_injective r s of_r of_s same =
-    let words = same_word r.told s.told (name_text (first_name r) ++ last_text r.first r.last) (name_text (first_name s) ++ last_text s.first s.last) same in
-    let numbers = same_numbers r s of_r of_s words.1 in
-    range_from_fields r s words.0 (ap (λ (n : Name). n.author) numbers.name) (ap (λ (n : Name). n.counter) numbers.name) numbers.last
+    let behind_r = name_text (first_name r) ++ last_text r.first r.last in
+    let behind_s = name_text (first_name s) ++ last_text s.first s.last in
+    let told = same_sign r.told s.told (same_first (sign r.told) (sign s.told) behind_r behind_s same) in
+    let numbers = same_numbers r s of_r of_s (same_rest (sign r.told) (sign s.told) behind_r behind_s same) in
+    range_from_fields r s told (ap (λ (n : Name). n.author) numbers.name) (ap (λ (n : Name). n.counter) numbers.name) numbers.last
 
 -- ---- a line has no LF in it
 
-Lacks-word : (t : Told) → Lacks 10 (word t)
-Lacks-word Named = (λ h. omega arith, (λ h. omega arith, (λ h. omega arith, (λ h. omega arith, (λ h. omega arith, (λ h. omega arith, tt))))))
-Lacks-word Deleted = (λ h. omega arith, (λ h. omega arith, (λ h. omega arith, (λ h. omega arith, (λ h. omega arith, (λ h. omega arith, (λ h. omega arith, (λ h. omega arith, tt))))))))
+sign_not_LF : (t : Told) → sign t ≡ 10 → ⊥
+sign_not_LF Named same = omega arith
+sign_not_LF Deleted same = omega arith
 
 Lacks-last_text : (first last : ℕ) → last < 2 ^ 64 → Lacks 10 (last_text first last)
 Lacks-last_text first last small = by_test (first == last) where
@@ -171,7 +179,8 @@ Lacks-last_text first last small = by_test (first == last) where
   by_test false = (λ h. omega arith, Lacks-decimal 10 last small (inl (omega arith)))
 
 pub Lacks-range_text : (r : NameRange) → is_range r ≡ true → Lacks 10 (range_text r)
-Lacks-range_text r is =
-    Lacks-append 10 (word r.told) (name_text (first_name r) ++ last_text r.first r.last) (Lacks-word r.told)
-    (Lacks-append 10 (name_text (first_name r)) (last_text r.first r.last)
-    (Lacks-name_text 10 (first_name r) (first_in_range r is) (λ h. omega arith) (inl (omega arith))) (Lacks-last_text r.first r.last (numbers_fit r is).last))
+Lacks-range_text r is = (
+  sign_not_LF r.told,
+  Lacks-append 10 (name_text (first_name r)) (last_text r.first r.last)
+      (Lacks-name_text 10 (first_name r) (first_in_range r is) (λ h. omega arith) (inl (omega arith))) (Lacks-last_text r.first r.last (numbers_fit r is).last),
+)

@@ -22,7 +22,7 @@ use Rattle.grove_edits.specs.Edit.{edit_edge}
 use Rattle.grove_edits.specs.Graph.{graph, Ascends}
 use Rattle.grove_edits.proofs.Orders.{edge_cmp_total}
 use Rattle.edit_ranges.specs.declared.told.Told.{Told}
-use Rattle.edit_ranges.specs.declared.told.Told.TheVariants.{Named, Deleted}
+use Rattle.edit_ranges.specs.declared.told.Told.TheVariants.{Named}
 use Rattle.edit_ranges.specs.declared.fact.Fact.{Fact}
 use Rattle.edit_ranges.specs.Ranges.{told_number}
 use Rattle.edit_ranges.specs.Summary.{IsOfOneEdge}
@@ -36,6 +36,7 @@ pub one_name : (a b : Name) → is_same_name a b ≡ true → a ≡ b
 one_name a b h = name_from_fields a b (first a.author b.author a.counter b.counter h) (second a.author b.author a.counter b.counter h) where
   first : (m n p q : ℕ) → ((m == n) && (p == q)) ≡ true → m ≡ n
   first m n p q h = grind (arith, nat_tests)
+
   second : (m n p q : ℕ) → ((m == n) && (p == q)) ≡ true → p ≡ q
   second m n p q h = grind (arith, nat_tests)
 
@@ -56,6 +57,7 @@ fact_name t n f h = name_from_fields f.name n
   where
     first : (t u m n p q : ℕ) → ((t == u) && (m == n) && (p == q)) ≡ true → m ≡ n
     first t u m n p q h = grind (arith, nat_tests)
+
     second : (t u m n p q : ℕ) → ((t == u) && (m == n) && (p == q)) ≡ true → p ≡ q
     second t u m n p q h = grind (arith, nat_tests)
 
@@ -128,6 +130,7 @@ not_shared_rest x xs n none = by_test (begins_with_name (edit_edge x).name xs) n
   or_parts : (a b : Bool) → (a || b) ≡ false → b ≡ false
   or_parts true b h = absurd cc
   or_parts false b h = h
+
   by_test : (b : Bool) → list_any (is_fact Named n) (cond b (fact Named (edit_edge x).name ∷ shared_facts xs) (shared_facts xs)) ≡ false → list_any (is_fact Named n) (shared_facts xs) ≡ false
   by_test true none = or_parts (is_fact Named n (fact Named (edit_edge x).name)) (list_any (is_fact Named n) (shared_facts xs)) none
   by_test false none = none

@@ -1,5 +1,5 @@
 -- The texts of summaries, and of what is none.
-use Rattle.std.proofs.Common.{◌≡◌, ◌≢◌, ℕ, zero, suc, ◌+◌, ◌<◌, ◌≤◌, ◌⊎◌, Bool, true, false, List, [], ◌∷◌, ◌++◌, length, refl, sym, ap, subst, ◌∙◌, inl, inr, arith, append_assoc, append-nil, length-append}
+use Rattle.std.proofs.Common.{◌≡◌, ℕ, ◌+◌, true, List, [], ◌∷◌, ◌++◌, length, refl, sym, ap, subst, ◌∙◌, arith, append_assoc, append-nil, length-append}
 use Rattle.std.proofs.lemmas.Bool.{false≢true}
 use Rattle.std.specs.Prelude.{◌&&◌}
 use Rattle.text_parts.specs.Separated.{Lacks}
@@ -119,9 +119,10 @@ same_fault before rest Unended OutOfOrder one two = absurd (Lacks-separated 10 (
 same_fault before rest Unended Unended one two = refl
 
 same_place : (m n : ℕ) (f g : RangeFault) (a b : List NameRange) (x y : List ℕ) → m ≡ length a + 1 → n ≡ length b + 1 → HasRangeFault a x f → HasRangeFault b y g → a ≡ b → x ≡ y → (m ≡ n) × (f ≡ g)
-same_place m n f g a b x y of_m of_n one two before rest =
-    (of_m ∙ ap (λ (rs : List NameRange). length rs + 1) before ∙ sym of_n,
-     same_fault b y f g (subst (λ (rs : List NameRange). HasRangeFault rs y f) before (subst (λ (r : List ℕ). HasRangeFault a r f) rest one)) two)
+same_place m n f g a b x y of_m of_n one two before rest = (
+  of_m ∙ ap (λ (rs : List NameRange). length rs + 1) before ∙ sym of_n,
+  same_fault b y f g (subst (λ (rs : List NameRange). HasRangeFault rs y f) before (subst (λ (r : List ℕ). HasRangeFault a r f) rest one)) two,
+)
 
 pub one_fault : (text : List ℕ) (m n : ℕ) (f g : RangeFault) → IsMalformed text m f → IsMalformed text n g → (m ≡ n) × (f ≡ g)
 one_fault text m n f g one two = by_cases (aligned one.before two.before one.rest two.rest one.in_order two.in_order (sym one.parts ∙ two.parts)) where

@@ -1,5 +1,5 @@
 -- The facts of edits are what a summary tells of their graph.
-use Rattle.std.proofs.Common.{◌≡◌, ◌≢◌, ℕ, zero, suc, ◌<◌, Bool, true, false, cond, List, [], ◌∷◌, ◌++◌, length, refl, sym, ap, subst, ◌∙◌, ◌⊎◌, inl, inr, arith}
+use Rattle.std.proofs.Common.{◌≡◌, ◌≢◌, Bool, true, false, cond, List, [], ◌∷◌, ◌++◌, refl, sym, ap, subst, ◌∙◌, inl, inr}
 use Rattle.std.specs.Prelude.{◌&&◌, ◌||◌, not, filter}
 use Rattle.std.specs.List.{All, AllByRecursion, list_any, flat_map}
 use Rattle.std.proofs.lemmas.Bool.{false≢true}
@@ -160,19 +160,20 @@ is_summary edits shared ranges up in_order shares tells = record {
         let parts = both (not (tell shared told.Named n)) (told_in told.Named n edits) (sym (kept_told shared edits told.Named n) ∙ sym (tells told.Named n) ∙ is) in
         (named_to edits n parts.1, once n parts.0),
     λ had. tells told.Named n ∙ kept_told shared edits told.Named n
-    ∙ both_hold (not (tell shared told.Named n)) (told_in told.Named n edits) (alone n had.1) (named_back edits n had.0.0 had.0.1 had.0.2),
+        ∙ both_hold (not (tell shared told.Named n)) (told_in told.Named n edits) (alone n had.1) (named_back edits n had.0.0 had.0.1 had.0.2),
   );
   deleted = λ n. (
     λ is.
         let parts = both (not (tell shared told.Named n)) (told_in told.Deleted n edits) (sym (kept_told shared edits told.Deleted n) ∙ sym (tells told.Deleted n) ∙ is) in
         (gone_to edits n parts.1, once n parts.0),
     λ gone. tells told.Deleted n ∙ kept_told shared edits told.Deleted n
-    ∙ both_hold (not (tell shared told.Named n)) (told_in told.Deleted n edits) (alone n gone.1) (gone_back edits n gone.0.0 gone.0.1 gone.0.2),
+        ∙ both_hold (not (tell shared told.Named n)) (told_in told.Deleted n edits) (alone n gone.1) (gone_back edits n gone.0.0 gone.0.1 gone.0.2),
   );
 }
   where
     once : (n : Name) → not (tell shared told.Named n) ≡ true → IsOfOneEdge (graph edits) n
     once n is = shared_back edits n up (sym (shares told.Named n) ∙ not_true (tell shared told.Named n) is)
+
     alone : (n : Name) → IsOfOneEdge (graph edits) n → not (tell shared told.Named n) ≡ true
     alone n one = not_false (tell shared told.Named n) (false_from (tell shared told.Named n) (λ is. shared_to edits n up (sym (shares told.Named n) ∙ is) one))
 

@@ -1,5 +1,5 @@
 -- The one text of each summary, and where a text that is none goes wrong.
-use Rattle.std.specs.Prelude.{◌≡◌, ◌≢◌, ℕ, ◌+◌, ◌==◌, true, false, List, [], ◌∷◌, ◌++◌, length, codes, decimal, if◌then◌else◌}
+use Rattle.std.specs.Prelude.{◌≡◌, ◌≢◌, ℕ, ◌+◌, ◌==◌, true, false, List, [], ◌∷◌, ◌++◌, length, decimal, if◌then◌else◌}
 use Rattle.std.specs.List.{flat_map}
 use Rattle.text_parts.specs.Separated.{Lacks}
 use Rattle.grove_names.specs.Name.{name_text}
@@ -12,18 +12,18 @@ use Rattle.edit_ranges.specs.declared.fault.SummaryFault.{SummaryFault}
 use Rattle.edit_ranges.specs.declared.fault.SummaryFault.TheVariants.{Malformed, NoMemory}
 use Rattle.edit_ranges.specs.Ranges.{is_range, are_ranges}
 
--- what the line of a range begins with
-abbrev pub word : Told → List ℕ
-word Named = codes "names "
-word Deleted = codes "deleted "
+-- `+` for names that the graph has, and `-` for those of deleted edges
+abbrev pub sign : Told → ℕ
+sign Named = 43
+sign Deleted = 45
 
 -- a dash and the last counter, and nothing where that is the first
 abbrev pub last_text : ℕ → ℕ → List ℕ
 last_text first last = if first == last then [] else (45 ∷ decimal last)
 
--- the line of a range, without its LF: the word, the first name and the last counter
+-- the line of a range, without its LF: the sign, the first name and the last counter
 abbrev pub range_text : NameRange → List ℕ
-range_text r = word r.told ++ (name_text (record { author = r.author; counter = r.first }) ++ last_text r.first r.last)
+range_text r = sign r.told ∷ (name_text (record { author = r.author; counter = r.first }) ++ last_text r.first r.last)
 
 abbrev pub range_line : NameRange → List ℕ
 range_line r = range_text r ++ 10 ∷ []

@@ -6,7 +6,7 @@ use text_parts::NoMemory;
 /// What is wrong with a line of a summary.
 #[derive(Clone, Copy, Debug, PartialEq, Eq)]
 pub enum RangeFault {
-    /// It is the line of no range: an unknown word, a number out of range or spelled otherwise, or a last counter that is not greater.
+    /// It is the line of no range: another sign, a number out of range or spelled otherwise, or a last counter that is not greater than the first.
     Syntax,
     /// Its range does not come after that of the line before it, or stands right behind it, so that one range has both.
     OutOfOrder,

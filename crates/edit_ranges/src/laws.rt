@@ -1,11 +1,15 @@
-ghost use Rattle.std.specs.Prelude.{◌≡◌, ℕ, true, List};
+ghost use Rattle.std.specs.Prelude.{◌≡◌, ◌<◌, ℕ, true, List};
+ghost use Rattle.std.specs.List.{AllByRecursion};
+ghost use Rattle.edge_lattice.specs.State.{rank};
+ghost use Rattle.grove_names.specs.declared.name.Name.{Name};
 ghost use Rattle.grove_edits.specs.declared.edit.Edit.{Edit};
-ghost use Rattle.grove_edits.specs.Graph.{Graph, graph, graph_join, Ascends, HasAll, IsBelow, IsSame};
+ghost use Rattle.grove_edits.specs.Edit.{edit_edge, edit_kind};
+ghost use Rattle.grove_edits.specs.Graph.{Graph, graph, graph_join, state_of, Ascends, HasAll, IsBelow, IsSame};
 ghost use Rattle.edit_ranges.specs.declared.name_range.NameRange.{NameRange};
 ghost use Rattle.edit_ranges.specs.declared.fault.RangeFault.{RangeFault};
 ghost use Rattle.edit_ranges.specs.Ranges.{are_ranges};
 ghost use Rattle.edit_ranges.specs.Lacking.{AreNamesOnce, IsKnownByName, lacking};
-ghost use Rattle.edit_ranges.specs.Summary.{IsSummaryOf};
+ghost use Rattle.edit_ranges.specs.Summary.{IsOfOneEdge, IsSummaryOf};
 ghost use Rattle.edit_ranges.specs.Text.{IsMalformed, summary_text};
 
 /// Law: a graph has one summary.
@@ -34,6 +38,12 @@ pub fn nothing_is_invented()
     ensures edits { (told : List NameRange) (a : List Edit) → HasAll a (lacking told a) }
     ensures in_order { (told : List NameRange) (a : List Edit) → Ascends a → Ascends (lacking told a) }
     ensures below { (told : List NameRange) (a b : List Edit) → IsBelow (graph_join (graph b) (graph (lacking told a))) (graph_join (graph a) (graph b)) }
+{}
+
+/// Law: where no two edges of b share a name, each edit that b lacks by its summary raises the state of its edge there: nothing is sent in vain.
+pub fn nothing_is_sent_in_vain()
+    ensures { (a b : List Edit) (told : List NameRange) → IsSummaryOf (graph b) told → ((name : Name) → IsOfOneEdge (graph b) name)
+        → AllByRecursion (λ edit. rank (graph b (edit_edge edit)) < rank (state_of (edit_kind edit))) (lacking told a) }
 {}
 
 /// Law: a text is that of one summary at most, or it has one first bad line with one fault, and not both.

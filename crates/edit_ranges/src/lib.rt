@@ -19,7 +19,7 @@ mod writing;
 pub use fault::{RangeFault, SummaryFault};
 pub use laws::{
     a_graph_has_one_summary, both_have_the_join, lacking_is_enough, nothing_is_invented,
-    summary_texts_are_exact,
+    nothing_is_sent_in_vain, summary_texts_are_exact,
 };
 pub use making::summary_of;
 pub use name_range::NameRange;

@@ -2,13 +2,12 @@ ghost use Rattle.std.specs.Prelude.{◌≡◌, ◌≤◌, ◌<◌, ◌^◌, ◌+
 ghost use Rattle.edit_ranges.specs.declared.told.Told.{Told};
 ghost use Rattle.edit_ranges.specs.declared.name_range.NameRange.{NameRange};
 ghost use Rattle.edit_ranges.specs.Ranges.{are_ranges, is_range};
-ghost use Rattle.edit_ranges.specs.Text.{HasSummaryFault, last_text, range_text, summary_text, word};
+ghost use Rattle.edit_ranges.specs.Text.{HasSummaryFault, last_text, range_text, sign, summary_text};
 
 use crate::fault::{RangeFault, SummaryFault};
 use crate::name_range::NameRange;
 use crate::summary::Summary;
 use crate::told::Told;
-use crate::writing::word;
 use grove_names::take_name;
 use std::alloc::Global;
 use text_parts::{NoMemory, read_number, split_at_first};
@@ -82,15 +81,13 @@ fn read_range(line: &[u8]) -> Option<NameRange>
 }
 
 fn take_told(line: &[u8]) -> Option<(Told, &[u8])>
-    ensures found { IfSome result (λ read. line.now ≡ word read.0 ++ read.1.now) }
-    ensures only { (told : Told) (rest : List ℕ) → line.now ≡ word told ++ rest → IsSomeAnd result (λ read. (read.0 ≡ told) × (read.1.now ≡ rest)) }
+    ensures found { IfSome result (λ read. line.now ≡ sign read.0 ∷ read.1.now) }
+    ensures only { (told : Told) (rest : List ℕ) → line.now ≡ sign told ∷ rest → IsSomeAnd result (λ read. (read.0 ≡ told) × (read.1.now ≡ rest)) }
 {
-    match line.strip_prefix(word(Told::Named)) {
-        Some(rest) => Some((Told::Named, rest)),
-        None => {
-            let rest = line.strip_prefix(word(Told::Deleted))?;
-            Some((Told::Deleted, rest))
-        }
+    match line {
+        [b'+', rest @ ..] => Some((Told::Named, rest)),
+        [b'-', rest @ ..] => Some((Told::Deleted, rest)),
+        _ => None,
     }
 }
 

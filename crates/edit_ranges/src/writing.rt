@@ -1,21 +1,11 @@
 ghost use Rattle.std.specs.Prelude.{◌≡◌, ◌++◌, ◌∷◌, OnOk, OnErr};
 ghost use Rattle.edit_text.specs.Line.{Extends};
-ghost use Rattle.edit_ranges.specs.Text.{word, last_text, range_line, summary_text};
+ghost use Rattle.edit_ranges.specs.Text.{sign, last_text, range_line, summary_text};
 
 use crate::name_range::NameRange;
 use crate::told::Told;
 use grove_names::{Name, write_name};
 use text_parts::{NoMemory, write_number};
-
-/// What the line of a range begins with.
-pub(crate) fn word(told: Told) -> &'static [u8]
-    ensures { result.now ≡ word told }
-{
-    match told {
-        Told::Named => b"names ",
-        Told::Deleted => b"deleted ",
-    }
-}
 
 /// Appends the lines of ranges.
 pub(crate) fn write_ranges(ranges: &[NameRange], out: &mut Vec<u8>) -> Result<(), NoMemory>
@@ -41,7 +31,7 @@ fn append_line(range: &NameRange, out: &mut Vec<u8>) -> Result<(), NoMemory>
         author: range.author,
         counter: range.first,
     };
-    out.extend_from_slice(word(range.told))?;
+    out.push(sign(range.told))?;
     write_name(first, out)?;
     append_last(range.first, range.last, out)?;
     out.push(b'\n')?;
@@ -57,4 +47,14 @@ fn append_last(first: u64, last: u64, out: &mut Vec<u8>) -> Result<(), NoMemory>
         write_number(last, out)?;
     }
     Ok(())
+}
+
+// What the line of a range begins with.
+fn sign(told: Told) -> u8
+    ensures { result ≡ sign told }
+{
+    match told {
+        Told::Named => b'+',
+        Told::Deleted => b'-',
+    }
 }

@@ -1,4 +1,4 @@
-use Rattle.std.proofs.Common.{◌≡◌, Bool, true, false, refl, sym, ap, ◌∙◌}
+use Rattle.std.proofs.Common.{◌≡◌, Bool, true, false, refl, sym}
 use Rattle.grove_names.specs.declared.name.Name.{Name}
 use Rattle.grove_edits.specs.Graph.{Graph}
 use Rattle.std.specs.Prelude.{List}

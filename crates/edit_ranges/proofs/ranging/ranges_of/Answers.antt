@@ -1,6 +1,5 @@
-use Rattle.std.proofs.Common.{◌≡◌, true, sym, ap, subst, ◌∙◌, Result, Ok, Err, IfOk}
+use Rattle.std.proofs.Common.{ap, ◌∙◌, Result, Ok, Err, IfOk}
 use Rattle.std.specs.Prelude.{List}
-use Rattle.edit_ranges.specs.declared.fact.Fact.{Fact}
 use Rattle.edit_ranges.specs.declared.name_range.NameRange.{NameRange}
 use Rattle.edit_ranges.specs.Ranges.{are_ranges, tell}
 use Rattle.edit_ranges.specs.Facts.{ranges_of}

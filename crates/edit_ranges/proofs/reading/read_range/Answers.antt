@@ -1,7 +1,6 @@
-use Rattle.std.proofs.Common.{ap, sym, ◌∙◌, ◌++◌, Some, None}
+use Rattle.std.proofs.Common.{ap, ◌++◌, Some, None}
 use Rattle.grove_names.specs.declared.name.Name.{Name}
 use Rattle.grove_names.specs.Name.{name_text}
-use Rattle.edit_ranges.specs.declared.name_range.NameRange.{NameRange}
 use Rattle.edit_ranges.specs.Text.{last_text}
 use Rattle.edit_ranges.proofs.OneList.{range_from_fields}
 use Rattle.edit_ranges.proofs.RangeTexts.{first_name, numbers_fit, first_in_range, no_digit_behind, last_answered, some_same, none_some}
