@@ -18,7 +18,7 @@ tells r told name = (told_number r.told == told_number told) && (r.author == nam
 abbrev pub tell : List NameRange → Told → Name → Bool
 tell ranges told name = list_any (λ r. tells r told name) ranges
 
--- lists are ordered by what is told, then the author, then the counter
+-- the order of what is told, then the author, then the counter
 abbrev pub comes_before : ℕ → ℕ → ℕ → ℕ → ℕ → ℕ → Bool
 comes_before told author counter told' author' counter' =
     nat_lt told told' || ((told == told') && (nat_lt author author' || ((author == author') && nat_lt counter counter')))

@@ -1,7 +1,7 @@
 ghost use Rattle.std.specs.Prelude.{◌≡◌, IfOk, OnOk, ◌++◌, ◌∷◌, []};
 ghost use Rattle.std.specs.List.{flat_map};
 ghost use Rattle.grove_edits.specs.Edit.{edit_edge};
-ghost use Rattle.edit_ranges.specs.Facts.{begins_with_name, facts_of_edit, shared_facts};
+ghost use Rattle.edit_ranges.specs.Facts.{begins_with_name, fact, facts_of_edit, shared_facts};
 
 use crate::fact::Fact;
 use crate::told::Told;
@@ -38,7 +38,7 @@ fn begins_with_name(edits: &[Edit], name: Name) -> bool
     }
 }
 
-/// What the edges of edits have for names, at their ends too, and which are deleted.
+/// What edits tell: the names of their edges and of the vertices at the ends, and which edges are deleted.
 pub(crate) fn facts_of(alloc: Global, edits: &[Edit]) -> Result<Vec<Fact>, NoMemory>
     ensures { IfOk result (λ facts. facts.items ≡ flat_map facts_of_edit edits.now) }
 {
@@ -65,7 +65,7 @@ fn push_facts(edit: &Edit, facts: &mut Vec<Fact>) -> Result<(), NoMemory>
 }
 
 fn push_named(name: Name, facts: &mut Vec<Fact>) -> Result<(), NoMemory>
-    ensures { OnOk result (facts.new.items ≡ facts.old.items ++ record { told = Told.Named; name = name } ∷ []) }
+    ensures { OnOk result (facts.new.items ≡ facts.old.items ++ fact Told.Named name ∷ []) }
 {
     facts.push(Fact {
         told: Told::Named,

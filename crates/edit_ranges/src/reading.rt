@@ -42,8 +42,8 @@ fn push(ranges: &mut Vec<NameRange>, range: NameRange) -> Result<(), NoMemory>
 }
 
 // The fault of the line behind those of ranges.
-fn malformed(ranges: &Vec<NameRange>, fault: RangeFault) -> SummaryFault
-    ensures { result ≡ SummaryFault.Malformed (length ranges.now.items + 1) fault }
+fn malformed(ranges: &[NameRange], fault: RangeFault) -> SummaryFault
+    ensures { result ≡ SummaryFault.Malformed (length ranges.now + 1) fault }
 {
     SummaryFault::Malformed {
         line: ranges.len() as u64 + 1,

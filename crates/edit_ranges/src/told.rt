@@ -12,7 +12,7 @@ pub enum Told {
     Deleted,
 }
 
-/// What is told of the name of its edge where an edit was taken.
+/// What is told of the name of an edit's edge once the edit is taken.
 pub(crate) fn told_by(kind: EditKind) -> Told
     ensures { result ≡ told_by kind }
 {
