@@ -77,11 +77,11 @@ impl Replica {
     }
 
     /// Opens a block: the opening edges are now those that are not Absent. The graph stays.
-    pub fn begin_block(&mut self, alloc: Global) -> Result<(), NoMemory>
+    pub fn begin_block(&mut self, _alloc: Global) -> Result<(), NoMemory>
         ensures opened { OnOk result (self.new ≡ with_block self.old) }
         ensures unchanged { OnErr result (self.new ≡ self.old) }
     {
-        self.opening = OpeningFlags::of(alloc, &self.graph)?;
+        self.opening.renew(&self.graph)?;
         Ok(())
     }
 
