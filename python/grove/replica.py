@@ -52,8 +52,8 @@ class Replica:
 
     def apply_pieces(self, pieces: Iterable[bytes]) -> None:
         """As `apply`, of a text that comes in pieces, cut anywhere."""
-        for piece in pieces:
-            self._check(LIBRARY.grove_piece(self._handle, as_bytes(piece), len(as_bytes(piece))))
+        for piece in map(as_bytes, pieces):
+            self._check(LIBRARY.grove_piece(self._handle, piece, len(piece)))
         bad = FirstBadLine()
         self._check_text(LIBRARY.grove_take(self._handle, bad), bad)
 
@@ -96,8 +96,7 @@ class Replica:
     def record(self, vertex: str) -> Record | None:
         """The record of a vertex, given as its name and constructor, `1.1 if`; None where the program has no such vertex."""
         words = as_bytes(vertex)
-        read = lambda room, size: LIBRARY.grove_judged(self._handle, words, len(words), room, size, self._length)
-        code, line = self._read(read)
+        code, line = self._read(lambda room, size: LIBRARY.grove_judged(self._handle, words, len(words), room, size, self._length))
         if code == Code.NO_VERTEX:
             return None
         self._check(code)
@@ -144,7 +143,7 @@ class Replica:
         if code == Code.NO_ROOM:
             self._room = ctypes.create_string_buffer(self._length.value)
             code = call(self._room, len(self._room))
-        return code, self._room.raw[: self._length.value].decode() if code == Code.DONE else ""
+        return code, ctypes.string_at(self._room, self._length.value).decode() if code == Code.DONE else ""
 
 
 def sorted_trees(report: dict) -> list:
@@ -156,7 +155,11 @@ def record_of(node: dict) -> Record:
 
 
 def as_bytes(text: str | bytes) -> bytes:
-    return text.encode() if isinstance(text, str) else bytes(text)
+    if isinstance(text, str):
+        return text.encode()
+    if isinstance(text, (bytes, bytearray, memoryview)):
+        return bytes(text)
+    raise TypeError(f"{type(text).__name__} is no text")
 
 
 def as_author(author: int) -> int:
