@@ -60,7 +60,7 @@ class Desk:
         return {"program": self.replica.canonical(), "records": rows, "types": self.types.since(0), **self.state()}
 
     def state(self) -> dict:
-        return {"author": self.author, "online": self.is_online, "unsent": sum(text.count("\n") for text in self.unsent)}
+        return {"author": self.author, "online": self.is_online, "unsent": sum(map(count_edits, self.unsent))}
 
     def take(self, edits: str, told: dict) -> None:
         """Takes edits of others, and tells the windows."""
@@ -127,6 +127,9 @@ class Meeting:
     def undo(self, author: int) -> dict:
         return self.change(author, "undo", lambda desk: desk.replica.undo(author))
 
+    def redo(self, author: int) -> dict:
+        return self.change(author, "redo", lambda desk: desk.replica.redo(author))
+
     def change(self, author: int, words: str, work) -> dict:
         """Does the work at the author's desk and shares its edits; tells its answer, or why it was refused."""
         with self.lock:
@@ -190,6 +193,10 @@ class Meeting:
     def canonical(self, author: int) -> str:
         with self.lock:
             return self.desk(author).replica.canonical()
+
+
+def count_edits(text: str) -> int:
+    return sum(not line.startswith("grove") for line in text.splitlines())
 
 
 def joined(texts) -> str:

@@ -39,6 +39,7 @@ class Handler(http.server.BaseHTTPRequestHandler):
         works = {
             "/act": lambda: self.meeting.act(author, str(call["line"])),
             "/undo": lambda: self.meeting.undo(author),
+            "/redo": lambda: self.meeting.redo(author),
             "/take": lambda: self.meeting.take(author, str(call["edits"])),
             "/online": lambda: self.meeting.set_online(author, bool(call["online"])),
         }

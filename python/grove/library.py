@@ -62,7 +62,7 @@ CALLS = {
     "grove_apply": [HANDLE, BYTES, SIZE, BAD],
     "grove_act": [HANDLE, AUTHOR, BYTES, SIZE],
     "grove_undo": [HANDLE, AUTHOR],
-    "grove_begin_block": [HANDLE],
+    "grove_redo": [HANDLE, AUTHOR],
     "grove_text": [HANDLE, ctypes.c_uint32, ROOM, SIZE, LENGTH],
     "grove_judged": [HANDLE, BYTES, SIZE, ROOM, SIZE, LENGTH],
     "grove_greatest": [HANDLE, AUTHOR, COUNTER],

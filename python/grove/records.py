@@ -17,13 +17,17 @@ class Record(NamedTuple):
 
     @classmethod
     def read(cls, line: str) -> "Record":
-        """The record of one line of JSON."""
-        members = json.loads(line)
-        return cls(members["vertex"], members["mode"], members["type"], members["mark"])
+        """The record in the JSON of one line."""
+        return cls.of(json.loads(line))
+
+    @classmethod
+    def of(cls, members: dict) -> "Record":
+        """The record in a node of a report, or in a line of its own."""
+        return cls(f"{members['vertex']} {members['what']}", members["mode"], members["type"], members["mark"])
 
 
 class Answer(NamedTuple):
-    """What an action answered, as in journals, and the edits that it made, a line each."""
+    """What an action answered, as in journals, and the text of the edits that it made, which other replicas apply."""
 
     text: str
     edits: str

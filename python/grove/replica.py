@@ -66,9 +66,9 @@ class Replica:
         """Undoes the author's last action on this replica that was neither refused nor undone, or raises its Refused."""
         return self._answer(LIBRARY.grove_undo(self._handle, as_author(author)))
 
-    def begin_block(self) -> None:
-        """From here on `cut` takes edges that the program has now first, and others that have their name only where it has none."""
-        self._check(LIBRARY.grove_begin_block(self._handle))
+    def redo(self, author: int) -> Answer:
+        """Does again what the author undid last, unless the author has acted since, or raises its Refused."""
+        return self._answer(LIBRARY.grove_redo(self._handle, as_author(author)))
 
     # ---- what tells of it
 
@@ -87,7 +87,7 @@ class Replica:
     def marks(self) -> list[Record]:
         """The records that have a mark, in the order of the print text."""
         trees = (tree for trees in sorted_trees(self.report()) for tree in trees)
-        return [record_of(node) for tree in trees for node in tree if node["mark"] != "-"]
+        return [Record.of(node) for tree in trees for node in tree if node["mark"] != "-"]
 
     def changed(self) -> list[Record]:
         """The records that the last call that changed the program changed, in vertex order; what has come has changed."""
@@ -128,9 +128,9 @@ class Replica:
         if code == Code.NOTHING:
             raise Nothing("nothing")
         if code == Code.REFUSED:
-            raise refusal(self._text(Text.ANSWER))
+            raise refusal(self._text(Text.ANSWER).rstrip())
         self._check(code)
-        return Answer(self._text(Text.ANSWER), self._text(Text.EDITS))
+        return Answer(self._text(Text.ANSWER).rstrip(), self._text(Text.EDITS))
 
     def _text(self, which: Text) -> str:
         code, text = self._read(lambda room, size: LIBRARY.grove_text(self._handle, which, room, size, self._length))
@@ -148,10 +148,6 @@ class Replica:
 
 def sorted_trees(report: dict) -> list:
     return [report[kind] for kind in ("none", "multi", "cycle")]
-
-
-def record_of(node: dict) -> Record:
-    return Record(f"{node['vertex']} {node['what']}", node["mode"], node["type"], node["mark"])
 
 
 def as_bytes(text: str | bytes) -> bytes:

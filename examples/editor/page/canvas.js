@@ -7,7 +7,7 @@ const ROW = 26;          // pixels
 const NEAR = 12;         // so many rows beyond the view are drawn too
 const DEEPEST = 24;      // cells: deeper blocks are set in no further, or they would leave the view
 const AROUND_TREE = 1;   // rows behind a tree
-const FRAME_GAP = { conflict: 4, choice: 12 };  // pixels between a frame and what stands under it
+const FRAME_GAP = { conflict: -2, choice: 5 };  // pixels: a conflict reaches into the next row, to hold its children
 
 export function make(tag, className, text) {
   const element = document.createElement(tag);

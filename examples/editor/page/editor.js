@@ -177,10 +177,11 @@ function note(text) {
   logLine(`${state.me} ${text}`, state.me);
 }
 
-async function undo() {
-  const { answer, refused } = await call("undo", { author: state.me });
+/** Undoes or redoes what this author did last, by the name of the call. */
+async function turn(path) {
+  const { answer, refused } = await call(path, { author: state.me });
   if (answer) say(answer);
-  else note(refused === "nothing" ? "There is nothing to undo." : `undo: ${refused}`);
+  else note(refused === "nothing" ? `There is nothing to ${path}.` : `${path}: ${refused}`);
 }
 
 async function takeFile(file) {
@@ -247,7 +248,8 @@ function pageKey(event) {
 
 /** Answers whether the key means something, as nodeKey does. */
 function controlKey(key) {
-  if (key === "z") undo();
+  if (key === "z") turn("undo");
+  else if (key === "y" || key === "Z") turn("redo");
   else if (key === "x") pick(focused());
   else if (key === "v") drop(focused());
   else return false;
@@ -307,7 +309,7 @@ function listenToDragging(area) {
 
 function listenToButtons() {
   $("online").addEventListener("click", () => call("online", { author: state.me, online: !state.isOnline }));
-  $("undo").addEventListener("click", undo);
+  for (const path of ["undo", "redo"]) $(path).addEventListener("click", () => turn(path));
   $("remove").addEventListener("click", () => removeNode(focused()));
   $("next-mark").addEventListener("click", () => nextMark(1));
   $("theme").addEventListener("click", () => setTheme(document.documentElement.dataset.theme === "dark" ? "light" : "dark"));

@@ -23,6 +23,11 @@ class Vertex {
     this.box = null;
   }
 
+  get hasChildren() {
+    for (const edges of this.children.values()) if (edges.length) return true;
+    return false;
+  }
+
   /** Which list of trees it heads one of, or "inner". */
   get kind() {
     if (this.parents.length !== 1) return this.parents.length ? "multi" : "none";
@@ -116,6 +121,7 @@ export class Graph {
   }
 
   findRing(start) {
+    if (!start.hasChildren) return;
     const members = [];
     let vertex = start;
     do {

@@ -10,15 +10,18 @@ const GAP = 2;
 export const CONFLICT_ROWS = 2;  // its heading, and the row that names the authors
 const WIDEST_CHOICE = 120;
 
-/** Settles the boxes of all vertices that changed, and of those above them where theirs change with it. */
+/** Settles the boxes of all vertices that changed, and of those above them where theirs change with it: each once, the lowest first. */
 export function settle(graph) {
-  const changed = [...graph.dirty];
+  const changed = new Set(graph.dirty);
   graph.dirty.clear();
-  if (changed.length > FEW) for (const vertex of lowestFirst(changed)) rebuild(vertex);
-  else changed.forEach(settleUpwards);
+  for (const vertex of lowestFirst(changed)) {
+    if (!changed.has(vertex)) continue;
+    const before = vertex.box;
+    rebuild(vertex);
+    settleAbove(vertex, before, changed);
+  }
 }
 
-const FEW = 100;
 const above = (vertex) => vertex.kind === "inner" ? vertex.parents[0].source : null;
 
 function rebuild(vertex) {
@@ -26,15 +29,15 @@ function rebuild(vertex) {
   vertex.stamp += 1;
 }
 
-function settleUpwards(start) {
-  let before = start.box;
-  rebuild(start);
+/** Goes up while sizes change. Who has changed otherwise too is settled in its turn, and goes on from there. */
+function settleAbove(start, startedAs, changed) {
+  let before = startedAs;
   for (let vertex = start, parent = above(start); parent; vertex = parent, parent = above(parent)) {
     const { box } = vertex;
     const isBlock = before && !before.inline && !box.inline;
-    if (isBlock && before.width === box.width && before.height === box.height) return;
+    if (isBlock && before.width === box.width && before.height === box.height || changed.has(parent)) return;
     before = parent.box;
-    if (!isBlock || !parent.box || !resize(parent, vertex)) rebuild(parent);
+    if (!isBlock || !resize(parent, vertex)) rebuild(parent);
   }
 }
 
@@ -55,7 +58,7 @@ function resize(parent, child) {
   return true;
 }
 
-/** All these vertices and those above them, each behind all that stand below it. */
+/** These vertices and those above them, each behind all that stand below it. */
 function lowestFirst(vertices) {
   const met = new Set();
   for (const start of vertices) for (let at = start; at && !met.has(at); at = above(at)) met.add(at);

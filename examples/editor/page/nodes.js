@@ -3,20 +3,32 @@
 import { layoutOf, positionsOf, sortAt } from "./forms.js";
 import { matched } from "./types.js";
 
-export const headNode = (vertex) => ({ kind: "vertex", id: `v ${vertex.key}`, vertex, edge: null, holder: null, position: null });
+class Node {
+  constructor(kind, vertex, edge, holder, position) {
+    this.kind = kind;
+    this.vertex = vertex;
+    this.edge = edge;
+    this.holder = holder;
+    this.position = position;
+  }
+
+  get id() {
+    if (this.kind === "vertex") return `v ${this.vertex.key}`;
+    const place = `${this.holder.key} ${this.position}`;
+    return this.edge ? `e ${this.edge.name} ${place} ${this.vertex.key}` : `p ${place}`;
+  }
+}
+
+export const headNode = (vertex) => new Node("vertex", vertex, null, null, null);
 
 /** What an edge leads to: the vertex under it, or a reference to one that heads a tree of its own. */
-export function nodeOfEdge(edge) {
-  const { target, source, position } = edge;
-  if (target.kind === "inner") return { kind: "vertex", id: `v ${target.key}`, vertex: target, edge, holder: source, position };
-  return { kind: "reference", id: `e ${edge.name} ${source.key} ${position} ${target.key}`, vertex: target, edge, holder: source, position };
-}
+export const nodeOfEdge = (edge) =>
+  new Node(edge.target.kind === "inner" ? "vertex" : "reference", edge.target, edge, edge.source, edge.position);
 
 /** What stands at a position of a vertex. */
 export function nodeAt(holder, position) {
   const edges = holder.children.get(position);
-  if (edges.length === 1) return nodeOfEdge(edges[0]);
-  return { kind: edges.length ? "conflict" : "hole", id: `p ${holder.key} ${position}`, vertex: null, edge: null, holder, position };
+  return edges.length === 1 ? nodeOfEdge(edges[0]) : new Node(edges.length ? "conflict" : "hole", null, null, holder, position);
 }
 
 export function childrenOf(node) {

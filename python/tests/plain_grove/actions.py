@@ -34,10 +34,10 @@ def read_action(line):
 
 
 class Plan:
-    """The edits of one action of an author on a graph, and its answer. `opening` has the edges that `cut` looks among first."""
+    """The edits of one action of an author on a graph, and its answer. Each action is in a block of its own."""
 
-    def __init__(self, graph, opening, author, line):
-        self.graph, self.opening, self.author = graph, opening, author
+    def __init__(self, graph, author, line):
+        self.graph, self.author = graph, author
         self.verb, operands = read_action(line)
         self.named = operands.get("vertex")
         self.moved_name = operands.get("moved")
@@ -63,8 +63,7 @@ class Plan:
         return getattr(self, "do_" + self.verb)()
 
     def cut(self):
-        present = self.graph.edges_named.get(self.edge_name, set())
-        edges = sorted(present & self.opening or present)
+        edges = sorted(self.graph.edges_named.get(self.edge_name, ()))
         if not edges:
             refuse("8 no-edge", name_text(self.edge_name))
         return [("-", edge) for edge in edges], "done"

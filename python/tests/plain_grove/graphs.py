@@ -2,7 +2,7 @@
 from collections import defaultdict
 
 from .forms import FORMS, POSITION_RANK
-from .texts import ROOT, edit_line, word_of
+from .texts import ROOT, word_of
 
 
 class Graph:
@@ -44,9 +44,6 @@ class Graph:
     def is_vertex(self, vertex):
         return vertex in self.vertices_named.get(vertex[:2], ())
 
-    def canonical(self):
-        return "".join(edit_line("+" if live else "-", edge) for edge, live in sorted(self.is_live.items()))
-
     def children_at(self, vertex, position):
         """The live edges at a position, given by its word, in edge order."""
         return sorted(self.children.get((vertex, POSITION_RANK[position]), ()))
@@ -76,10 +73,16 @@ class Graph:
             count = len(self.parents.get(vertex, ()))
             if count != 1:
                 kinds[vertex] = "multi" if count else "none"
-            elif vertex not in done:
-                walk = self.walk(vertex)
-                above = self.only_parent(walk[-1])
-                if above is not None:
-                    kinds[min(walk[walk.index(above):])] = "cycle"
-                done.update(walk)
+            cycle = self.cycle_above(vertex, done)
+            if cycle:
+                kinds[min(cycle)] = "cycle"
         return kinds
+
+    def cycle_above(self, vertex, done):
+        """The cycle that the walk up from a vertex ends in, unless one of those vertices is done already; all of them are then."""
+        walk = {}
+        while vertex is not None and vertex not in walk and vertex not in done:
+            walk[vertex] = None
+            vertex = self.only_parent(vertex)
+        done.update(walk)
+        return list(walk)[list(walk).index(vertex):] if vertex in walk else []

@@ -1,5 +1,5 @@
 """The marked grove of a graph, by the rules for types and marks of docs/FORMATS.md: its print text, and the record of each vertex."""
-from typing import NamedTuple
+from grove.records import Record
 
 from .forms import FORMS
 from .texts import constructor_text, name_text, sort_of, vertex_text, word_of
@@ -7,15 +7,6 @@ from .texts import constructor_text, name_text, sort_of, vertex_text, word_of
 # A type is "?", "num", "bool", or a tuple of "->", "*" or "+" and its two parts.
 UNKNOWN = "?"
 SYN = None
-
-
-class Record(NamedTuple):
-    """How a vertex is judged, by the words of the print text."""
-
-    vertex: str
-    mode: str
-    type: str
-    mark: str
 
 
 def type_text(kind, levels=8):

@@ -1,6 +1,8 @@
 """A replica in plain Python, with the calls of `grove.Replica`."""
+from collections import defaultdict
+
 from grove import faults, refusals
-from grove.records import Answer, Record
+from grove.records import Answer
 
 from .actions import Plan, Refusal
 from .forms import LAST_AUTHOR
@@ -11,12 +13,12 @@ from .undoing import take_and_tell, undoing_edits
 
 
 class Model:
-    """Keeps a graph and what each author did. Marks are made anew where they are asked for."""
+    """Keeps a graph and what each author did and undid. Marks are made anew where they are asked for."""
 
     def __init__(self, seed=None):
         self.graph = Graph()
-        self.opening = frozenset()
-        self.done = {}
+        self.done = defaultdict(list)
+        self.undone = defaultdict(list)
         self.before = {}
         self.marked = None
 
@@ -34,16 +36,18 @@ class Model:
             self.marked = Marking(self.graph)
         return self.marked
 
-    def keep_records(self):
-        """Keeps the records as they are, so that `changed` can tell which the next call changes."""
-        self.before = dict(self.marking().records)
+    def judgements(self):
+        """How each vertex is judged, and whether it is the root of a cycle."""
+        marking = self.marking()
+        return {vertex: (record, marking.kinds.get(vertex) == "cycle") for vertex, record in marking.records.items()}
+
+    def keep_judgements(self):
+        """Keeps the judgements as they are, so that `changed` can tell which are others since."""
+        self.before = self.judgements()
 
     def take(self, edits):
         self.marked = None
         return take_and_tell(self.graph, edits)
-
-    def begin_block(self):
-        self.opening = frozenset(self.graph.is_live)
 
     def apply(self, text):
         try:
@@ -52,44 +56,50 @@ class Model:
             raise faults.BY_NAME[bad.fault](bad.line) from None
         self.take(edits)
 
+    def apply_pieces(self, pieces):
+        self.apply(b"".join(pieces))
+
     def act(self, author, line):
         check_author(author)
         try:
-            edits, answer = Plan(self.graph, self.opening, author, line).make()
+            edits, answer = Plan(self.graph, author, line).make()
         except Fault:
             raise faults.Syntax(1) from None
         except Refusal as refusal:
             raise refusals.refusal(f"refused {refusal}") from None
-        self.done.setdefault(author, []).append(self.take(edits))
+        self.done[author].append(self.take(edits))
+        self.undone[author].clear()
         return Answer(answer, text_of(edits))
 
     def undo(self, author):
+        return self.turn(author, self.done, self.undone, "undone")
+
+    def redo(self, author):
+        return self.turn(author, self.undone, self.done, "redone")
+
+    def turn(self, author, deeds, others, word):
+        """Undoes the last of an author's deeds; what that changed is put with the others."""
         check_author(author)
-        done = self.done.get(author)
-        if not done:
+        if not deeds[author]:
             raise refusals.refusal("nothing")
         try:
-            edits = undoing_edits(self.graph, author, done[-1])
+            edits = undoing_edits(self.graph, author, deeds[author][-1])
         except Refusal as refusal:
             raise refusals.refusal(f"refused {refusal}") from None
-        done.pop()
-        self.take(edits)
-        return Answer(f"undone {len(edits)}", text_of(edits))
+        deeds[author].pop()
+        others[author].append(self.take(edits))
+        return Answer(f"{word} {len(edits)}", text_of(edits))
 
     def show(self):
         return self.marking().text()
 
     def canonical(self):
-        return self.graph.canonical()
+        return text_of(("+" if live else "-", edge) for edge, live in sorted(self.graph.is_live.items()))
 
     def changed(self):
-        """The records that differ from those at the last `keep_records`, in vertex order."""
-        records = self.marking().records
-        return [Record(*records[vertex]) for vertex in sorted(records) if self.before.get(vertex) != records[vertex]]
-
-    def records(self):
-        records = self.marking().records
-        return [Record(*records[vertex]) for vertex in sorted(records)]
+        """The records of the vertices that are judged otherwise than at the last `keep_judgements`, in vertex order."""
+        now = self.judgements()
+        return [now[vertex][0] for vertex in sorted(now) if self.before.get(vertex) != now[vertex]]
 
     def record(self, vertex):
         name, _, constructor = vertex.partition(" ")
@@ -97,11 +107,10 @@ class Model:
             found = read_name(name) + read_constructor(constructor)
         except Fault:
             raise faults.Syntax(1) from None
-        if not self.graph.is_vertex(found):
-            return None
-        return Record(*self.marking().records[found])
+        return self.marking().records[found] if self.graph.is_vertex(found) else None
 
     def greatest(self, author):
+        check_author(author)
         return self.graph.greatest.get(author, 0)
 
 
@@ -111,4 +120,5 @@ def check_author(author):
 
 
 def text_of(edits):
-    return "".join(edit_line(sign, edge) for sign, edge in edits)
+    lines = "".join(edit_line(sign, edge) for sign, edge in edits)
+    return "grove 2\n" + lines if lines else ""
