@@ -25,8 +25,15 @@ export class Canvas {
     this.drawn = new Map();
     this.entries = [];
     this.isWaiting = false;
+    this.lookAgain();
     element.addEventListener("scroll", () => this.paintSoon());
     new ResizeObserver(() => this.paintSoon()).observe(element);
+  }
+
+  /** Where the view is. Whoever asks the document while it is being changed makes it lay out at once, so it is asked apart. */
+  lookAgain() {
+    this.scrollTop = this.element.scrollTop;
+    this.viewHeight = this.element.clientHeight;
   }
 
   /** The trees to show, one below the other, each with the title and the heading that stand before it, if any. */
@@ -45,15 +52,17 @@ export class Canvas {
   paintSoon() {
     if (this.isWaiting) return;
     this.isWaiting = true;
-    requestAnimationFrame(() => this.paint());
+    requestAnimationFrame(() => {
+      this.lookAgain();
+      this.paint();
+    });
   }
 
   /** Draws what is near the view and not drawn yet, and takes away what is far. */
   paint() {
     this.isWaiting = false;
-    const { scrollTop, clientHeight } = this.element;
-    this.top = Math.floor(scrollTop / ROW) - NEAR;
-    this.bottom = Math.ceil((scrollTop + clientHeight) / ROW) + NEAR;
+    this.top = Math.floor(this.scrollTop / ROW) - NEAR;
+    this.bottom = Math.ceil((this.scrollTop + this.viewHeight) / ROW) + NEAR;
     this.before = this.drawn;
     this.drawn = new Map();
     for (const entry of this.entries) if (this.isNear(entry.y, entry.height)) this.paintEntry(entry);
@@ -186,6 +195,7 @@ export class Canvas {
     const { element } = this;
     if (y * ROW < element.scrollTop + ROW) element.scrollTop = Math.max(0, (y - 2) * ROW);
     else if ((y + 3) * ROW > element.scrollTop + element.clientHeight) element.scrollTop = (y + 3) * ROW - element.clientHeight;
+    this.lookAgain();
     this.paint();
   }
 

@@ -12,10 +12,10 @@ import { authorColour, authorName, describe, explain, kindWords, ownerOf, typeOr
 
 const $ = (id) => document.getElementById(id);
 const words = new URLSearchParams(location.search);
-const state = { me: Number(words.get("author")), graph: null, types: [], focus: "p 0.0 root main", moving: null, isOnline: true, sideHeads: [], times: [] };
+const state = { me: Number(words.get("author")), graph: null, types: [], focus: "p 0.0 root main", actedAt: null, moving: null, isOnline: true, sideHeads: [], times: [] };
 const main = new Canvas($("program"), () => state.me);
 const side = new Canvas($("side"), () => state.me);
-const palette = new Palette($("palette"), $("query"), $("choices"), (line) => act(line), () => focusCanvas());
+const palette = new Palette($("palette"), $("query"), $("choices"), (line, node) => act(line, node), () => focusCanvas());
 
 // ---- what the server tells
 
@@ -45,6 +45,7 @@ function change({ program, edits, records, types, by, did, answer }) {
   if (isResized) showTrees();
   main.paint();
   side.paint();
+  if (by === state.me) focusPlaceActedAt();
   showFocus();
   if (did) logLine(`${by} ${did}${answer ? ` = ${answer}` : ""}`, by);
   if (by && by !== state.me) changed.forEach((edge) => pulse(edge, by));
@@ -108,6 +109,12 @@ const elementsOf = (id) => [...main.elementsOf(id), ...side.elementsOf(id)];
 const focused = () => resolve(state.graph, state.focus);
 const say = (text) => { $("status").textContent = text; };
 
+/** What an action put at its place has the focus then, or the hole that it left. */
+function focusPlaceActedAt() {
+  state.focus = state.actedAt ?? state.focus;
+  state.actedAt = null;
+}
+
 /** Marks the elements of the focused node; where it is gone, what stands around it is focused. */
 function showFocus() {
   const node = focused() ?? nodeAt(state.graph.root, "main");
@@ -166,10 +173,13 @@ function nextMark(by) {
 
 // ---- what the author does
 
-async function act(line) {
+/** Sends an action at the place of a node. */
+async function act(line, node) {
+  state.actedAt = `p ${node.holder.key} ${node.position}`;
   const { answer, refused, fault } = await call("act", { author: state.me, line });
-  if (answer) say(`${line}: ${answer}`);
-  else note(`${line}: ${refused ?? fault}`);
+  if (answer) return say(`${line}: ${answer}`);
+  state.actedAt = null;
+  return note(`${line}: ${refused ?? fault}`);
 }
 
 function note(text) {
@@ -199,7 +209,7 @@ const rectangleOf = (node) => elementsOf(node.id)[0]?.getBoundingClientRect() ??
 function removeNode(node) {
   if (!hasPlace(node)) return say("This part is loose already.");
   if (node.kind === "hole") return say("Nothing stands here.");
-  return act(removalLine(node));
+  return act(removalLine(node), node);
 }
 
 function pick(node) {
@@ -217,7 +227,7 @@ function drop(hole) {
   const why = whyNot(part, hole);
   if (why) return say(why);
   const line = moveLine(part, hole);
-  return line ? act(line) : say("This part is shared: move one of the references to it.");
+  return line ? act(line, hole) : say("This part is shared: move one of the references to it.");
 }
 
 function openPopover(node) {

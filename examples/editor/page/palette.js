@@ -5,7 +5,7 @@ import { choicesAt } from "./offers.js";
 const MOST_SHOWN = 60;
 
 export class Palette {
-  /** `onTake` gets the chosen action line, and `onClose` is called when the palette goes. */
+  /** `onTake` gets the chosen action line and the node, and `onClose` is called when the palette goes. */
   constructor(box, input, list, onTake, onClose) {
     Object.assign(this, { box, input, list, onTake, onClose, node: null, at: 0, choices: [] });
     input.addEventListener("input", () => this.fill());
@@ -51,7 +51,7 @@ export class Palette {
   take(at) {
     const choice = this.choices[at];
     this.close();
-    if (choice) this.onTake(choice.line);
+    if (choice) this.onTake(choice.line, this.node);
   }
 
   close() {
