@@ -1,6 +1,7 @@
 """A replica of a program: what an editor asks of Grove."""
 import ctypes
 import json
+import operator
 import secrets
 from collections.abc import Iterable
 
@@ -164,6 +165,6 @@ def as_author(author: int) -> int:
 
 def checked(number: int, most: int, what: str, least: int = 0) -> int:
     """The number, which ctypes would otherwise cut to its lowest bits without a word."""
-    if not least <= number <= most:
+    if not least <= operator.index(number) <= most:
         raise ValueError(f"{number} is no {what}")
     return number

@@ -10,6 +10,7 @@ class Graph:
 
     def __init__(self):
         self.is_live = {}
+        self.edges = []
         self.children = defaultdict(set)
         self.parents = defaultdict(set)
         self.edges_named = defaultdict(set)
@@ -32,6 +33,7 @@ class Graph:
             self.parents[edge[4]].discard(edge)
 
     def add_names(self, edge):
+        self.edges.append(edge)
         self.edges_named[edge[:2]].add(edge)
         for vertex in (edge[2], edge[4]):
             self.vertices_named[vertex[:2]].add(vertex)

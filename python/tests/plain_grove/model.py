@@ -1,8 +1,9 @@
 """A replica in plain Python, with the calls of `grove.Replica`."""
+import operator
 from collections import defaultdict
 
 from grove import faults, refusals
-from grove.records import Answer
+from grove.records import Answer, Record
 
 from .actions import Plan, Refusal
 from .forms import LAST_AUTHOR
@@ -51,7 +52,7 @@ class Model:
 
     def apply(self, text):
         try:
-            edits = read_text(text.encode() if isinstance(text, str) else text)
+            edits = read_text(text.encode() if isinstance(text, str) else bytes(memoryview(text)))
         except BadLine as bad:
             raise faults.BY_NAME[bad.fault](bad.line) from None
         self.take(edits)
@@ -96,6 +97,10 @@ class Model:
     def canonical(self):
         return text_of(("+" if live else "-", edge) for edge, live in sorted(self.graph.is_live.items()))
 
+    def marks(self):
+        nodes = (line.split(" ") for line in self.marking().lines)
+        return [Record(f"{node[3]} {node[4]}", *node[5:]) for node in nodes if len(node) == 8 and node[7] != "-"]
+
     def changed(self):
         """The records of the vertices that are judged otherwise than at the last `keep_judgements`, in vertex order."""
         now = self.judgements()
@@ -115,7 +120,7 @@ class Model:
 
 
 def check_author(author):
-    if not 0 < author <= LAST_AUTHOR:
+    if not 0 < operator.index(author) <= LAST_AUTHOR:
         raise ValueError(f"no author has the number {author}")
 
 
