@@ -3,6 +3,7 @@ import http.server
 import json
 import pathlib
 import queue
+import sys
 import urllib.parse
 
 from desks import Meeting
@@ -45,7 +46,11 @@ class Handler(http.server.BaseHTTPRequestHandler):
         }
         if author is None or self.path not in works:
             return self.send_error(404)
-        self.send_bytes(json.dumps(works[self.path]()).encode(), "application/json")
+        try:
+            told = works[self.path]()
+        except KeyError as missing:
+            return self.send_error(400, f"no {missing}")
+        self.send_bytes(json.dumps(told).encode(), "application/json")
 
     def is_from_here(self) -> bool:
         """Pages of other sites may not use this server: they cannot name this host, nor send JSON to it."""
@@ -58,12 +63,13 @@ class Handler(http.server.BaseHTTPRequestHandler):
         return False
 
     def read_call(self) -> dict:
-        length = int(self.headers.get("Content-Length", 0))
-        if length > LONGEST_CALL:
+        """The object that a call has, or none where it has no such thing, or is too long to be read."""
+        length = self.headers.get("Content-Length", "")
+        if not length.isdecimal() or int(length) > LONGEST_CALL:
             self.close_connection = True
             return {}
         try:
-            call = json.loads(self.rfile.read(length))
+            call = json.loads(self.rfile.read(int(length)))
         except ValueError:
             return {}
         return call if isinstance(call, dict) else {}
@@ -132,9 +138,17 @@ def next_event(window) -> bytes:
         return b": still here\n\n"
 
 
-def serve(meeting: Meeting, port: int) -> http.server.ThreadingHTTPServer:
+class Server(http.server.ThreadingHTTPServer):
+    """A thread for each connection, of which none keeps the program from ending."""
+
+    daemon_threads = True
+
+    def handle_error(self, request, client_address):
+        """A browser that goes away is no fault."""
+        if not isinstance(sys.exception(), ConnectionError):
+            super().handle_error(request, client_address)
+
+
+def serve(meeting: Meeting, port: int) -> Server:
     """A server that is ready; port 0 takes any free one."""
-    handler = type("MeetingHandler", (Handler,), {"meeting": meeting})
-    server = http.server.ThreadingHTTPServer(("127.0.0.1", port), handler)
-    server.daemon_threads = True
-    return server
+    return Server(("127.0.0.1", port), type("MeetingHandler", (Handler,), {"meeting": meeting}))

@@ -111,18 +111,20 @@ export class Canvas {
 
   paintConflict(open, vertex, line, x, y) {
     const { node, columns, width, height } = line;
-    this.putFrame(`conflict ${node.id} ${vertex.stamp}`, "conflict", node.id, x, y, width, height);
+    named(this.putFrame(`conflict ${node.id} ${vertex.stamp}`, "conflict", x, y, width, height), node.id);
     const count = columns.length;
     this.put(`stands ${node.id} ${vertex.stamp}`, x + 1, y, () => caption("stands", count === 2 ? "⇄ Both stand" : `⇄ All ${count} stand`));
     for (const column of columns) this.paintChoice(open, vertex, column, x + column.x, y);
   }
 
   paintChoice(open, vertex, { node, width, height }, x, y) {
-    this.putFrame(`choice ${node.id} ${vertex.stamp}`, "choice", node.id, x - 0.5, y + 1, width + 1, height + 1);
+    const frame = this.putFrame(`choice ${node.id} ${vertex.stamp}`, "choice", x - 0.5, y + 1, width + 1, height + 1);
     this.put(`by ${node.id} ${vertex.stamp}`, x, y + 1, () => byline(ownerOf(node)));
     const top = y + CONFLICT_ROWS;
-    if (node.kind === "vertex" && !node.vertex.box.inline) return void open.push({ vertex: node.vertex, x, y: top, base: x });
-    return void this.put(`${node.id} ${node.vertex.stamp} ${vertex.stamp}`, x, top, () => this.row(null, [{ node }]));
+    if (node.kind === "vertex" && !node.vertex.box.inline) {
+      named(frame, node.id);
+      open.push({ vertex: node.vertex, x, y: top, base: x });
+    } else this.put(`${node.id} ${node.vertex.stamp} ${vertex.stamp}`, x, top, () => this.row(null, [{ node }]));
   }
 
   putRow(vertex, at, parts, x, y) {
@@ -136,10 +138,11 @@ export class Canvas {
     rail.style.height = `${line.height * ROW - 4}px`;
   }
 
-  putFrame(key, className, id, x, y, width, height) {
-    const frame = this.put(key, x, y, () => named(make("div", `frame ${className}`), id));
+  putFrame(key, className, x, y, width, height) {
+    const frame = this.put(key, x, y, () => make("div", `frame ${className}`));
     frame.style.width = `${width}ch`;
     frame.style.height = `${height * ROW - FRAME_GAP[className]}px`;
+    return frame;
   }
 
   row(vertex, parts) {

@@ -250,7 +250,7 @@ function nodeOf(event) {
 
 function pageKey(event) {
   if (event.key === "Escape") $("popover").hidden = true;
-  if (event.target.matches("input, button, select")) return;
+  if (!state.graph || event.target.matches("input, button")) return;
   if (event.key === "F8") nextMark(event.shiftKey ? -1 : 1);
   else if (!(event.ctrlKey || event.metaKey ? controlKey(event.key) : nodeKey(focused(), event.key))) return;
   event.preventDefault();

@@ -11,6 +11,7 @@ import sys
 import tempfile
 import unittest
 
+from programs import modules
 from windows import EDITOR, Keys, Window, served
 
 EXAMPLES = EDITOR.parent
@@ -92,11 +93,6 @@ class Story(TwoWindows):
         for window in (self.ann, self.ben):
             window.wait_for_text("Both stand")
         self.both_show_the_same()
-        self.take_screenshot()
-
-    def take_screenshot(self):
-        if "SCREENSHOT" in os.environ:
-            self.ben.driver.save_screenshot(os.environ["SCREENSHOT"])
 
 
 class Actions(TwoWindows):
@@ -187,6 +183,25 @@ class Broken(TwoWindows):
         self.ann.button("next-mark")
         self.ann.driver.find_elements("css selector", ".flag")[0].click()
         self.ann.wait("the explanation", lambda: "Nothing here binds this name" in self.ann.script("return document.getElementById('popover').innerText"))
+        self.both_show_the_same()
+
+
+class Picture(TwoWindows):
+    """A program with all of that, as the documents show it."""
+
+    program = modules(2)
+
+    def test_types_and_marks_are_told(self):
+        self.ann.button("next-mark")
+        self.ann.wait_for_focus("v 3.57 num:0")
+        self.ann.press(Keys.SPACE)
+        told = self.ann.wait("the explanation", lambda: self.ann.script("return document.getElementById('popover').innerText"))
+        for words in ("The type does not fit here", "expected", "bool", "found", "num"):
+            self.assertIn(words, told)
+        self.ann.hover("v 3.41 ap")
+        self.ann.wait("the type", lambda: "type num" in self.ann.script("return document.getElementById('status').innerText"))
+        if "SCREENSHOT" in os.environ:
+            self.ann.driver.save_screenshot(os.environ["SCREENSHOT"])
         self.both_show_the_same()
 
 

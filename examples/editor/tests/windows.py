@@ -104,6 +104,9 @@ class Window:
         self.press(query)
         self.wait(f"the choice {line}", lambda: self.driver.find_elements(By.CSS_SELECTOR, f'#choices [data-line="{line}"]'))[0].click()
 
+    def hover(self, node: str):
+        ActionChains(self.driver).move_to_element(self.element(node)).perform()
+
     def drag(self, node: str, hole: str):
         ActionChains(self.driver).drag_and_drop(self.element(node), self.element(hole)).perform()
 
