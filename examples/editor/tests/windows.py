@@ -40,10 +40,17 @@ class Window:
         self.driver = make_driver()
         self.driver.set_script_timeout(PATIENCE)
         self.driver.get(f"{address}?author={author}&measure&theme=light")
-        self.wait("the program", lambda: self.script("return Boolean(window.grove?.graph)"))
+        self.wait_for_program()
 
     def close(self):
         self.driver.quit()
+
+    def reload(self):
+        self.driver.refresh()
+        self.wait_for_program()
+
+    def wait_for_program(self):
+        self.wait("the program", lambda: self.script("return Boolean(window.grove?.graph)"))
 
     def script(self, text: str, *arguments):
         return self.driver.execute_script(text, *arguments)
