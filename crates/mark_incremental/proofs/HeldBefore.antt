@@ -49,6 +49,12 @@ pub record IsHeldSoFar (left : List Receipt) (was : Held) (now : KeptMarks) (bef
   pub led : HaveLed (reverse left) was between
   pub held : AreHeldUntil between.marks now before
 
+-- where none is held, the marks are those there are
+pub first_held : (left : List Receipt) (was now : Held) (before : Before) → HaveLed (reverse left) was now
+    → ((found : Vertex → Option Record) (v : Vertex) → record_before before.records found v ≡ found v) → ((found : Vertex → Bool) (v : Vertex) → root_before before.roots found v ≡ found v)
+    → IsHeldSoFar left was now.marks before
+first_held left was now before led records roots = record { between = now; led = led; held = record { records = records (kept_in now.marks); roots = roots (holds now.marks.roots) } }
+
 pub one_receipt : (left earlier : List Receipt) (last : Receipt) (was : Held) (now : KeptMarks) (before after : Before) → left ≡ earlier ++ last ∷ []
     → ((found : Vertex → Option Record) (v : Vertex) → record_before after.records found v ≡ put_back_in last.applied.old.records.items (record_before before.records found) v)
     → ((found : Vertex → Bool) (v : Vertex) → root_before after.roots found v ≡ roots_back last.applied.old.root (root_before before.roots found) v)

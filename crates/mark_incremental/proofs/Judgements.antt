@@ -1,6 +1,6 @@
 -- Vertices that are judged alike before some edits and after them.
-use Rattle.std.proofs.Common.{◌≡◌, Bool, true, false, List, [], ◌∷◌, Option, Some, None, IfSome, get_or, length, take, ℕ, ◌+◌, ◌<◌, refl, sym, ap, subst, ◌∙◌}
-use Rattle.std.specs.Prelude.{IsTrue, ◌↔◌, ◌||◌, ◌⊎◌, inl, inr, unwrap_or}
+use Rattle.std.proofs.Common.{◌≡◌, ◌⊎◌, inl, inr, ◌++◌, Bool, true, false, List, [], ◌∷◌, Option, Some, None, IfSome, get_or, length, take, ℕ, ◌+◌, ◌<◌, refl, sym, ap, subst, ◌∙◌}
+use Rattle.std.specs.Prelude.{IsTrue, ◌↔◌, ◌||◌, unwrap_or}
 use Rattle.std.specs.Option.{option_map}
 use Rattle.std.proofs.lemmas.List.{take_more}
 use Rattle.grove_sorts.proofs.Truths.{or_left, or_right}
@@ -42,7 +42,7 @@ module _ (marks : KeptMarks) (distinct : type_table.AreDistinct marks.types) (di
   abbrev ctxs : List Context
   ctxs = marks.contexts
 
-  demand_with : CtxId → Mode → Demand
+  abbrev demand_with : CtxId → Mode → Demand
   demand_with ctx mode = record { ctx = ctx; mode = mode }
 
   one_mode : (ctx : CtxId) → IsScopeOf types ctxs ctx → (a b : Option Mode) → IfSome a (IsModeOf types) → IfSome b (IsModeOf types) → option_map (wanted_at types) a ≡ option_map (wanted_at types) b → a ≡ b
