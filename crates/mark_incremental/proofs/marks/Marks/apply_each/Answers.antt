@@ -8,7 +8,7 @@ use Rattle.mark_incremental.specs.Receipts.{held}
 use Rattle.mark_incremental.proofs.Receipts.{none_led, last_led, have_led_on, as_failed, entries_room, marks_room, numbers_stay}
 use Rattle.mark_incremental.proofs.AllApplied.{nothing_spent, joined_more, joined_all, spent_more, spent_within}
 use Rattle.mark_incremental.proofs.Edited.{grown_stands}
-use Rattle.mark_incremental.proofs.marks.Marks.apply_all.Goals as goal
+use Rattle.mark_incremental.proofs.marks.Marks.apply_each.Goals as goal
 
 pub loop-edit-init : goal.loop-edit-init
 loop-edit-init g c = record {

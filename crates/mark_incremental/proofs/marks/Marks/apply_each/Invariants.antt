@@ -6,7 +6,7 @@ use Rattle.graph_words.specs.States.{state_in}
 use Rattle.mark_incremental.specs.Standing.{StandFor}
 use Rattle.mark_incremental.specs.Receipts.{held, HaveLed}
 use Rattle.mark_incremental.proofs.AllApplied.{IsSpent}
-use Rattle.mark_incremental.proofs.marks.Marks.apply_all.Given as goal
+use Rattle.mark_incremental.proofs.marks.Marks.apply_each.Given as goal
 
 abbrev pub invariant-loop-edit : goal.invariant-loop-edit
 invariant-loop-edit g l = record {
