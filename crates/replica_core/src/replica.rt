@@ -30,16 +30,6 @@ use std::sync::ledger::Ledger;
 use text_parts::NoMemory;
 use user_actions::{LiveView, OpeningFlags};
 
-/// What an author's action did.
-#[derive(Drop)]
-pub struct Acted {
-    /// The edits of its plan, which were taken. An action that is refused has none.
-    pub edits: EditList,
-    pub answer: Answer,
-    /// The vertices that are judged otherwise than before, in vertex order.
-    pub changed: Vec<Vertex>,
-}
-
 /// A live replica, which keeps the marks of its graph from edit to edit. Contracts see it as its `Content`: the canonical list of its
 /// graph, and the edges that the block opened with. The marks follow from that: after each call, also one that found no memory, they
 /// stand for its graph, and marks that stand for one graph keep the same records. How much room it has is not seen, nor by which numbers
@@ -149,7 +139,11 @@ impl Replica {
         }
     }
 
-    pub(crate) fn take<L: Ledger>(&mut self, edits: &[Edit], steps: &mut Steps<L>) -> Result<(), NoMemory>
+    pub(crate) fn take<L: Ledger>(
+        &mut self,
+        edits: &[Edit],
+        steps: &mut Steps<L>,
+    ) -> Result<(), NoMemory>
         ensures taken { OnOk result (self.new ≡ with_taken edits.now self.old) }
         ensures unchanged { OnErr result (self.new ≡ self.old) }
         ensures bounded { steps.new ≤ steps.old + edits_cost self.old edits.now }
@@ -209,33 +203,6 @@ impl Replica {
         let (edits, answer) = self.plan(alloc, author, action)?;
         self.apply_all(&edits, steps)?;
         Ok((edits, answer))
-    }
-
-    /// Acts as `act` does, and answers besides which vertices are judged otherwise than before, in vertex order.
-    pub fn act_telling<L: Ledger>(
-        &mut self,
-        alloc: Global,
-        author: u32,
-        action: &Action,
-        steps: &mut Steps<L>,
-    ) -> Result<Acted, NoMemory>
-        requires author { 0 < author }
-        ensures plan { IfOk result (λ acted. IsPlan (graph self.old.edits) self.old.opening author action.now acted.edits acted.answer) }
-        ensures edits { IfOk result (λ acted. acted.edits ≡ as_edits (plan_of self.old author action.now).edits) }
-        ensures answer { IfOk result (λ acted. acted.answer ≡ (plan_of self.old author action.now).answer) }
-        ensures taken { IfOk result (λ acted. self.new ≡ with_taken acted.edits self.old) }
-        ensures changed { IfOk result (λ acted. AreChangedMarks (graph self.old.edits) (graph self.new.edits) acted.changed.items) }
-        ensures refused { (fault : ActFault) → IfOk result (λ acted. acted.answer ≡ Answer.Refused fault → (acted.edits ≡ []) × (self.new ≡ self.old)) }
-        ensures unchanged { OnErr result (self.new ≡ self.old) }
-        ensures bounded { steps.new ≤ steps.old + edits_cost self.old (as_edits (plan_of self.old author action.now).edits) }
-    {
-        let (edits, answer) = self.plan(alloc, author, action)?;
-        let changed = self.apply_all_telling(&edits, steps)?;
-        Ok(Acted {
-            edits,
-            answer,
-            changed,
-        })
     }
 
     /// The canonical list of the graph.
