@@ -25,7 +25,7 @@ use Rattle.grove_edits.specs.declared.act_fault.ActFault.TheVariants.{AmbiguousV
 use Rattle.grove_edits.specs.declared.actor.Actor.TheVariants.{Author, Send}
 use Rattle.grove_edits.specs.declared.answer.Answer.TheVariants.{Made, Taken, Refused}
 use Rattle.grove_edits.specs.declared.command.Command.TheVariants.{Act, Take}
-use Rattle.session_report.specs.Answer.{entry_line}
+use Rattle.session_report.specs.Entry.{entry_line}
 
 -- digits are the text of the number that they write
 written : (text : List ℕ) → IsNumberText text → digits_value 10 text < 2 ^ 64 → decimal (digits_value 10 text) ≡ text

@@ -1,4 +1,4 @@
-pub mod Answer
+pub mod Entry
 pub mod Journal
 pub mod Taken
 pub mod Legal

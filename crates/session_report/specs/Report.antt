@@ -11,7 +11,7 @@ use Rattle.grove_answers.specs.Texts.{IsPrintText}
 use Rattle.session_script.specs.declared.item.Item.{Item}
 use Rattle.session_script.specs.declared.item.Item.TheVariants as item
 use Rattle.session_script.specs.declared.session.Session.{Session}
-use Rattle.session_report.specs.Answer.{entry_text}
+use Rattle.session_report.specs.Entry.{entry_text}
 use Rattle.session_report.specs.Journal.{Entries}
 use Rattle.session_report.specs.Taken.{Journals, entries_at, taken}
 use Rattle.session_report.specs.Legal.{next_block, next_show}

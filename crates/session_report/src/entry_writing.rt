@@ -1,16 +1,19 @@
 ghost use Rattle.std.specs.Prelude.{◌≡◌, [], ◌∷◌, ◌++◌, OnOk, OnErr, codes, decimal};
 ghost use Rattle.edit_text.specs.Line.{spaced, Extends};
 ghost use Rattle.session_script.specs.Action.{action_line};
-ghost use Rattle.session_report.specs.Answer.{answer_parts, entry_line, entry_text};
+ghost use Rattle.answer_words.specs.Answer.{answer_parts, answer_text};
+ghost use Rattle.session_report.specs.Entry.{entry_line, entry_text};
 
-use crate::answer_writing::{append_answer, append_with_number};
-use grove_edits::{Action, Actor, Answer, Command, EditList};
+use crate::report_writing::append_with_number;
+use answer_words::write_answer;
+use grove_edits::{Action, Actor, Answer, Command};
 use session_script::write_action;
+use shared_edits::SharedEdits;
 use shared_replica::{Entry, Machine};
 use text_parts::NoMemory;
 
 /// Appends the line of an entry, with its LF.
-pub fn append_entry<M: Machine<Command = Command, Effect = EditList, Reply = Answer>>(
+pub fn append_entry<M: Machine<Command = Command, Effect = SharedEdits, Reply = Answer>>(
     entry: &Entry<M>,
     out: &mut Vec<u8>,
 ) -> Result<(), NoMemory>
@@ -50,12 +53,12 @@ fn append_act(
     answer: &Answer,
     out: &mut Vec<u8>,
 ) -> Result<(), NoMemory>
-    ensures appended { OnOk result (out.new.items ≡ out.old.items ++ (action_line author action.now ++ (codes " = " ++ spaced (answer_parts answer.now)))) }
+    ensures appended { OnOk result (out.new.items ≡ out.old.items ++ (action_line author action.now ++ (codes " = " ++ answer_text answer.now))) }
     ensures in_part { OnErr result (Extends out.old.items out.new.items) }
 {
     write_action(author, action, out)?;
     out.extend_from_slice(b" = ")?;
-    append_answer(answer, out)
+    write_answer(answer, out)
 }
 
 fn append_take(send: u32, piece: u64, answer: &Answer, out: &mut Vec<u8>) -> Result<(), NoMemory>
@@ -65,5 +68,5 @@ fn append_take(send: u32, piece: u64, answer: &Answer, out: &mut Vec<u8>) -> Res
     append_with_number(b"send ", u64::from(send), out)?;
     append_with_number(b" piece ", piece, out)?;
     out.push(b' ')?;
-    append_answer(answer, out)
+    write_answer(answer, out)
 }

@@ -2,7 +2,6 @@
 //! are legal, what a replica has taken at a point, and what the report of a session and its journals is.
 #![tactic(auto)]
 
-mod answer_writing;
 mod block_journal;
 mod entry_writing;
 mod journal_list;

@@ -1,18 +1,18 @@
 ghost use Rattle.std.specs.Prelude.{◌≡◌, [], ◌∷◌, ◌++◌, OnOk, OnErr, decimal};
 ghost use Rattle.std.specs.List.{flat_map};
 ghost use Rattle.edit_text.specs.Line.{Extends};
-ghost use Rattle.session_report.specs.Answer.{entry_text};
+ghost use Rattle.session_report.specs.Entry.{entry_text};
 ghost use Rattle.session_report.specs.Report.{block_heading, show_heading, replica_heading, journal_heading, journal_text, journals_text};
 
-use crate::answer_writing::append_with_number;
 use crate::entry_writing::append_entry;
-use grove_edits::{Answer, Command, EditList};
+use grove_edits::{Answer, Command};
 use grove_sorts::{Ident, write_ident};
+use shared_edits::SharedEdits;
 use shared_replica::{Journal, Machine};
-use text_parts::NoMemory;
+use text_parts::{NoMemory, write_number};
 
 /// Appends what is written of a block: its number, counted from 1, and the journals of the replicas with these names.
-pub fn append_block<M: Machine<Command = Command, Effect = EditList, Reply = Answer>>(
+pub fn append_block<M: Machine<Command = Command, Effect = SharedEdits, Reply = Answer>>(
     block: u64,
     names: &[Ident],
     journals: &[Journal<M>],
@@ -56,7 +56,7 @@ pub fn append_replica_heading(name: &Ident, out: &mut Vec<u8>) -> Result<(), NoM
 }
 
 // After an error a part may stand, as in the functions below.
-fn append_journals<M: Machine<Command = Command, Effect = EditList, Reply = Answer>>(
+fn append_journals<M: Machine<Command = Command, Effect = SharedEdits, Reply = Answer>>(
     block: u64,
     names: &[Ident],
     journals: &[Journal<M>],
@@ -72,7 +72,7 @@ fn append_journals<M: Machine<Command = Command, Effect = EditList, Reply = Answ
     Ok(())
 }
 
-fn append_journal<M: Machine<Command = Command, Effect = EditList, Reply = Answer>>(
+fn append_journal<M: Machine<Command = Command, Effect = SharedEdits, Reply = Answer>>(
     name: &Ident,
     journal: &Journal<M>,
     out: &mut Vec<u8>,
@@ -117,4 +117,17 @@ fn append_journal_line(name: &Ident, entries: u64, out: &mut Vec<u8>) -> Result<
     out.extend_from_slice(b"journal ")?;
     write_ident(name, out)?;
     append_number_line(b" ", entries, out)
+}
+
+pub(crate) fn append_with_number(
+    word: &[u8],
+    number: u64,
+    out: &mut Vec<u8>,
+) -> Result<(), NoMemory>
+    ensures appended { OnOk result (out.new.items ≡ out.old.items ++ (word.now ++ decimal number)) }
+    ensures in_part { OnErr result (Extends out.old.items out.new.items) }
+{
+    out.extend_from_slice(word)?;
+    write_number(number, out)?;
+    Ok(())
 }

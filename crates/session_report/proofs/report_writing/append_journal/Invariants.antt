@@ -1,6 +1,6 @@
 use Rattle.std.proofs.Common.{◌≡◌, ◌++◌, length, take}
 use Rattle.std.specs.List.{flat_map}
-use Rattle.session_report.specs.Answer.{entry_text}
+use Rattle.session_report.specs.Entry.{entry_text}
 use Rattle.session_report.specs.Report.{journal_heading}
 use Rattle.session_report.proofs.report_writing.append_journal.Given as goal
 
