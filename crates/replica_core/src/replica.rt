@@ -1,11 +1,13 @@
 ghost use Rattle.std.specs.Prelude.{◌≡◌, ◌+◌, ◌<◌, ◌≤◌, ℕ, [], ◌∷◌, ◌++◌, List, IsTrue, IfOk, OnOk, OnErr};
 ghost use Rattle.grove_edits.specs.declared.act_fault.ActFault.{ActFault};
-ghost use Rattle.grove_edits.specs.Graph.{graph, Ascends, IsCanonical};
+ghost use Rattle.grove_edits.specs.Graph.{graph, Ascends, IsCanonical, IsSame};
 ghost use Rattle.graph_words.specs.States.{state_in};
+ghost use Rattle.graph_words.specs.Whole.{AreLive};
 ghost use Rattle.live_graph.specs.Live.{live};
 ghost use Rattle.user_actions.specs.Flags.{opening_edges};
 ghost use Rattle.user_actions.specs.Plan.{IsPlan};
 ghost use Rattle.mark_incremental.specs.Standing.{StandFor};
+ghost use Rattle.mark_incremental.specs.Changed.{AreChangedMarks};
 ghost use Rattle.grove_answers.specs.Texts.{IsPrintText, IsCanonicalText};
 ghost use Rattle.replica_core.specs.Content.{IsContent, no_edits, with_taken, with_block};
 ghost use Rattle.replica_core.specs.Plain.{as_edits};
@@ -17,7 +19,7 @@ use crate::planning::planned;
 use crate::texts::append_print_text;
 use graph_words::Steps;
 use grove_answers::append_canonical_text;
-use grove_edits::{Action, Answer, Edit, EditList};
+use grove_edits::{Action, Answer, Edit, EditList, Vertex};
 use live_graph::LiveGraph;
 use mark_incremental::Marks;
 use seeded_hash::HashSeed;
@@ -26,6 +28,16 @@ use std::marker::Model;
 use std::sync::ledger::Ledger;
 use text_parts::NoMemory;
 use user_actions::{LiveView, OpeningFlags};
+
+/// What an author's action did.
+#[derive(Drop)]
+pub struct Acted {
+    /// The edits of its plan, which were taken. An action that is refused has none.
+    pub edits: EditList,
+    pub answer: Answer,
+    /// The vertices that are judged otherwise than before, in vertex order.
+    pub changed: Vec<Vertex>,
+}
 
 /// A live replica, which keeps the marks of its graph from edit to edit. Contracts see it as its `Content`: the canonical list of its
 /// graph, and the edges that the block opened with. The marks follow from that: after each call, also one that found no memory, they
@@ -125,6 +137,37 @@ impl Replica {
         self.marks.apply_all(edits, &mut self.graph, steps)
     }
 
+    /// Takes edits as `apply_all` does, and answers the vertices that are judged otherwise than before, in vertex order: those of which the
+    /// mode, the type or the mark is another, which came or went, and those that became the root of a cycle or ceased to be one.
+    pub fn apply_all_telling<L: Ledger>(
+        &mut self,
+        edits: &EditList,
+        steps: &mut Steps<L>,
+    ) -> Result<Vec<Vertex>, NoMemory>
+        ensures taken { OnOk result (self.new ≡ with_taken edits.now self.old) }
+        ensures changed { IfOk result (λ changed. AreChangedMarks (graph self.old.edits) (graph self.new.edits) changed.items) }
+        ensures unchanged { OnErr result (self.new ≡ self.old) }
+        ensures bounded { steps.new ≤ steps.old + edits_cost self.old edits.now }
+    {
+        self.marks
+            .apply_all_telling(edits.as_slice(), &mut self.graph, steps)
+    }
+
+    /// The edits of an author's action on the graph and what is answered, of which none is taken. An action that is refused has no edits.
+    pub fn plan(
+        &self,
+        alloc: Global,
+        author: u32,
+        action: &Action,
+    ) -> Result<(EditList, Answer), NoMemory>
+        requires author { 0 < author }
+        ensures plan { IfOk result (λ made. IsPlan (graph self.now.edits) self.now.opening author action.now made.0 made.1) }
+        ensures edits { IfOk result (λ made. made.0 ≡ as_edits (plan_of self.now author action.now).edits) }
+        ensures answer { IfOk result (λ made. made.1 ≡ (plan_of self.now author action.now).answer) }
+    {
+        planned(alloc, &self.view(), author, action)
+    }
+
     /// Plans an author's action on the graph, and takes the edits of the plan. It answers them, and what the plan answers. An action that
     /// is refused has no edits.
     pub fn act<L: Ledger>(
@@ -143,9 +186,36 @@ impl Replica {
         ensures unchanged { OnErr result (self.new ≡ self.old) }
         ensures bounded { steps.new ≤ steps.old + edits_cost self.old (as_edits (plan_of self.old author action.now).edits) }
     {
-        let (edits, answer) = planned(alloc, &self.view(), author, action)?;
+        let (edits, answer) = self.plan(alloc, author, action)?;
         self.apply_all(&edits, steps)?;
         Ok((edits, answer))
+    }
+
+    /// Acts as `act` does, and answers besides which vertices are judged otherwise than before, in vertex order.
+    pub fn act_telling<L: Ledger>(
+        &mut self,
+        alloc: Global,
+        author: u32,
+        action: &Action,
+        steps: &mut Steps<L>,
+    ) -> Result<Acted, NoMemory>
+        requires author { 0 < author }
+        ensures plan { IfOk result (λ acted. IsPlan (graph self.old.edits) self.old.opening author action.now acted.edits acted.answer) }
+        ensures edits { IfOk result (λ acted. acted.edits ≡ as_edits (plan_of self.old author action.now).edits) }
+        ensures answer { IfOk result (λ acted. acted.answer ≡ (plan_of self.old author action.now).answer) }
+        ensures taken { IfOk result (λ acted. self.new ≡ with_taken acted.edits self.old) }
+        ensures changed { IfOk result (λ acted. AreChangedMarks (graph self.old.edits) (graph self.new.edits) acted.changed.items) }
+        ensures refused { (fault : ActFault) → IfOk result (λ acted. acted.answer ≡ Answer.Refused fault → (acted.edits ≡ []) × (self.new ≡ self.old)) }
+        ensures unchanged { OnErr result (self.new ≡ self.old) }
+        ensures bounded { steps.new ≤ steps.old + edits_cost self.old (as_edits (plan_of self.old author action.now).edits) }
+    {
+        let (edits, answer) = self.plan(alloc, author, action)?;
+        let changed = self.apply_all_telling(&edits, steps)?;
+        Ok(Acted {
+            edits,
+            answer,
+            changed,
+        })
     }
 
     /// The canonical list of the graph.
@@ -191,6 +261,16 @@ impl Replica {
         ensures { StandFor (graph self.now.edits) result.now }
     {
         &self.marks
+    }
+
+    /// The graph, lent to what reads live graphs, as undoing does. Its states are those of the canonical list, and so are its live edges.
+    pub fn graph(&self) -> &LiveGraph
+        ensures states { IsSame (state_in result.now) (graph self.now.edits) }
+        ensures live { AreLive (graph self.now.edits) (live result.now) }
+    {
+        // The live edges are those whose state is Live.
+        let _edges = self.graph.edge_count();
+        &self.graph
     }
 
     /// What plans read.
