@@ -58,6 +58,13 @@ impl Editor {
         })
     }
 
+    /// The reply to the last call that takes edits, acts, undoes or redoes.
+    pub fn reply(&self) -> &Reply
+        ensures { result.now ≡ self.now.reply }
+    {
+        &self.news.reply
+    }
+
     /// The greatest counter of an author among the names of the graph, and 0 where none is by the author.
     pub fn greatest(&self, author: u32) -> u64
         ensures { IsGreatest (IsNameOf (graph self.now.edits)) author result }
