@@ -1,0 +1,6 @@
+pub mod States
+pub mod Known
+pub mod OwnBlocks
+pub mod Turns
+pub mod EditTexts
+pub mod RecordLines

@@ -38,8 +38,8 @@ pub record IsNotUndone (now : Graph) (author : ℕ) (change : Change) (fault : U
 
 -- an author's last action that was not undone is undone, or is refused to be, or there is none
 pub data HasUndone (author : ℕ) (old new : State) : Type 0 where
-  nothing : HasNoneBy author old.done → new ≡ replied NothingToTurn old → HasUndone author old new
-  refused : (index : ℕ) (last : IsLastBy author old.done index) (fault : UndoFault) → fault ≢ undo.NoMemory → IsNotUndone (graph old.edits) author last.deed.change fault
+  nothing_done : HasNoneBy author old.done → new ≡ replied NothingToTurn old → HasUndone author old new
+  not_undone : (index : ℕ) (last : IsLastBy author old.done index) (fault : UndoFault) → fault ≢ undo.NoMemory → IsNotUndone (graph old.edits) author last.deed.change fault
       → new ≡ replied (NotTurned fault) old → HasUndone author old new
   undone : (index : ℕ) (last : IsLastBy author old.done index) (edits : List Edit) (back : Change) (changed : List Vertex) → IsUndoneBy (graph old.edits) author last.deed.change edits back
       → AreChangedMarks (graph old.edits) (graph (with_edits edits old.edits)) changed
@@ -48,8 +48,8 @@ pub data HasUndone (author : ℕ) (old new : State) : Type 0 where
 
 -- what an author undid last is done again: it is undone in its turn, and what that changes stands behind what was done
 pub data HasRedone (author : ℕ) (old new : State) : Type 0 where
-  nothing : HasNoneBy author old.undone → new ≡ replied NothingToTurn old → HasRedone author old new
-  refused : (index : ℕ) (last : IsLastBy author old.undone index) (fault : UndoFault) → fault ≢ undo.NoMemory → IsNotUndone (graph old.edits) author last.deed.change fault
+  nothing_undone : HasNoneBy author old.undone → new ≡ replied NothingToTurn old → HasRedone author old new
+  not_redone : (index : ℕ) (last : IsLastBy author old.undone index) (fault : UndoFault) → fault ≢ undo.NoMemory → IsNotUndone (graph old.edits) author last.deed.change fault
       → new ≡ replied (NotTurned fault) old → HasRedone author old new
   redone : (index : ℕ) (last : IsLastBy author old.undone index) (edits : List Edit) (back : Change) (changed : List Vertex) → IsUndoneBy (graph old.edits) author last.deed.change edits back
       → AreChangedMarks (graph old.edits) (graph (with_edits edits old.edits)) changed

@@ -10,6 +10,7 @@ mod deed;
 mod doing;
 mod editor;
 mod edits;
+mod last_deed;
 mod laws;
 mod news;
 mod reading;

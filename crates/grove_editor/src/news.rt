@@ -1,6 +1,9 @@
 ghost use Rattle.std.specs.Prelude.{◌≡◌, []};
+ghost use Rattle.grove_editor.specs.News.{IsNewsOf};
 
 use crate::reply::Reply;
+use crate::turn::Turn;
+use crate::turning::Turned;
 use grove_edits::{EditList, Vertex};
 use std::alloc::Global;
 
@@ -25,6 +28,24 @@ impl News {
             reply,
             made: EditList::new(alloc),
             changed: Vec::new(alloc),
+        }
+    }
+
+    /// What undoing or redoing came to.
+    pub(crate) fn of(alloc: Global, turn: Turn, turned: Turned) -> News
+        ensures { IsNewsOf turn turned result }
+    {
+        match turned {
+            Turned::Nothing => News::told(alloc, Reply::NothingToTurn),
+            Turned::Refused(fault) => News::told(alloc, Reply::NotTurned(fault)),
+            Turned::Made { edits, changed } => {
+                let reply = turn.reply(edits.len() as u64);
+                News {
+                    reply,
+                    made: edits,
+                    changed,
+                }
+            }
         }
     }
 }

@@ -1,11 +1,12 @@
-ghost use Rattle.std.specs.Prelude.{◌≡◌, ◌<◌, IfOk, OnErr};
+ghost use Rattle.std.specs.Prelude.{◌≡◌, ◌≢◌, ◌<◌, IfOk, OnOk, OnErr};
 ghost use Rattle.std.specs.List.{All};
+ghost use Rattle.grove_undo.specs.declared.undo_fault.UndoFault.TheVariants.{NoMemory as no_memory};
 ghost use Rattle.grove_editor.specs.Deeds.{IsKnown};
 ghost use Rattle.grove_editor.specs.Turned.{HasTurned};
 
 use crate::deed::Deed;
+use crate::last_deed::{last_by, undoing_of};
 use crate::replica_calls::take;
-use crate::turn::{last_by, undoing_of};
 use grove_edits::{EditList, Vertex};
 use grove_undo::UndoFault;
 use replica_core::Replica;
@@ -43,14 +44,25 @@ pub(crate) fn turn_last(
     let Some(index) = last_by(deeds, author) else {
         return Ok(Turned::Nothing);
     };
-    let (edits, change) = match undoing_of(alloc, replica, author, &deeds[index].change) {
-        Ok(undoing) => undoing,
-        Err(UndoFault::NoMemory) => return Err(NoMemory),
-        Err(fault) => return Ok(Turned::Refused(fault)),
-    };
-    others.reserve(1)?;
-    let changed = take(replica, &edits)?;
-    let _deed = deeds.remove(index);
-    others.push_reserved(Deed { author, change });
-    Ok(Turned::Made { edits, changed })
+    match undoing_of(alloc, replica, author, &deeds[index].change) {
+        Ok((edits, change)) => {
+            others.reserve(1)?;
+            let changed = take(replica, &edits)?;
+            let _deed = deeds.remove(index);
+            others.push_reserved(Deed { author, change });
+            Ok(Turned::Made { edits, changed })
+        }
+        Err(fault) => refused(fault),
+    }
+}
+
+// Want of memory is no refusal.
+fn refused(fault: UndoFault) -> Result<Turned, NoMemory>
+    ensures refused { IfOk result (λ turned. turned ≡ Turned.Refused fault) }
+    ensures known { OnOk result (fault ≢ no_memory) }
+{
+    match fault {
+        UndoFault::Touched { .. } | UndoFault::NamesSpent { .. } => Ok(Turned::Refused(fault)),
+        UndoFault::NoMemory => Err(NoMemory),
+    }
 }

@@ -6,8 +6,8 @@ use crate::author_fault::AuthorFault;
 use crate::authors::author_of;
 use crate::editor::Editor;
 use crate::news::News;
-use crate::reply::Reply;
-use crate::turning::{Turned, turn_last};
+use crate::turn::Turn;
+use crate::turning::turn_last;
 use text_parts::NoMemory;
 
 impl Editor {
@@ -50,18 +50,7 @@ impl Editor {
             &mut self.undone,
             author,
         )?;
-        self.news = match turned {
-            Turned::Nothing => News::told(self.alloc, Reply::NothingToTurn),
-            Turned::Refused(fault) => News::told(self.alloc, Reply::NotTurned(fault)),
-            Turned::Made { edits, changed } => {
-                let count = edits.len() as u64;
-                News {
-                    reply: Reply::Undone { edits: count },
-                    made: edits,
-                    changed,
-                }
-            }
-        };
+        self.news = News::of(self.alloc, Turn::Undo, turned);
         Ok(())
     }
 
@@ -77,18 +66,7 @@ impl Editor {
             &mut self.done,
             author,
         )?;
-        self.news = match turned {
-            Turned::Nothing => News::told(self.alloc, Reply::NothingToTurn),
-            Turned::Refused(fault) => News::told(self.alloc, Reply::NotTurned(fault)),
-            Turned::Made { edits, changed } => {
-                let count = edits.len() as u64;
-                News {
-                    reply: Reply::Redone { edits: count },
-                    made: edits,
-                    changed,
-                }
-            }
-        };
+        self.news = News::of(self.alloc, Turn::Redo, turned);
         Ok(())
     }
 }

@@ -12,7 +12,7 @@ use crate::members::{
 };
 use grove_edits::Vertex;
 use grove_printer::mark_word;
-use grove_sorts::Sort;
+use grove_sorts::{Sort, sort_of};
 use grove_terms::LentNode;
 use mark_step::Mark;
 use marking::Added;
@@ -32,7 +32,7 @@ pub fn append_record(
         ++ compact_text (record_value vertex.now (option_map (wanted_at types.old) added.now.mode) (option_map (type_at types.old) added.now.typ) added.now.mark)) }
     ensures same_types { types.new ≡ types.old }
 {
-    append_judgement(vertex.ctor.sort(), added, types, out)?;
+    append_judgement(sort_of(&vertex.ctor), added, types, out)?;
     append_own(vertex, out)
 }
 
