@@ -3,4 +3,5 @@ pub mod Known
 pub mod OwnBlocks
 pub mod Turns
 pub mod EditTexts
+pub mod TextLines
 pub mod RecordLines

@@ -26,6 +26,8 @@ fn fault_of_text(version: Version, text: &[u8], fault: TextFault) -> TextFault
     requires { (lines : List ℕ) × HasVersion text.now version lines × HasTextFault version lines fault }
     ensures { HasWholeFault text.now result }
 {
+    // No line has a greater number than the text has bytes.
+    let _bytes = text.len();
     let before = header_lines(version);
     match fault {
         TextFault::Malformed { line, fault } => TextFault::Malformed {

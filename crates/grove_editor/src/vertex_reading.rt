@@ -15,9 +15,11 @@ pub(crate) fn read_vertex(text: &[u8]) -> Option<Vertex>
     ensures none { IfNone result ((vertex : Vertex) → NameInRange vertex.name → CtorInRange vertex.ctor → text.now ≢ vertex_text vertex) }
 {
     let (part, rest) = split_at_first(text, b' ')?;
-    let Ok(name) = read_name(part) else {
-        return None;
-    };
-    let ctor = read_ctor(Version::Two, rest)?;
-    Some(Vertex { name, ctor })
+    match read_name(part) {
+        Ok(name) => {
+            let ctor = read_ctor(Version::Two, rest)?;
+            Some(Vertex { name, ctor })
+        }
+        Err(_) => None,
+    }
 }
