@@ -24,9 +24,13 @@ pub(crate) fn undoing_of(
     ensures refused { IfErr result (IsNotUndone (graph replica.now.edits) author change.now) }
 {
     let graph = replica.graph();
-    let edits = undo(alloc, graph, author, change)?;
-    let back = change_in(alloc, graph, edits.as_slice())?;
-    Ok((edits, back))
+    match undo(alloc, graph, author, change) {
+        Ok(edits) => {
+            let back = change_in(alloc, graph, edits.as_slice())?;
+            Ok((edits, back))
+        }
+        Err(fault) => Err(fault),
+    }
 }
 
 /// The index of an author's last deed.

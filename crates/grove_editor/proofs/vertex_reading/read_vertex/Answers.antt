@@ -20,7 +20,9 @@ returns-in-Err-clause-none c = λ v r s e.
     let parts = first_part 32 c.in_ok-part.part.now (name_text v.name) c.in_ok-part.rest.now (ctor_text v.ctor) c.in_ok-part.ensures.first (no_space_in_name v.name r) (sym c.in_ok-part.ensures.parts ∙ e) in
     absurd (c.in-Err.ensures.not_a_name.0 refl v.name r parts.0)
 
-pub returns-in_err-ctor-clause-none : goal.returns-in_err-ctor-clause-none
-returns-in_err-ctor-clause-none c = holds_at_none c.from_residual-in_err-ctor.result _ (λ v r s e.
+pub returns-in_err-ctor-in-Ok-clause-none : goal.returns-in_err-ctor-in-Ok-clause-none
+returns-in_err-ctor-in-Ok-clause-none c =
+    holds_at_none c.from_residual-in_err-ctor-in-Ok.result _
+    (λ v r s e.
     let parts = first_part 32 c.in_ok-part.part.now (name_text v.name) c.in_ok-part.rest.now (ctor_text v.ctor) c.in_ok-part.ensures.first (no_space_in_name v.name r) (sym c.in_ok-part.ensures.parts ∙ e) in
-    c.in_err-ctor.ensures.none v.ctor s refl parts.1)
+    c.in_err-ctor-in-Ok.ensures.none v.ctor s refl parts.1)
