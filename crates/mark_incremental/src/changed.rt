@@ -99,6 +99,13 @@ fn hold_old(before: &mut Before, old: &OldRecords) -> Result<(), NoMemory>
     Ok(())
 }
 
+// Whether two records have the same mode, type and mark.
+fn is_same_judgement(old: &Record, new: &Record) -> bool
+    ensures { IsTrue result ↔ ((old.now.mode ≡ new.now.mode) × (old.now.typ ≡ new.now.typ) × (old.now.mark ≡ new.now.mark)) }
+{
+    old.mode == new.mode && old.typ == new.typ && old.mark == new.mark
+}
+
 // Puts vertices in order, and each there once.
 fn sort_vertices(vertices: &mut Vec<Vertex>)
     ensures in_order { IsInVertexOrder vertices.new.items }
@@ -116,10 +123,10 @@ impl Marks {
             → IfOk result (WereBefore was.marks self.now) }
     {
         let mut before = Before::with_seed(self.alloc, self.seed);
-        let mut left = receipts;
-        while let Some((last, earlier)) = left.split_last() {
-            hold_old(&mut before, &last.applied.old)?;
-            left = earlier;
+        let mut left = receipts.len();
+        while left > 0 {
+            left -= 1;
+            hold_old(&mut before, &receipts[left].applied.old)?;
         }
         Ok(before)
     }
@@ -130,25 +137,27 @@ impl Marks {
             → IsTrue result ↔ (option_map (judgement_by self.now) old ≡ option_map (judgement_by self.now) new) }
     {
         self.types.numbers_are_distinct();
+        self.contexts.numbers_are_distinct();
         match (old, new) {
-            (Some(old), Some(new)) => {
-                old.mode == new.mode && old.typ == new.typ && old.mark == new.mark
-            }
+            (Some(old), Some(new)) => is_same_judgement(&old, &new),
             (None, None) => true,
             (Some(_), None) | (None, Some(_)) => false,
         }
     }
 
-    // Whether a vertex is judged otherwise than it was.
-    fn is_changed(&self, before: &Before, vertex: &Vertex) -> bool
+    // Whether a vertex is judged as it was, and is the root of a cycle as it was.
+    fn is_unchanged(&self, before: &Before, vertex: &Vertex) -> bool
         ensures { (was : KeptMarks) → WereBefore was self.now before.now
-            → IsTrue result ↔ (IsJudgedAlike (records_in was) (records_in self.now) (holds was.roots) (holds self.now.roots) vertex.now → ⊥) }
+            → IsTrue result ↔ IsJudgedAlike (records_in was) (records_in self.now) (holds was.roots) (holds self.now.roots) vertex.now }
     {
-        let record = self.records.get(vertex);
         let is_root = holds(&self.roots, vertex);
-        let had = before.records.get(vertex).unwrap_or(record);
         let was_root = before.roots.get(vertex).unwrap_or(is_root);
-        was_root != is_root || !self.are_alike(had, record)
+        if was_root != is_root {
+            return false;
+        }
+        let record = self.records.get(vertex);
+        let had = before.records.get(vertex).unwrap_or(record);
+        self.are_alike(had, record)
     }
 
     // Those of the vertices of some receipts that are judged otherwise than they were, in the order in which they stand there.
@@ -159,7 +168,7 @@ impl Marks {
     {
         let mut changed = Vec::new(self.alloc);
         for vertex in &before.vertices {
-            if self.is_changed(before, vertex) {
+            if !self.is_unchanged(before, vertex) {
                 changed.push(*vertex)?;
             }
         }

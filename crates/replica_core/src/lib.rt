@@ -15,6 +15,6 @@ pub use laws::{
     what_is_kept_follows_from_the_edits,
 };
 pub use planning::{due, planned};
-pub use replica::{Acted, Replica};
+pub use replica::Replica;
 pub use text_parts::NoMemory;
 pub use texts::append_print_text;

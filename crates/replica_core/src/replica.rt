@@ -19,25 +19,16 @@ use crate::planning::planned;
 use crate::texts::append_print_text;
 use graph_words::Steps;
 use grove_answers::append_canonical_text;
-use grove_edits::{Action, Answer, Edit, EditList, Vertex};
+use grove_edits::{Action, Answer, Command, Edit, EditList, Vertex};
 use live_graph::LiveGraph;
 use mark_incremental::Marks;
 use seeded_hash::HashSeed;
+use shared_edits::{CutEffects, SharedEdits};
 use std::alloc::Global;
 use std::marker::Model;
 use std::sync::ledger::Ledger;
 use text_parts::NoMemory;
 use user_actions::{LiveView, OpeningFlags};
-
-/// What an author's action did.
-#[derive(Drop)]
-pub struct Acted {
-    /// The edits of its plan, which were taken. An action that is refused has none.
-    pub edits: EditList,
-    pub answer: Answer,
-    /// The vertices that are judged otherwise than before, in vertex order.
-    pub changed: Vec<Vertex>,
-}
 
 /// A live replica, which keeps the marks of its graph from edit to edit. Contracts see it as its `Content`: the canonical list of its
 /// graph, and the edges that the block opened with. The marks follow from that: after each call, also one that found no memory, they
@@ -49,6 +40,8 @@ pub struct Replica {
     // Which edges were not Absent as the block opened.
     opening: OpeningFlags,
     marks: Marks,
+    // What cuts deleted, so that cuts that delete the same share it. Contracts do not see it.
+    cuts: CutEffects,
 }
 
 impl Model for Replica {
@@ -81,15 +74,16 @@ impl Replica {
             graph,
             opening,
             marks,
+            cuts: CutEffects::new(alloc),
         })
     }
 
     /// Opens a block: the opening edges are now those that are not Absent. The graph stays.
-    pub fn begin_block(&mut self, alloc: Global) -> Result<(), NoMemory>
+    pub fn begin_block(&mut self, _alloc: Global) -> Result<(), NoMemory>
         ensures opened { OnOk result (self.new ≡ with_block self.old) }
         ensures unchanged { OnErr result (self.new ≡ self.old) }
     {
-        self.opening = OpeningFlags::of(alloc, &self.graph)?;
+        self.opening.renew(&self.graph)?;
         Ok(())
     }
 
@@ -129,7 +123,27 @@ impl Replica {
         self.take(edits.as_slice(), steps)
     }
 
-    fn take<L: Ledger>(&mut self, edits: &[Edit], steps: &mut Steps<L>) -> Result<(), NoMemory>
+    /// The edits of a step, which an entry of a journal may share with an earlier one.
+    pub(crate) fn shared(
+        &mut self,
+        alloc: Global,
+        command: &Command,
+        edits: EditList,
+    ) -> Result<SharedEdits, NoMemory>
+        ensures edits { IfOk result (λ shared. shared ≡ edits) }
+        ensures unchanged { self.new ≡ self.old }
+    {
+        match command {
+            Command::Act(Action::Cut { edge }) => self.cuts.of_cut(alloc, *edge, edits),
+            _ => SharedEdits::new(alloc, edits),
+        }
+    }
+
+    pub(crate) fn take<L: Ledger>(
+        &mut self,
+        edits: &[Edit],
+        steps: &mut Steps<L>,
+    ) -> Result<(), NoMemory>
         ensures taken { OnOk result (self.new ≡ with_taken edits.now self.old) }
         ensures unchanged { OnErr result (self.new ≡ self.old) }
         ensures bounded { steps.new ≤ steps.old + edits_cost self.old edits.now }
@@ -149,8 +163,20 @@ impl Replica {
         ensures unchanged { OnErr result (self.new ≡ self.old) }
         ensures bounded { steps.new ≤ steps.old + edits_cost self.old edits.now }
     {
-        self.marks
-            .apply_all_telling(edits.as_slice(), &mut self.graph, steps)
+        self.take_telling(edits.as_slice(), steps)
+    }
+
+    fn take_telling<L: Ledger>(
+        &mut self,
+        edits: &[Edit],
+        steps: &mut Steps<L>,
+    ) -> Result<Vec<Vertex>, NoMemory>
+        ensures taken { OnOk result (self.new ≡ with_taken edits.now self.old) }
+        ensures changed { IfOk result (λ changed. AreChangedMarks (graph self.old.edits) (graph self.new.edits) changed.items) }
+        ensures unchanged { OnErr result (self.new ≡ self.old) }
+        ensures bounded { steps.new ≤ steps.old + edits_cost self.old edits.now }
+    {
+        self.marks.apply_all_telling(edits, &mut self.graph, steps)
     }
 
     /// The edits of an author's action on the graph and what is answered, of which none is taken. An action that is refused has no edits.
@@ -189,33 +215,6 @@ impl Replica {
         let (edits, answer) = self.plan(alloc, author, action)?;
         self.apply_all(&edits, steps)?;
         Ok((edits, answer))
-    }
-
-    /// Acts as `act` does, and answers besides which vertices are judged otherwise than before, in vertex order.
-    pub fn act_telling<L: Ledger>(
-        &mut self,
-        alloc: Global,
-        author: u32,
-        action: &Action,
-        steps: &mut Steps<L>,
-    ) -> Result<Acted, NoMemory>
-        requires author { 0 < author }
-        ensures plan { IfOk result (λ acted. IsPlan (graph self.old.edits) self.old.opening author action.now acted.edits acted.answer) }
-        ensures edits { IfOk result (λ acted. acted.edits ≡ as_edits (plan_of self.old author action.now).edits) }
-        ensures answer { IfOk result (λ acted. acted.answer ≡ (plan_of self.old author action.now).answer) }
-        ensures taken { IfOk result (λ acted. self.new ≡ with_taken acted.edits self.old) }
-        ensures changed { IfOk result (λ acted. AreChangedMarks (graph self.old.edits) (graph self.new.edits) acted.changed.items) }
-        ensures refused { (fault : ActFault) → IfOk result (λ acted. acted.answer ≡ Answer.Refused fault → (acted.edits ≡ []) × (self.new ≡ self.old)) }
-        ensures unchanged { OnErr result (self.new ≡ self.old) }
-        ensures bounded { steps.new ≤ steps.old + edits_cost self.old (as_edits (plan_of self.old author action.now).edits) }
-    {
-        let (edits, answer) = self.plan(alloc, author, action)?;
-        let changed = self.apply_all_telling(&edits, steps)?;
-        Ok(Acted {
-            edits,
-            answer,
-            changed,
-        })
     }
 
     /// The canonical list of the graph.

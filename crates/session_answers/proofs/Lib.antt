@@ -11,6 +11,7 @@ pub mod Summed
 pub mod OneActor
 pub mod OneCourse
 pub mod GeneratedAlone
+pub mod Listed
 pub mod OnBoards
 pub mod Raised
 pub mod OneSize

@@ -1,5 +1,5 @@
 -- Cuts at the boards of a block: they are as the block needs them, and their seats come back whole.
-use Rattle.std.proofs.Common.{◌≡◌, ◌⊎◌, inl, inr, ℕ, zero, suc, ◌+◌, ◌<◌, List, [], ◌∷◌, ◌++◌, length, map, take, get_or, slice_get, Option, Some, None, refl, sym, ap, ap₂, subst, ◌∙◌, arith, length-append, append_assoc, append-nil}
+use Rattle.std.proofs.Common.{◌≡◌, ◌⊎◌, inl, inr, Bool, true, false, ℕ, zero, suc, ◌+◌, ◌<◌, List, [], ◌∷◌, ◌++◌, length, map, take, get_or, slice_get, Option, Some, None, refl, sym, ap, ap₂, subst, ◌∙◌, arith, length-append, append_assoc, append-nil}
 use Rattle.std.specs.Option.{option_map}
 use Rattle.std.specs.List.{AllByRecursion, AllZip}
 use Rattle.std.proofs.lemmas.List.{map-append, take_more, length-map}
@@ -18,8 +18,11 @@ use Rattle.session_run.specs.Calls.{Stage}
 use Rattle.session_script.specs.declared.item.Block.{Block}
 use Rattle.session_script.specs.declared.session.Session.{Session}
 use Rattle.session_run.specs.Boards.{CanCutAt, slots_at}
-use Rattle.session_answers.specs.Running.{stage_of}
-use Rattle.session_answers.specs.Boards.{states_of, parts_at, IsBoardFor, AreBoards, board_of, IsWholeSeat, held_by, all_held, IsHeld, AreHeld}
+use Rattle.replica_core.specs.Content.{Content}
+use Rattle.session_answers.specs.Running.{stage_of, sources_of}
+use Rattle.session_answers.specs.Boards.{states_of, parts_at, IsBoardFor, AreBoards, cut_from, all_cut_from, board_of, IsWholeSeat, held_by, all_held, IsHeld, AreHeld}
+use Rattle.session_answers.specs.Opened.{sends_from, cuts_at, asks_of, listed, all_listed}
+use Rattle.session_answers.proofs.Listed.{listed_if_cut, length-all_listed, listed_at, no_slots_without_cut, no_slots_without_edges}
 
 -- ---- lists, place by place
 
@@ -72,47 +75,62 @@ mapped_more f xs new y zs k m n z are place next is own within there =
     ap (map f) is ∙ map-append f xs (y ∷ []) ∙ ap (λ us. us ++ f y ∷ []) are ∙ ap (λ u. take k zs ++ u ∷ []) (own ∙ there ∙ ap (λ j. get_or zs j z) (sym place))
     ∙ sym (take_more zs k z (omega arith)) ∙ ap (λ j. take j zs) (sym next)
 
+pub found_at : {A : Type 0} (xs : List A) (k : ℕ) → k < length xs → (x : A) × (slice_get xs k ≡ Some x)
+found_at [] k within = absurd (omega arith)
+found_at (x ∷ xs) zero within = (x, refl)
+found_at (x ∷ xs) (suc k) within = found_at xs k (omega arith)
+
 -- ---- before the block
 
-module _ (authors : List Declared) (lines : List Line) (sources : List (List Edit)) where
+module _ (authors : List Declared) (lines : List Line) (lists : List (List Edit)) where
   -- the boards of the replicas so far
   abbrev pub AreBoardsOf : List (Option BoardOf) → Type 0
-  AreBoardsOf boards = (k : ℕ) (opening : List Edit) (board : Option BoardOf) → slice_get sources k ≡ Some opening → slice_get boards k ≡ Some board → IsBoardFor opening (parts_at authors lines k) board
+  AreBoardsOf boards = (k : ℕ) (opening : List Edit) (board : Option BoardOf) → slice_get lists k ≡ Some opening → slice_get boards k ≡ Some board
+      → IsBoardFor (cuts_at authors lines k) opening (parts_at authors lines k) board
 
-  pub board_more : (boards new : List (Option BoardOf)) (replica : ℕ) (own : List Edit) (last : Option BoardOf) → length boards ≡ replica → slice_get sources replica ≡ Some own
-      → IsBoardFor own (parts_at authors lines replica) last → new ≡ boards ++ last ∷ [] → AreBoardsOf boards → AreBoardsOf new
+  pub board_more : (boards new : List (Option BoardOf)) (replica : ℕ) (own : List Edit) (last : Option BoardOf) → length boards ≡ replica → slice_get lists replica ≡ Some own
+      → IsBoardFor (cuts_at authors lines replica) own (parts_at authors lines replica) last → new ≡ boards ++ last ∷ [] → AreBoardsOf boards → AreBoardsOf new
   board_more boards new replica own last long is_own for is before k opening board is_opening is_board =
       at (found_with boards last k board (ap (λ bs. slice_get bs k) (sym is) ∙ is_board)) where
-        at : (slice_get boards k ≡ Some board) ⊎ ((k ≡ length boards) × (last ≡ board)) → IsBoardFor opening (parts_at authors lines k) board
+        at : (slice_get boards k ≡ Some board) ⊎ ((k ≡ length boards) × (last ≡ board)) → IsBoardFor (cuts_at authors lines k) opening (parts_at authors lines k) board
         at (inl earlier) = before k opening board is_opening earlier
         at (inr here) =
             let same : replica ≡ k = sym long ∙ sym here.0 in
-            let edits : own ≡ opening = same_Some own opening (sym is_own ∙ ap (slice_get sources) same ∙ is_opening) in
-            subst (λ b. IsBoardFor opening (parts_at authors lines k) b) here.1
-            (subst (λ es. IsBoardFor es (parts_at authors lines k) last) edits (subst (λ n. IsBoardFor own (parts_at authors lines n) last) same for))
+            let edits : own ≡ opening = same_Some own opening (sym is_own ∙ ap (slice_get lists) same ∙ is_opening) in
+            subst (λ b. IsBoardFor (cuts_at authors lines k) opening (parts_at authors lines k) b) here.1
+            (subst (λ es. IsBoardFor (cuts_at authors lines k) es (parts_at authors lines k) last) edits
+            (subst (λ n. IsBoardFor (cuts_at authors lines n) own (parts_at authors lines n) last) same for))
 
--- where there is no board, the replica opened with no edits
-pub empty_without : (opening : List Edit) (parts : ℕ) (board : Option BoardOf) → IsBoardFor opening parts board → board ≡ None → opening ≡ []
-empty_without opening parts None for none = for
-empty_without opening parts (Some board) for none = absurd cc
+-- what cuts are made on at a place
+pub cut_from_at : (lists : List (List Edit)) (boards : List (Option BoardOf)) (k : ℕ) (opening : List Edit) (board : Option BoardOf) → slice_get lists k ≡ Some opening → slice_get boards k ≡ Some board
+    → slice_get (all_cut_from lists boards) k ≡ Some (cut_from opening board)
+cut_from_at [] boards k opening board is is' = absurd (none-some opening is)
+cut_from_at (o ∷ lists) [] k opening board is is' = absurd (none-some board is')
+cut_from_at (o ∷ lists) (b ∷ boards) zero opening board is is' = ap₂ (λ x y. Some (cut_from x y)) (same_Some o opening is) (same_Some b board is')
+cut_from_at (o ∷ lists) (b ∷ boards) (suc k) opening board is is' = cut_from_at lists boards k opening board is is'
 
-pub all_empty_without : (authors : List Declared) (lines : List Line) (sources : List (List Edit)) (boards lent : List (Option BoardOf)) → lent ≡ boards → AreBoards authors lines sources boards
-    → AllZip (λ opening board. board ≡ None → opening ≡ []) sources lent
-all_empty_without authors lines sources boards lent same are =
-    all_zipped (λ (opening : List Edit) (board : Option BoardOf). board ≡ None → opening ≡ []) sources lent (ap (λ (bs : List (Option BoardOf)). length bs) same ∙ are.as_many)
-    (λ k opening board is_opening is_board. empty_without opening (parts_at authors lines k) board
-    (are.each k opening board is_opening (ap (λ (bs : List (Option BoardOf)). slice_get bs k) (sym same) ∙ is_board)))
+pub length-all_cut_from : (lists : List (List Edit)) (boards : List (Option BoardOf)) → length boards ≡ length lists → length (all_cut_from lists boards) ≡ length lists
+length-all_cut_from [] boards long = refl
+length-all_cut_from (o ∷ lists) [] long = absurd (omega arith)
+length-all_cut_from (o ∷ lists) (b ∷ boards) long = ap (λ n. suc n) (length-all_cut_from lists boards (omega arith))
 
-can_cut_at : (stage : Stage) (own : Cuts) → slice_get stage.sources stage.replica ≡ Some (opening_edits own) → Ascends (opening_edits own)
-    → IsBoardFor (opening_edits own) (parts_at stage.authors stage.lines stage.replica) (board_of own) → seat_of own ≡ option_map first_board_seat (board_of own) → CanCutAt stage own
-can_cut_at stage Empty opens up for first = record { opening = opens; can_raise = tt; parts = tt }
-can_cut_at stage (On opening board seat) opens up for first =
+-- the same, as it is read
+pub cut_from_read : (lists : List (List Edit)) (boards : List (Option BoardOf)) (k : ℕ) (opening : List Edit) (board : Option BoardOf) → k < length lists → k < length boards
+    → slice_get lists k ≡ Some opening → slice_get boards k ≡ Some board → cut_from opening board ≡ get_or (all_cut_from lists boards) k (cut_from opening board)
+cut_from_read [] boards k opening board within within' is is' = absurd (omega arith)
+cut_from_read (o ∷ lists) [] k opening board within within' is is' = absurd (omega arith)
+cut_from_read (o ∷ lists) (b ∷ boards) zero opening board within within' is is' = sym (ap₂ cut_from (same_Some o opening is) (same_Some b board is'))
+cut_from_read (o ∷ lists) (b ∷ boards) (suc k) opening board within within' is is' = cut_from_read lists boards k opening board (omega arith) (omega arith) is is'
+
+can_cut_at : (stage : Stage) (own : Cuts) (list : List Edit) → opening_edits own ≡ cut_from list (board_of own) → Ascends list
+    → IsBoardFor (cuts_at stage.authors stage.lines stage.replica) list (parts_at stage.authors stage.lines stage.replica) (board_of own) → seat_of own ≡ option_map first_board_seat (board_of own) → CanCutAt stage own
+can_cut_at stage Empty list opens up for first = record { can_raise = tt; parts = tt }
+can_cut_at stage (On opening board seat) list opens up for first =
     let same : seat ≡ first_board_seat board.now = same_Some seat (first_board_seat board.now) first in
     let parts : seat.parts ≡ board.now.parts = ap (λ (s : BoardStanding). s.parts) same in
-    let all : board.now.parts ≡ parts_at stage.authors stage.lines stage.replica = for.2 in
+    let all : board.now.parts ≡ parts_at stage.authors stage.lines stage.replica = for.3 in
     record {
-      opening = opens;
-      can_raise = (up, ap (λ (ss : List State). length ss) for.1 ∙ length-states opening.now, ap (λ (s : BoardStanding). s.board) same);
+      can_raise = (subst Ascends (sym opens) up, ap (λ (ss : List State). length ss) for.2 ∙ length-states list ∙ ap (λ (es : List Edit). length es) (sym opens), ap (λ (s : BoardStanding). s.board) same);
       parts = omega arith;
     }
   where
@@ -121,16 +139,20 @@ can_cut_at stage (On opening board seat) opens up for first =
     length-states (edit ∷ edits) = ap (λ n. suc n) (length-states edits)
 
 -- a block's cuts at its boards, with their first seats, are as the block needs them
-pub can_cut : (stage : Stage) (boards : List (Option BoardOf)) (cuts : List Cuts) → AllByRecursion Ascends stage.sources → AreBoards stage.authors stage.lines stage.sources boards
-    → map opening_edits cuts ≡ stage.sources → map board_of cuts ≡ boards → map seat_of cuts ≡ map (option_map first_board_seat) boards
-    → (own : Cuts) → slice_get cuts stage.replica ≡ Some own → CanCutAt stage own
-can_cut stage boards cuts up are openings at firsts own is =
-    let opening = found_in_map opening_edits cuts stage.sources stage.replica own openings is in
-    let board = found_in_map board_of cuts boards stage.replica own at is in
-    let seat = found_in_map seat_of cuts (map (option_map first_board_seat) boards) stage.replica own firsts is in
-    let first = found_in_map (option_map first_board_seat) boards (map (option_map first_board_seat) boards) stage.replica (board_of own) refl board in
-    can_cut_at stage own opening (all_found Ascends stage.sources stage.replica (opening_edits own) up opening) (are.each stage.replica (opening_edits own) (board_of own) opening board)
-    (same_Some (seat_of own) (option_map first_board_seat (board_of own)) (sym seat ∙ first))
+module _ (stage : Stage) (boards : List (Option BoardOf)) (cuts : List Cuts) (up : AllByRecursion Ascends stage.sources) (are : AreBoards stage.authors stage.lines stage.sources boards)
+    (openings : map opening_edits cuts ≡ all_cut_from stage.sources boards) (at : map board_of cuts ≡ boards) (firsts : map seat_of cuts ≡ map (option_map first_board_seat) boards) where
+  pub can_cut : (own : Cuts) → slice_get cuts stage.replica ≡ Some own → CanCutAt stage own
+  can_cut own is =
+      let board = found_in_map board_of cuts boards stage.replica own at is in
+      let within = slice_get_within boards stage.replica (board_of own) board in
+      let many = are.as_many in
+      let list = found_at stage.sources stage.replica (omega arith) in
+      let opening = found_in_map opening_edits cuts (all_cut_from stage.sources boards) stage.replica own openings is in
+      let seat = found_in_map seat_of cuts (map (option_map first_board_seat) boards) stage.replica own firsts is in
+      let first = found_in_map (option_map first_board_seat) boards (map (option_map first_board_seat) boards) stage.replica (board_of own) refl board in
+      can_cut_at stage own list.0 (same_Some (opening_edits own) (cut_from list.0 (board_of own)) (sym opening ∙ cut_from_at stage.sources boards stage.replica list.0 (board_of own) list.1 board))
+      (all_found Ascends stage.sources stage.replica list.0 up list.1) (are.each stage.replica list.0 (board_of own) list.1 board)
+      (same_Some (seat_of own) (option_map first_board_seat (board_of own)) (sym seat ∙ first))
 
 -- ---- behind the block
 
@@ -158,14 +180,30 @@ all_whole_among owns backs boards seats same_boards same_seats firsts long keep 
     subst (λ (bs : List (Option BoardOf)). AllZip IsWholeSeat bs seats) same_boards
     (subst (λ (ss : List (Option BoardStanding)). AllZip IsWholeSeat (map board_of owns) ss) (sym same_seats) (all_whole owns backs firsts long keep))
 
-held_behind : (own back : Cuts) (slots : List ℕ) (parts : ℕ) → IsBoardFor (opening_edits own) parts (board_of own) → seat_of own ≡ option_map first_board_seat (board_of own) → Raises own back slots
-    → IsHeld (opening_edits own) slots (held_by (board_of own) (seat_of back))
-held_behind Empty back slots parts for first raises = refl
-held_behind (On opening board seat) back slots parts for first raises =
+-- what is listed for a board is all that the replica opened with
+cut_whole : (authors : List Declared) (lines : List Line) (replica : ℕ) (opening list : List Edit) → list ≡ listed (asks_of authors lines replica) opening → cuts_at authors lines replica ≡ true → list ≡ opening
+cut_whole authors lines replica opening list is cuts = is ∙ listed_if_cut (sends_from lines replica) (cuts_at authors lines replica) opening cuts
+
+none_raised : (stage : Stage) (opening list : List Edit) → list ≡ listed (asks_of stage.authors stage.lines stage.replica) opening
+    → (cuts_at stage.authors stage.lines stage.replica ≡ false) ⊎ (list ≡ []) → slots_at stage opening ≡ []
+none_raised stage opening list is (inl none) = no_slots_without_cut stage opening none
+none_raised stage opening list is (inr none) = by_test (cuts_at stage.authors stage.lines stage.replica) refl where
+  by_test : (b : Bool) → cuts_at stage.authors stage.lines stage.replica ≡ b → slots_at stage opening ≡ []
+  by_test false without = no_slots_without_cut stage opening without
+  by_test true cuts =
+      let empty : opening ≡ [] = sym (cut_whole stage.authors stage.lines stage.replica opening list is cuts) ∙ none in
+      ap (slots_at stage) empty ∙ no_slots_without_edges stage
+
+held_behind : (stage : Stage) (own back : Cuts) (opening list : List Edit) → list ≡ listed (asks_of stage.authors stage.lines stage.replica) opening → opening_edits own ≡ cut_from list (board_of own)
+    → IsBoardFor (cuts_at stage.authors stage.lines stage.replica) list (parts_at stage.authors stage.lines stage.replica) (board_of own) → seat_of own ≡ option_map first_board_seat (board_of own)
+    → Raises own back (slots_at stage (opening_edits own)) → IsHeld opening (slots_at stage opening) (held_by (board_of own) (seat_of back))
+held_behind stage Empty back opening list is opens for first raises = none_raised stage opening list is for
+held_behind stage (On edits board seat) back opening list is opens for first raises =
     let same : seat ≡ first_board_seat board.now = same_Some seat (first_board_seat board.now) first in
-    let marks : raises.0.marks ≡ slots = raises.2.marks ∙ ap (λ (s : BoardStanding). s.marks ++ slots) same in
-    subst (λ (b : Cuts). IsHeld opening.now slots (held_by (Some board.now) (seat_of b))) (sym raises.1)
-    (ap₂ raised for.1 marks)
+    let whole : list ≡ opening = cut_whole stage.authors stage.lines stage.replica opening list is for.0 in
+    let marks : raises.0.marks ≡ slots_at stage edits.now = raises.2.marks ∙ ap (λ (s : BoardStanding). s.marks ++ slots_at stage edits.now) same in
+    subst (λ (b : Cuts). IsHeld opening (slots_at stage opening) (held_by (Some board.now) (seat_of b))) (sym raises.1)
+    (ap₂ raised (for.2 ∙ ap states_of whole) (marks ∙ ap (slots_at stage) (opens ∙ whole)))
 
 held_at : (boards : List (Option BoardOf)) (seats : List (Option BoardStanding)) (k : ℕ) (board : Option BoardOf) (seat : Option BoardStanding) → slice_get boards k ≡ Some board → slice_get seats k ≡ Some seat
     → slice_get (all_held boards seats) k ≡ Some (held_by board seat)
@@ -179,46 +217,48 @@ length-all_held [] seats long = refl
 length-all_held (b ∷ bs) [] long = absurd (omega arith)
 length-all_held (b ∷ bs) (s ∷ ss) long = ap (λ n. suc n) (length-all_held bs ss (omega arith))
 
-pub found_at : {A : Type 0} (xs : List A) (k : ℕ) → k < length xs → (x : A) × (slice_get xs k ≡ Some x)
-found_at [] k within = absurd (omega arith)
-found_at (x ∷ xs) zero within = (x, refl)
-found_at (x ∷ xs) (suc k) within = found_at xs k (omega arith)
-
 -- behind a block the boards hold what was raised
-pub all_are_held : (session : Session) (block : Block) (first_send : ℕ) (sources : List (List Edit)) (owns backs : List Cuts) (boards : List (Option BoardOf)) (seats : List (Option BoardStanding)) (held : List (Option (List State)))
-    → AreBoards session.authors block.lines sources boards → map opening_edits owns ≡ sources → map board_of owns ≡ boards → map seat_of owns ≡ map (option_map first_board_seat) boards → seats ≡ map seat_of backs
-    → length backs ≡ length owns
-    → ((k : ℕ) (own back : Cuts) → slice_get owns k ≡ Some own → slice_get backs k ≡ Some back → Raises own back (slots_at (stage_of session block first_send sources k) (opening_edits own)))
-    → held ≡ all_held boards seats → AreHeld session block first_send sources held
-all_are_held session block first_send sources owns backs boards seats held are openings at firsts same long raise is = record {
-  as_many = ap length is ∙ (length-all_held boards seats (many_seats ∙ sym many_boards) ∙ (many_boards ∙ sym many_sources));
-  each = λ k opening states is_opening is_states.
-      let within = slice_get_within sources k opening is_opening in
+module _ (session : Session) (block : Block) (first_send : ℕ) (firsts : List Content) (lists : List (List Edit)) (owns backs : List Cuts) (boards : List (Option BoardOf)) (seats : List (Option BoardStanding))
+    (held : List (Option (List State))) (are_lists : lists ≡ all_listed session.authors block.lines 0 firsts) (are : AreBoards session.authors block.lines lists boards)
+    (openings : map opening_edits owns ≡ all_cut_from lists boards) (at : map board_of owns ≡ boards) (first_seats : map seat_of owns ≡ map (option_map first_board_seat) boards) (same : seats ≡ map seat_of backs)
+    (long : length backs ≡ length owns)
+    (raise : (k : ℕ) (own back : Cuts) → slice_get owns k ≡ Some own → slice_get backs k ≡ Some back → Raises own back (slots_at (stage_of session block first_send lists k) (opening_edits own)))
+    (is : held ≡ all_held boards seats) where
+  many_boards : length boards ≡ length owns
+  many_boards = sym (ap length at) ∙ length-map owns board_of
+
+  many_seats : length seats ≡ length owns
+  many_seats = ap length same ∙ (length-map backs seat_of ∙ long)
+
+  many_sources : length (sources_of firsts) ≡ length owns
+  many_sources =
+      length-map firsts (λ content. content.edits) ∙ sym (length-all_listed session.authors block.lines 0 firsts) ∙ sym (ap (λ (ls : List (List Edit)). length ls) are_lists) ∙ sym are.as_many ∙ many_boards
+
+  is_held : (k : ℕ) (opening : List Edit) (states : Option (List State)) → slice_get (sources_of firsts) k ≡ Some opening → slice_get held k ≡ Some states
+      → IsHeld opening (slots_at (stage_of session block first_send (sources_of firsts) k) opening) states
+  is_held k opening states is_opening is_states =
+      let within = slice_get_within (sources_of firsts) k opening is_opening in
       let sources_many = many_sources in
       let own = found_at owns k (omega arith) in
       let back = found_at backs k (omega arith) in
-      let opens : opening ≡ opening_edits own.0 = same_Some opening (opening_edits own.0) (sym is_opening ∙ found_in_map opening_edits owns sources k own.0 openings own.1) in
+      let list = listed (asks_of session.authors block.lines k) opening in
+      let is_list : slice_get lists k ≡ Some list = ap (λ (ls : List (List Edit)). slice_get ls k) are_lists ∙ listed_at session.authors block.lines 0 firsts k k opening (omega arith) is_opening in
       let board = found_in_map board_of owns boards k own.0 at own.1 in
       let seat = ap (λ ss. slice_get ss k) same ∙ found_in_map seat_of backs (map seat_of backs) k back.0 refl back.1 in
+      let opens : opening_edits own.0 ≡ cut_from list (board_of own.0) =
+      same_Some (opening_edits own.0) (cut_from list (board_of own.0)) (sym (found_in_map opening_edits owns (all_cut_from lists boards) k own.0 openings own.1) ∙ cut_from_at lists boards k list (board_of own.0) is_list board) in
       let first = same_Some (seat_of own.0) (option_map first_board_seat (board_of own.0))
-      (sym (found_in_map seat_of owns (map (option_map first_board_seat) boards) k own.0 firsts own.1) ∙ found_in_map (option_map first_board_seat) boards (map (option_map first_board_seat) boards) k (board_of own.0) refl board) in
+      (sym (found_in_map seat_of owns (map (option_map first_board_seat) boards) k own.0 first_seats own.1) ∙ found_in_map (option_map first_board_seat) boards (map (option_map first_board_seat) boards) k (board_of own.0) refl board) in
       let holds : states ≡ held_by (board_of own.0) (seat_of back.0) =
       same_Some states (held_by (board_of own.0) (seat_of back.0)) (sym is_states ∙ (ap (λ hs. slice_get hs k) is ∙ held_at boards seats k (board_of own.0) (seat_of back.0) board seat)) in
-      let for = are.each k (opening_edits own.0) (board_of own.0) (found_in_map opening_edits owns sources k own.0 openings own.1) board in
-      let slots = slots_at (stage_of session block first_send sources k) (opening_edits own.0) in
-      subst (λ (es : List Edit). IsHeld es (slots_at (stage_of session block first_send sources k) es) states) (sym opens)
-      (subst (IsHeld (opening_edits own.0) slots) (sym holds)
-      (held_behind own.0 back.0 slots (parts_at session.authors block.lines k) for first (raise k own.0 back.0 own.1 back.1)));
-}
-  where
-    many_sources : length sources ≡ length owns
-    many_sources = sym (ap length openings) ∙ length-map owns opening_edits
+      subst (IsHeld opening (slots_at (stage_of session block first_send (sources_of firsts) k) opening)) (sym holds)
+      (held_behind (stage_of session block first_send lists k) own.0 back.0 opening list refl opens (are.each k list (board_of own.0) is_list board) first (raise k own.0 back.0 own.1 back.1))
 
-    many_boards : length boards ≡ length owns
-    many_boards = sym (ap length at) ∙ length-map owns board_of
-
-    many_seats : length seats ≡ length owns
-    many_seats = ap length same ∙ (length-map backs seat_of ∙ long)
+  pub all_are_held : AreHeld session block first_send (sources_of firsts) held
+  all_are_held = record {
+    as_many = ap length is ∙ (length-all_held boards seats (many_seats ∙ sym many_boards) ∙ (many_boards ∙ sym many_sources));
+    each = is_held;
+  }
 
 -- one board more is closed
 pub held_more : (boards more all_boards : List (Option BoardOf)) (seats others all_seats : List (Option BoardStanding)) (board : Option BoardOf) (seat : Option BoardStanding) (done new : List (Option (List State)))

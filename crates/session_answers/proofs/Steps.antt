@@ -6,14 +6,16 @@ use Rattle.grove_edits.specs.declared.edit.Edit.{Edit}
 use Rattle.session_script.specs.declared.item.Block.{Block}
 use Rattle.session_script.specs.declared.session.Session.{Session}
 use Rattle.session_run.specs.Run.{HasRun}
-use Rattle.replica_core.specs.Content.{Content, with_block}
+use Rattle.replica_core.specs.Content.{Content}
 use Rattle.replica_core.specs.Step.{effect, reply, after}
 use Rattle.session_report.specs.Journal.{Entries}
 use Rattle.session_report.specs.Taken.{Journals}
 use Rattle.session_report.specs.Report.{IsSection}
 use Rattle.session_answers.specs.BlockJournals.{block_journals}
 use Rattle.session_report.proofs.Zipped.{zip_cons, zip_none}
-use Rattle.session_answers.specs.Running.{AreShown, HaveRun, sources_of, stage_of}
+use Rattle.session_answers.specs.Opened.{all_listed}
+use Rattle.session_answers.specs.Running.{AreShown, HaveRun, stage_of}
+use Rattle.session_answers.proofs.Listed.{has_run_by_all}
 
 pub block_journals-more : {M : Type 0} (block replica : ℕ) (more : List (Entries M)) (last : Entries M)
     → block_journals block replica (more ++ last ∷ []) ≡ block_journals block replica more ++ record { block = block; replica = replica + length more; journal = last } ∷ []
@@ -46,21 +48,16 @@ pub all_shown : (whole : List (Ident × Content)) (xs : List Ident) (ys : List C
 all_shown whole xs ys sections none so_far =
     subst (AreShown whole) (append-nil sections) (so_far [] (subst (λ of. AreShown of []) (sym (zip_none xs ys none)) refl))
 
--- opening a block changes no list
-pub opened_sources : (replicas : List Content) → sources_of replicas ≡ sources_of (map with_block replicas)
-opened_sources [] = refl
-opened_sources (replica ∷ replicas) = ap (λ lists. replica.edits ∷ lists) (opened_sources replicas)
-
--- the replicas ran a block, told by lists that are the same
-pub have_run : (session : Session) (block : Block) (first_send : ℕ) (firsts machines lasts : List Content) (made : List (Entries Content)) (sources : List (List Edit)) → machines ≡ firsts → sources ≡ sources_of machines
-    → length lasts ≡ length machines → length made ≡ length machines
-    → ((number : ℕ) (first last : Content) (journal : Entries Content) → slice_get machines number ≡ Some first → slice_get lasts number ≡ Some last → slice_get made number ≡ Some journal
-    → HasRun after effect reply (stage_of session block first_send sources number) first journal last)
+-- the replicas ran a block, told by what was listed of them
+pub have_run : (session : Session) (block : Block) (first_send : ℕ) (firsts lasts : List Content) (made : List (Entries Content)) (lists : List (List Edit)) → lists ≡ all_listed session.authors block.lines 0 firsts
+    → length lasts ≡ length firsts → length made ≡ length firsts
+    → ((number : ℕ) (first last : Content) (journal : Entries Content) → slice_get firsts number ≡ Some first → slice_get lasts number ≡ Some last → slice_get made number ≡ Some journal
+    → HasRun after effect reply (stage_of session block first_send lists number) first journal last)
     → HaveRun session block first_send firsts made lasts
-have_run session block first_send firsts machines lasts made sources are are_sources as_many as_many_journals each =
-    subst (λ rs. HaveRun session block first_send rs made lasts) are (record {
-      as_many = as_many;
-      as_many_journals = as_many_journals;
-      each = λ number first last journal is_first is_last is_journal.
-          subst (λ ss. HasRun after effect reply (stage_of session block first_send ss number) first journal last) are_sources (each number first last journal is_first is_last is_journal);
-    })
+have_run session block first_send firsts lasts made lists are_lists as_many as_many_journals each = record {
+  as_many = as_many;
+  as_many_journals = as_many_journals;
+  each = λ number first last journal is_first is_last is_journal.
+      has_run_by_all session.authors block.lines first_send number firsts first last journal
+      (subst (λ ls. HasRun after effect reply (stage_of session block first_send ls number) first journal last) are_lists (each number first last journal is_first is_last is_journal));
+}

@@ -1,12 +1,15 @@
-//! The boards of a block: one for each replica that opens with edges, on which its authors raise the slots of those that they cut.
-ghost use Rattle.std.specs.Prelude.{◌≡◌, ◌≤◌, [], map, Some, None, IfOk};
+//! The boards of a block: one for each replica whose authors cut and that opens with edges, on which they raise the slots of those that
+//! they cut.
+ghost use Rattle.std.specs.Prelude.{◌≡◌, length, map, IfOk};
 ghost use Rattle.std.specs.List.{AllZip};
 ghost use Rattle.std.specs.Option.{option_map};
 ghost use Rattle.edge_board.specs.Seats.{first_board_seat};
 ghost use Rattle.author_desk.specs.Cuts.{opening_edits, seat_of};
 ghost use Rattle.grove_edits.specs.Graph.{state_of};
-ghost use Rattle.session_answers.specs.Boards.{states_of as are_states_of, parts_at as all_parts_at, IsBoardFor, AreBoards, board_of as board_under, IsWholeSeat, held_by, all_held, states_in};
+ghost use Rattle.session_answers.specs.Boards.{states_of as are_states_of, parts_at as all_parts_at, IsBoardFor, AreBoards, cut_from, all_cut_from, board_of as board_under, IsWholeSeat, held_by, all_held, states_in};
+ghost use Rattle.session_answers.specs.Opened.{cuts_at};
 
+use crate::opened::has_cut;
 use author_desk::Cuts;
 use edge_board::{Board, BoardSeat};
 use edge_lattice::State;
@@ -16,42 +19,42 @@ use session_script::{AuthorList, Line};
 use std::alloc::Global;
 use text_parts::NoMemory;
 
-/// The boards of replicas that open with these lists, each with its first seat.
+/// The boards of replicas of which this was listed, each with its first seat.
 pub(crate) fn boards_of(
     alloc: Global,
-    sources: &[EditList],
+    lists: &[EditList],
     authors: &AuthorList,
     lines: &[Line],
 ) -> Result<(Vec<Option<Board>>, Vec<Option<BoardSeat>>), NoMemory>
-    ensures boards { IfOk result (λ made. AreBoards authors.now lines.now sources.now made.0.items) }
+    ensures boards { IfOk result (λ made. AreBoards authors.now lines.now lists.now made.0.items) }
     ensures seats { IfOk result (λ made. made.1.items ≡ map (option_map first_board_seat) made.0.items) }
 {
-    let mut boards = Vec::with_capacity(alloc, sources.len())?;
-    let mut seats = Vec::with_capacity(alloc, sources.len())?;
-    for (replica, opening) in sources.iter().enumerate() {
-        let parts = parts_at(authors, lines, replica as u64);
-        let (board, seat) = board_of(alloc, opening.as_slice(), parts)?;
+    let mut boards = Vec::with_capacity(alloc, lists.len())?;
+    let mut seats = Vec::with_capacity(alloc, lists.len())?;
+    for (replica, opening) in lists.iter().enumerate() {
+        let (board, seat) = board_at(alloc, authors, lines, replica as u64, opening.as_slice())?;
         boards.push(board)?;
         seats.push(seat)?;
     }
     Ok((boards, seats))
 }
 
-// The board of a replica that opens with these edits, and its first seat.
-fn board_of(
+// The board of a replica of which these edits were listed, and its first seat.
+fn board_at(
     alloc: Global,
+    authors: &AuthorList,
+    lines: &[Line],
+    replica: u64,
     opening: &[Edit],
-    parts: u64,
 ) -> Result<(Option<Board>, Option<BoardSeat>), NoMemory>
-    requires { 1 ≤ parts }
-    ensures board { IfOk result (λ made. IsBoardFor opening.now parts made.0) }
+    ensures board { IfOk result (λ made. IsBoardFor (cuts_at authors.now lines.now replica) opening.now (all_parts_at authors.now lines.now replica) made.0) }
     ensures seat { IfOk result (λ made. made.1 ≡ option_map first_board_seat made.0) }
 {
-    if opening.is_empty() {
+    if opening.is_empty() || !has_cut(authors, lines, replica) {
         return Ok((None, None));
     }
     let states = states_of(alloc, opening)?;
-    let (board, seat) = Board::new(alloc, &states, parts)?;
+    let (board, seat) = Board::new(alloc, &states, parts_at(authors, lines, replica))?;
     Ok((Some(board), Some(seat)))
 }
 
@@ -85,32 +88,35 @@ fn parts_at(authors: &AuthorList, lines: &[Line], replica: u64) -> u64
     authors_at_work(authors, lines, replica) as u64 + 1
 }
 
-/// The cuts of replicas that open with these lists, at their boards.
+/// The cuts of replicas of which this was listed, at their boards.
 pub(crate) fn cuts_on<'a>(
     alloc: Global,
-    sources: &'a [EditList],
+    lists: &'a [EditList],
     boards: &'a [Option<Board>],
     seats: Vec<Option<BoardSeat>>,
 ) -> Result<Vec<Cuts<'a>>, NoMemory>
-    requires boards { AllZip (λ opening board. board ≡ None → opening ≡ []) sources.now boards.now }
+    requires boards { length boards.now ≡ length lists.now }
     requires seats { seats.items ≡ map (option_map first_board_seat) boards.now }
-    ensures opening { IfOk result (λ cuts. map opening_edits cuts.items ≡ sources.now) }
+    ensures opening { IfOk result (λ cuts. map opening_edits cuts.items ≡ all_cut_from lists.now boards.now) }
     ensures boards { IfOk result (λ cuts. map board_under cuts.items ≡ boards.now) }
     ensures seats { IfOk result (λ cuts. map seat_of cuts.items ≡ seats.items) }
 {
-    let mut cuts = Vec::with_capacity(alloc, sources.len())?;
+    let mut cuts = Vec::with_capacity(alloc, lists.len())?;
     for seat in seats {
         let replica = cuts.len();
-        cuts.push(cuts_at(&sources[replica], &boards[replica], seat))?;
+        cuts.push(cuts_from(&lists[replica], &boards[replica], seat))?;
     }
     Ok(cuts)
 }
 
-// The cuts of a replica that opens with these edits, at its board.
-fn cuts_at<'a>(opening: &'a EditList, board: &'a Option<Board>, seat: Option<BoardSeat>) -> Cuts<'a>
+// The cuts of a replica of which these edits were listed, at its board.
+fn cuts_from<'a>(
+    opening: &'a EditList,
+    board: &'a Option<Board>,
+    seat: Option<BoardSeat>,
+) -> Cuts<'a>
     requires seat { seat ≡ option_map first_board_seat board.now }
-    requires empty { board.now ≡ None → opening.now ≡ [] }
-    ensures opening { opening_edits result ≡ opening.now }
+    ensures opening { opening_edits result ≡ cut_from opening.now board.now }
     ensures board { board_under result ≡ board.now }
     ensures seat { seat_of result ≡ seat }
 {

@@ -6,6 +6,7 @@ mod block;
 mod boards;
 mod counting;
 mod laws;
+mod opened;
 mod ran;
 mod replicas;
 mod running;

@@ -1,13 +1,10 @@
 //! What is asked of all replicas of a session, one after the other.
-ghost use Rattle.std.specs.Prelude.{◌≡◌, ◌+◌, ◌<◌, [], ◌∷◌, ◌++◌, map, replicate, IfOk, OnOk};
-ghost use Rattle.std.specs.List.{AllByRecursion};
-ghost use Rattle.grove_edits.specs.Graph.{Ascends};
-ghost use Rattle.replica_core.specs.Content.{no_edits, with_taken, with_block};
+ghost use Rattle.std.specs.Prelude.{◌≡◌, ◌+◌, ◌<◌, [], ◌∷◌, ◌++◌, replicate, IfOk, OnOk};
+ghost use Rattle.replica_core.specs.Content.{no_edits, with_taken};
 ghost use Rattle.session_answers.specs.BlockJournals.{block_journals};
-ghost use Rattle.session_answers.specs.Running.{sources_of};
 
 use graph_words::Steps;
-use grove_edits::{Edit, EditList};
+use grove_edits::Edit;
 use replica_core::Replica;
 use seeded_hash::HashSeed;
 use session_report::{BlockJournal, JournalList};
@@ -53,24 +50,6 @@ fn apply_counting<L: Ledger>(
     let mut steps = Steps::<L>::new(blank);
     replica.apply(edit, &mut steps)?;
     Ok(())
-}
-
-/// Opens a block on each replica, and lists what each opens with.
-pub(crate) fn open_block_on_each(
-    alloc: Global,
-    replicas: Vec<Replica>,
-) -> Result<(Vec<Replica>, Vec<EditList>), NoMemory>
-    ensures opened { IfOk result (λ opened. opened.0.items ≡ map with_block replicas.items) }
-    ensures lists { IfOk result (λ opened. opened.1.items ≡ sources_of replicas.items) }
-    ensures ascend { IfOk result (λ opened. AllByRecursion Ascends opened.1.items) }
-{
-    let mut opened = Vec::with_capacity(alloc, replicas.len())?;
-    let mut lists = Vec::with_capacity(alloc, replicas.len())?;
-    for mut replica in replicas {
-        lists.push(replica.open_block(alloc)?)?;
-        opened.push(replica)?;
-    }
-    Ok((opened, lists))
 }
 
 /// Keeps the journals of a block, one for each replica.

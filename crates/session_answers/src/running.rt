@@ -8,7 +8,8 @@ ghost use Rattle.session_answers.specs.Running.{IsBehind, HasLoaded, HasRunBlock
 
 use crate::block::run_on_boards;
 use crate::counting::{can_number, count_lines, first_numbers};
-use crate::replicas::{append_journals, apply, empty_replicas, open_block_on_each};
+use crate::opened::open_block_on_each;
+use crate::replicas::{append_journals, apply, empty_replicas};
 use crate::showing::append_sections;
 use author_desk::Asked;
 use grove_edits::Edit;
@@ -121,13 +122,18 @@ impl Running {
             session.authors.as_slice(),
             block.lines.as_slice(),
         )?;
-        let (replicas, sources) = open_block_on_each(alloc, replicas)?;
+        let (replicas, lists) = open_block_on_each(
+            alloc,
+            replicas,
+            &session.authors,
+            block.lines.as_slice(),
+        )?;
         let number = blocks + 1;
         let (replicas, made, _held) = run_on_boards(
             rt,
             alloc,
             replicas,
-            &sources,
+            &lists,
             session,
             block,
             sends + 1,

@@ -29,10 +29,9 @@ is_at_work lines replica declared = (declared.replica == replica) && list_any (i
 abbrev pub authors_at_work : List Declared → List Line → ℕ → ℕ
 authors_at_work authors lines replica = count_by (is_at_work lines replica) authors
 
--- what a block needs of the cuts of a replica: they are made on the edges that the replica opened with, the board has a slot for each of
--- them, and its seat a part for each author at work beside its own
+-- what a block needs of the cuts of a replica: the board has a slot for each of the edges that they are made on, and its seat a part for each
+-- author at work beside its own
 pub record CanCutAt (stage : Stage) (cuts : Cuts) : Type 0 where
-  pub opening : slice_get stage.sources stage.replica ≡ Some (opening_edits cuts)
   pub can_raise : CanRaise cuts
   pub parts : HasPartsFor (authors_at_work stage.authors stage.lines stage.replica) cuts
 

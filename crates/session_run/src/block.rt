@@ -45,8 +45,9 @@ pub struct Plan<'a> {
 /// else. It is asked for the numbers that the authors' lines of this block have in the session, and for no others. The machines come back with their journals, in the order in which they were handed in; where memory runs out for a worker,
 /// the others go on to their ends, and none comes back.
 ///
-/// Each replica has cuts, made on the edges that it opens with: its authors raise the slots of those that they cut, each through a part
-/// of the seat at the board, which comes back whole.
+/// Each replica has cuts, made on the edges that it opens with, or on none: its authors raise the slots of those that they cut, each
+/// through a part of the seat at the board, which comes back whole. Of a replica from which the block sends nothing any list will do as
+/// its source.
 pub fn run_block<R: Threads + Wait + Sync, M: Machine<Command = Command, Reply = Answer>, G: Asked>(
     rt: &R,
     alloc: Global,

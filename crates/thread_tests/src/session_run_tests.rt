@@ -1,9 +1,9 @@
-ghost use Rattle.std.specs.Prelude.{◌≡◌, ◌+◌, ◌%◌, ◌^◌, ◌<◌, [], ◌∷◌, length, map, IfOk};
+ghost use Rattle.std.specs.Prelude.{◌≡◌, ◌+◌, ◌%◌, ◌^◌, ◌<◌, [], ◌∷◌, length, IfOk};
 ghost use Rattle.std.specs.List.{AllByRecursion};
 ghost use Rattle.grove_edits.specs.declared.answer.Answer.TheVariants.{Done};
 ghost use Rattle.grove_edits.specs.Graph.{Ascends};
 ghost use Rattle.edge_board.specs.Seats.{BoardOf};
-ghost use Rattle.author_desk.specs.Cuts.{opening_edits, CanRaise, HasPartsFor};
+ghost use Rattle.author_desk.specs.Cuts.{CanRaise, HasPartsFor};
 ghost use Rattle.session_script.specs.Session.{IsSession};
 
 use crate::counter::Counter;
@@ -84,7 +84,6 @@ fn journals_of<R: Threads + Wait + Sync, M: Machine<Command = Command, Reply = A
     requires authors { length session.now.authors ≡ 2 }
     requires sources { length sources.now ≡ 2 }
     requires cuts { length cuts.old.items ≡ 2 }
-    requires openings { map opening_edits cuts.old.items ≡ sources.now }
     requires boards { AllByRecursion (λ own. CanRaise own × HasPartsFor 2 own) cuts.old.items }
 {
     let Some(Item::Block(block)) = session.items.get(0) else {
@@ -121,7 +120,6 @@ fn cuts_at<'a>(
     requires slots { length board.now.opening ≡ 3 }
     requires parts { 2 < seat.parts }
     ensures two { IfOk result (λ cuts. length cuts.items ≡ 2) }
-    ensures openings { IfOk result (λ cuts. map opening_edits cuts.items ≡ sources.now) }
     ensures boards { IfOk result (λ cuts. AllByRecursion (λ own. CanRaise own × HasPartsFor 2 own) cuts.items) }
 {
     let [opening, other] = sources else {

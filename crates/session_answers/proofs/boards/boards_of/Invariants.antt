@@ -5,4 +5,4 @@ use Rattle.session_answers.proofs.OnBoards.{AreBoardsOf}
 use Rattle.session_answers.proofs.boards.boards_of.Given as goal
 
 abbrev pub invariant-loop-replica : goal.invariant-loop-replica
-invariant-loop-replica l = (length l.boards.items ≡ l.replica) × (l.seats.items ≡ map (option_map first_board_seat) l.boards.items) × AreBoardsOf l.authors l.lines l.sources l.boards.items
+invariant-loop-replica l = (length l.boards.items ≡ l.replica) × (l.seats.items ≡ map (option_map first_board_seat) l.boards.items) × AreBoardsOf l.authors l.lines l.lists l.boards.items

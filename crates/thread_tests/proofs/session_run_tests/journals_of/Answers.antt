@@ -1,11 +1,10 @@
 use Rattle.std.proofs.Common.{◌≡◌, List, [], ◌∷◌, Some, ℕ, zero, suc, drop, slice_get, length, sym, ap, subst, ◌∙◌, arith, rules}
 use Rattle.std.specs.List.{AllByRecursion}
-use Rattle.std.specs.Option.{option_map}
 use Rattle.std.proofs.lemmas.List.Sums.{count_by-le-length}
-use Rattle.std.proofs.lemmas.Option.{same_Some, none-some, slice_get-map}
+use Rattle.std.proofs.lemmas.Option.{same_Some, none-some}
 use Rattle.session_script.specs.declared.item.Item.{Item}
 use Rattle.session_script.specs.declared.item.Item.TheVariants.{Block}
-use Rattle.author_desk.specs.Cuts.{opening_edits, CanRaise, HasPartsFor}
+use Rattle.author_desk.specs.Cuts.{CanRaise, HasPartsFor}
 use Rattle.session_run.specs.Boards.{is_at_work, authors_at_work}
 use Rattle.session_run.specs.Run.{CanRun}
 use Rattle.session_run.proofs.Seats.{fewer_parts}
@@ -28,8 +27,7 @@ run_block-requires-clause-boards g c κs within = λ replica own is.
     let lines = c.in-Some-Block.block.lines in
     let few = count_by-le-length (is_at_work lines replica) authors in
     let two = c.requires.authors in
-    let opening = ap (λ zs. slice_get zs replica) (sym c.requires.openings) ∙ slice_get-map opening_edits c.args.cuts.now.items replica ∙ ap (option_map opening_edits) is in
-    record { opening = opening; can_raise = can.0; parts = fewer_parts own (authors_at_work authors lines replica) 2 (omega arith) can.1 }
+    record { can_raise = can.0; parts = fewer_parts own (authors_at_work authors lines replica) 2 (omega arith) can.1 }
 
 pub run_block-requires-clause-numbers : goal.run_block-requires-clause-numbers
 run_block-requires-clause-numbers g c κs within =

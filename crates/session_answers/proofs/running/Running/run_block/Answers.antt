@@ -6,8 +6,9 @@ use Rattle.session_report.specs.Report.{block_heading, journals_text}
 use Rattle.replica_core.specs.Content.{Content}
 use Rattle.session_run.specs.Asked.{IsNumberIn}
 use Rattle.session_answers.specs.Numbers.{numbers_behind}
-use Rattle.session_answers.specs.Running.{sources_of, HaveRun}
-use Rattle.session_answers.proofs.Steps.{opened_sources}
+use Rattle.session_answers.specs.Opened.{all_listed}
+use Rattle.session_answers.specs.Running.{HaveRun}
+use Rattle.session_answers.proofs.Listed.{all_listed-opened}
 use Rattle.session_answers.proofs.running.Running.run_block.Goals as goal
 
 pub count_lines-requires-clause-calls : goal.count_lines-requires-clause-calls
@@ -18,9 +19,12 @@ count_lines-requires-clause-room g c =
     subst (AllByRecursion (λ first. first + length c.as_slice-2.result.now < 2 ^ 64)) (c.deref.ensures.value ∙ sym c.deref-2.ensures.value)
     (subst (λ lines. AllByRecursion (λ first. first + lines < 2 ^ 64) c.deref.result.now) (c.len.ensures ∙ ap (λ (ls : List Line). length ls) (sym c.as_slice-2.ensures)) (c.if-not-can_number.ensures refl))
 
-pub run_on_boards-requires-clause-sources : goal.run_on_boards-requires-clause-sources
-run_on_boards-requires-clause-sources g c κs within =
-    c.deref-3.ensures.value ∙ c.in_ok-replicas.ensures.lists ∙ opened_sources c.args.self.replicas.items ∙ ap sources_of (sym c.in_ok-replicas.ensures.opened)
+pub run_on_boards-requires-clause-lists : goal.run_on_boards-requires-clause-lists
+run_on_boards-requires-clause-lists g c κs within =
+    c.deref-3.ensures.value ∙ c.in_ok-replicas.ensures.lists
+    ∙ ap (λ (ls : List Line). all_listed c.args.session.now.authors ls 0 c.args.self.replicas.items) c.as_slice-3.ensures
+    ∙ all_listed-opened c.args.session.now.authors c.args.block.now.lines 0 c.args.self.replicas.items
+    ∙ ap (all_listed c.args.session.now.authors c.args.block.now.lines 0) (sym c.in_ok-replicas.ensures.opened)
 
 pub run_on_boards-requires-clause-calls : goal.run_on_boards-requires-clause-calls
 run_on_boards-requires-clause-calls g c κs within =
@@ -42,7 +46,7 @@ returns g c =
       kept = c.in_ok-append_journals.ensures;
       text =
           c.in_ok-append_block.ensures.appended
-          ∙ ap (λ names. c.args.self.text.items ++ (block_heading (c.args.self.blocks + 1) ++ journals_text names c.deref-5.result.now)) c.as_slice-3.ensures
+          ∙ ap (λ names. c.args.self.text.items ++ (block_heading (c.args.self.blocks + 1) ++ journals_text names c.deref-5.result.now)) c.as_slice-4.ensures
           ∙ ap (λ js. c.args.self.text.items ++ (block_heading (c.args.self.blocks + 1) ++ journals_text c.args.session.now.replicas js)) c.deref-5.ensures.value;
       blocks = refl;
       sends = ap (λ n. c.args.self.sends + n) c.sends_in.ensures;
