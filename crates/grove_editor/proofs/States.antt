@@ -18,7 +18,7 @@ use Rattle.grove_editor.specs.declared.deed.Deed.{Deed}
 use Rattle.grove_editor.specs.declared.news.News.{News}
 use Rattle.grove_editor.specs.declared.reply.Reply.{Reply}
 use Rattle.grove_editor.specs.declared.reply.Reply.TheVariants.{Answered}
-use Rattle.grove_editor.specs.Acted.{HasActed, HasDone, refused, made}
+use Rattle.grove_editor.specs.Acted.{HasActed, HasDone, act_refused, act_made}
 use Rattle.grove_editor.specs.Deeds.{deed_by, by_others, IsKnown}
 use Rattle.grove_editor.specs.Kept.{IsKept, state_of}
 use Rattle.grove_editor.specs.State.{State, replied}
@@ -84,7 +84,7 @@ module _ (content : Content) (fed : List ℕ) (done undone : List Deed) (news : 
     refused_state edits fault told plan reply none same =
         let no_edits : edits ≡ [] = refusal_has_none (graph content.edits) content.opening author action edits fault plan in
         subst (λ (s : State). HasActed author action s (state_of content fed done undone told)) view
-        (refused fault
+        (act_refused fault
         (own_plan content author action [] (Refused fault) kept.is_content kept.no_opening
         (subst (λ (es : List Edit). IsPlan (graph content.edits) content.opening author action es (Refused fault)) no_edits plan))
         (with_parts fed content.edits content.edits done done undone undone told.reply (Answered (Refused fault)) told.made [] told.changed.items [] refl refl refl reply none same))
@@ -95,7 +95,7 @@ module _ (content : Content) (fed : List ℕ) (done undone : List Deed) (news : 
     made_state after more less edits answer told plan not_refused did less_is reply own =
         let same : after.edits ≡ with_edits edits content.edits = ap (λ (c : Content). c.edits) did.taken in
         subst (λ (s : State). HasActed author action s (state_of after fed more less told)) view
-        (made edits answer did.change told.changed.items (own_plan content author action edits answer kept.is_content kept.no_opening plan) not_refused did.is_change
+        (act_made edits answer did.change told.changed.items (own_plan content author action edits answer kept.is_content kept.no_opening plan) not_refused did.is_change
         (subst (λ (es : List Edit). AreChangedMarks (graph content.edits) (graph es) told.changed.items) same did.are_changed)
         (with_parts fed after.edits (with_edits edits content.edits) more (done ++ deed_by author did.change ∷ []) less (by_others author undone) told.reply (Answered answer) told.made edits
         told.changed.items told.changed.items same did.noted less_is reply own refl))

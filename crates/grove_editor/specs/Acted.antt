@@ -29,8 +29,8 @@ IsPlanned list author action edits answer = IsPlan (graph list) (map edit_edge l
 
 -- an author's action was refused, or its edits were taken and what they changed was put behind what was done
 pub data HasActed (author : ℕ) (action : Action) (old new : State) : Type 0 where
-  refused : (fault : ActFault) → IsPlanned old.edits author action [] (Refused fault) → new ≡ replied (Answered (Refused fault)) old → HasActed author action old new
-  made : (edits : List Edit) (answer : Answer) (change : Change) (changed : List Vertex) → IsPlanned old.edits author action edits answer → ((fault : ActFault) → answer ≢ Refused fault)
+  act_refused : (fault : ActFault) → IsPlanned old.edits author action [] (Refused fault) → new ≡ replied (Answered (Refused fault)) old → HasActed author action old new
+  act_made : (edits : List Edit) (answer : Answer) (change : Change) (changed : List Vertex) → IsPlanned old.edits author action edits answer → ((fault : ActFault) → answer ≢ Refused fault)
       → IsChangeOf (graph old.edits) edits change → AreChangedMarks (graph old.edits) (graph (with_edits edits old.edits)) changed
       → new ≡ record old { edits = with_edits edits old.edits; done = old.done ++ deed_by author change ∷ []; undone = by_others author old.undone; reply = Answered answer; made = edits; changed = changed }
       → HasActed author action old new

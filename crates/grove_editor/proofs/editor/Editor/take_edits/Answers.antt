@@ -12,5 +12,6 @@ invariant_of-self-2 c =
 
 pub returns-clause-taken : goal.returns-clause-taken
 returns-clause-taken c =
-    taken_state c.self.inside.replica c.self.inside.fed.items c.self.inside.done.items c.self.inside.undone.items c.self.inside.news c.args.self.now c.self.view_is c.take.new.replica c.args.edits.now _
+    taken_state c.self.inside.replica c.self.inside.fed.items c.self.inside.done.items c.self.inside.undone.items c.self.inside.news c.args.self.now c.self.view_is c.take.new.replica c.args.edits.now
+    (record { reply = Answered (Taken c.len.result); made = c.new.result; changed = c.in_ok-changed.changed })
     c.in_ok-changed.ensures.taken c.in_ok-changed.ensures.changed (ap (λ (n : ℕ). Answered (Taken n)) c.len.ensures) c.new.ensures.empty
