@@ -1,3 +1,5 @@
+pub mod Packed
+pub mod PackedSteps
 pub mod Prefixes
 pub mod Numbers
 pub mod ByNumber

@@ -4,9 +4,10 @@ ghost use Rattle.grove_sorts.specs.Position.{is_same_position};
 ghost use Rattle.graph_words.specs.Live.{IsInEdgeOrder, holds_edge};
 ghost use Rattle.graph_words.specs.Ordered.{with_edge, without_edge};
 ghost use Rattle.edge_numbers.specs.Numbered.{edge_at, IsEdgeNumber};
-ghost use Rattle.edge_lists.specs.Lists.{nothing_listed, numbers_at, places_at, edges_at, HasVertex, HasFreePlace, KeepsOthers, AreEdgeNumbers, holds_number, without_number, with_position, numbers_with_position};
+ghost use Rattle.edge_lists.specs.Lists.{nothing_listed, listed_at, numbers_at, places_at, edges_at, HasVertex, HasFreePlace, KeepsOthers, AreEdgeNumbers, holds_number, without_number, with_position, numbers_with_position};
 ghost use Rattle.edge_lists.specs.Order.{IsInOrder, position_first, with_edge_by, by_edge, with_number};
 
+use crate::lent_numbers::LentNumbers;
 use crate::list_order::{ByPosition, ListOrder};
 use crate::listed::Listed;
 use crate::places::{place_in, place_of};
@@ -21,6 +22,8 @@ use text_parts::NoMemory;
 pub struct EdgeLists<O: ListOrder> {
     alloc: Global,
     lists: Vec<Listed>,
+    // What is lent where there is no list.
+    nothing: Listed,
     order: PhantomData<O>,
 }
 
@@ -33,6 +36,14 @@ impl<O: ListOrder> Model for EdgeLists<O> {
     ghost view = { λ lists. lists.lists.items };
 }
 
+// All numbers of a list.
+fn whole(list: &Listed) -> LentNumbers<'_>
+    ensures numbers { result ≡ list.now.numbers }
+    ensures places { length list.now.numbers ≤ list.now.places }
+{
+    LentNumbers::of(list, 0, list.len())
+}
+
 // Puts the number of an edge at its place.
 fn put_in<O: ListOrder>(list: &mut Listed, edge: usize, edges: &EdgeNumbers)
     requires edge { IsEdgeNumber edges.now edge }
@@ -43,7 +54,7 @@ fn put_in<O: ListOrder>(list: &mut Listed, edge: usize, edges: &EdgeNumbers)
     ensures numbers { list.new.numbers ≡ with_number (by_edge O.order edges.now) edge list.old.numbers }
     ensures places { list.new.places ≡ list.old.places }
 {
-    let index = place_in::<O>(list.numbers(), edge, edges);
+    let index = place_in::<O>(&whole(list), edge, edges);
     list.insert(index, edge as u32);
 }
 
@@ -56,7 +67,7 @@ fn take_from<O: ListOrder>(list: &mut Listed, edge: usize, edges: &EdgeNumbers)
     ensures places { list.new.places ≡ list.old.places }
     ensures free { length list.new.numbers < list.new.places }
 {
-    let index = place_in::<O>(list.numbers(), edge, edges);
+    let index = place_in::<O>(&whole(list), edge, edges);
     list.remove(index);
 }
 
@@ -68,6 +79,7 @@ impl<O: ListOrder> EdgeLists<O> {
         EdgeLists {
             alloc,
             lists: Vec::new(alloc),
+            nothing: Listed::nothing(alloc),
             order: PhantomData,
         }
     }
@@ -97,16 +109,30 @@ impl<O: ListOrder> EdgeLists<O> {
         ensures count { length self.new ≡ length self.old }
         ensures unchanged { OnErr result (self.new ≡ self.old) }
     {
-        self.lists[vertex].promise()
+        self.lists[vertex].promise(self.alloc)
+    }
+
+    fn list_at(&self, vertex: usize) -> &Listed
+        requires { HasVertex self.now vertex }
+        ensures { result.now ≡ listed_at self.now vertex }
+    {
+        &self.lists[vertex]
     }
 
     /// The numbers of the edges at a vertex.
-    pub fn at(&self, vertex: usize) -> &[u32]
+    pub fn at(&self, vertex: usize) -> LentNumbers<'_>
         requires { HasVertex self.now vertex }
-        ensures numbers { result.now ≡ numbers_at self.now vertex }
+        ensures numbers { result ≡ numbers_at self.now vertex }
         ensures places { length (numbers_at self.now vertex) ≤ places_at self.now vertex }
     {
-        self.lists[vertex].numbers()
+        whole(self.list_at(vertex))
+    }
+
+    /// No numbers, for what is at no vertex.
+    pub fn none(&self) -> LentNumbers<'_>
+        ensures { result ≡ [] }
+    {
+        LentNumbers::of(&self.nothing, 0, 0)
     }
 
     /// Puts an edge that is not listed at the vertex yet, and for which there is a place.
@@ -152,17 +178,23 @@ impl<O: ListOrder> EdgeLists<O> {
 
 impl EdgeLists<ByPosition> {
     /// The numbers of the edges at a vertex that are from a position.
-    pub fn at_position(&self, vertex: usize, position: Position, edges: &EdgeNumbers) -> &[u32]
+    pub fn at_position(
+        &self,
+        vertex: usize,
+        position: Position,
+        edges: &EdgeNumbers,
+    ) -> LentNumbers<'_>
         requires vertex { HasVertex self.now vertex }
         requires known { AreEdgeNumbers edges.now (numbers_at self.now vertex) }
         requires in_order { IsInOrder position_first (edges_at edges.now self.now vertex) }
-        ensures numbers { result.now ≡ numbers_with_position edges.now position (numbers_at self.now vertex) }
-        ensures edges { map (edge_at edges.now) result.now ≡ with_position position (edges_at edges.now self.now vertex) }
-        ensures in_order { IsInEdgeOrder (map (edge_at edges.now) result.now) }
+        ensures numbers { result ≡ numbers_with_position edges.now position (numbers_at self.now vertex) }
+        ensures edges { map (edge_at edges.now) result ≡ with_position position (edges_at edges.now self.now vertex) }
+        ensures in_order { IsInEdgeOrder (map (edge_at edges.now) result) }
     {
-        let list = self.at(vertex);
-        let from = place_of(list, position, false, edges);
-        let to = place_of(list, position, true, edges);
-        &list[from..to]
+        let list = self.list_at(vertex);
+        let numbers = whole(list);
+        let from = place_of(&numbers, position, false, edges);
+        let to = place_of(&numbers, position, true, edges);
+        LentNumbers::of(list, from, to)
     }
 }

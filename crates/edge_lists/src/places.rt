@@ -5,13 +5,18 @@ ghost use Rattle.edge_lists.specs.Order.{IsInOrder, position_first};
 ghost use Rattle.edge_lists.specs.Places.{place, place_of_position, is_up_to};
 ghost use Rattle.grove_sorts.specs.Position.{position_cmp};
 
+use crate::lent_numbers::LentNumbers;
 use crate::list_order::ListOrder;
 use edge_numbers::EdgeNumbers;
 use grove_sorts::Position;
 use std::cmp::Ordering;
 
 /// How many first numbers of a list are of edges before an edge.
-pub(crate) fn place_in<O: ListOrder>(list: &[u32], edge: usize, edges: &EdgeNumbers) -> usize
+pub(crate) fn place_in<O: ListOrder>(
+    list: &LentNumbers<'_>,
+    edge: usize,
+    edges: &EdgeNumbers,
+) -> usize
     requires known { AreEdgeNumbers edges.now list.now }
     requires edge { IsEdgeNumber edges.now edge }
     requires in_order { IsInOrder O.order (map (edge_at edges.now) list.now) }
@@ -21,7 +26,7 @@ pub(crate) fn place_in<O: ListOrder>(list: &[u32], edge: usize, edges: &EdgeNumb
     let mut high = list.len();
     while low < high {
         let middle = low + (high - low) / 2;
-        if O::compare(edges, list[middle] as usize, edge).is_lt() {
+        if O::compare(edges, list.number(middle), edge).is_lt() {
             low = middle + 1;
         } else {
             high = middle;
@@ -42,7 +47,12 @@ fn is_before(a: Position, b: Position, itself: bool) -> bool
 }
 
 /// How many first numbers of a list are of edges from positions before this one, or from this one where it counts itself.
-pub(crate) fn place_of(list: &[u32], position: Position, itself: bool, edges: &EdgeNumbers) -> usize
+pub(crate) fn place_of(
+    list: &LentNumbers<'_>,
+    position: Position,
+    itself: bool,
+    edges: &EdgeNumbers,
+) -> usize
     requires known { AreEdgeNumbers edges.now list.now }
     requires in_order { IsInOrder position_first (map (edge_at edges.now) list.now) }
     ensures { result ≡ place_of_position itself position edges.now list.now }
@@ -51,7 +61,7 @@ pub(crate) fn place_of(list: &[u32], position: Position, itself: bool, edges: &E
     let mut high = list.len();
     while low < high {
         let middle = low + (high - low) / 2;
-        if is_before(edges.position(list[middle] as usize), position, itself) {
+        if is_before(edges.position(list.number(middle)), position, itself) {
             low = middle + 1;
         } else {
             high = middle;

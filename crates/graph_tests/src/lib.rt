@@ -1,17 +1,13 @@
-//! Tests of graphs: walks, stores, indexes, live graphs, and the trees they decompose into. Each test calls what a crate makes public. Tables, and
-//! the trees of their graphs, are looked at on the built program.
+//! Tests of graphs: walks, live graphs alone and joined, and the trees that graphs decompose into. Each test calls what a crate makes public.
+//! Tables, and the trees of their graphs one by one, are looked at on the built program.
 #![tactic(auto)]
 
-#[cfg(test)]
-mod child_index_tests;
-#[cfg(test)]
-mod edge_index_tests;
 #[cfg(test)]
 mod edge_lists_tests;
 #[cfg(test)]
 mod edge_numbers_tests;
 #[cfg(test)]
-mod graph_store_tests;
+mod graph_joins_tests;
 #[cfg(test)]
 mod grove_decompose_tests;
 #[cfg(test)]
@@ -20,8 +16,6 @@ mod grove_terms_tests;
 mod live_graph_tests;
 #[cfg(test)]
 mod numbers_by_name_tests;
-#[cfg(test)]
-mod parent_index_tests;
 #[cfg(test)]
 mod seeded_hash_tests;
 #[cfg(test)]

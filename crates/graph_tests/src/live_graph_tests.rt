@@ -374,6 +374,41 @@ fn edges_are_told_one_by_one(rt: HostRuntime) -> Result<(), Fail> {
     Ok(())
 }
 
+fn check_seven<L: Ledger, R: Abort>(rt: &R, blank: Blank, graph: &LiveGraph)
+    requires name { blank.name ≡ L.name }
+    requires parts { blank.parts ≡ L.parts }
+    requires some { 0 < blank.parts }
+{
+    let mut steps = Steps::<L>::new(blank);
+    let few = graph.few(&edge(1, 5).target, &mut steps);
+    assert!(rt; few == Few::More(edge(1, 5), edge(2, 5)));
+    let parents = graph.parents(&edge(1, 5).target, &mut steps);
+    assert!(rt; parents.get(0) == Some(edge(1, 5)));
+    assert!(rt; parents.get(1) == Some(edge(2, 5)));
+    assert!(rt; parents.len() == 2);
+}
+
+fn check_parents<R: Abort>(rt: &R, graph: &LiveGraph) {
+    check_seven::<Brand, R>(rt, Blank::new(1), graph)
+}
+
+fn check_both_parents<R: Abort>(rt: &R, alloc: Global) -> Result<(), NoMemory> {
+    let steps = [
+        (Some(EditKind::Insert), edge(2, 5)),
+        (Some(EditKind::Insert), edge(1, 5)),
+    ];
+    let graph = graph_of(alloc, &steps)?;
+    check_parents(rt, &graph);
+    assert!(rt; graph.vertex_count() == 1);
+    Ok(())
+}
+
+#[test]
+fn both_edges_with_the_same_ends_are_told(rt: HostRuntime) -> Result<(), Fail> {
+    check_both_parents(&rt, rt.alloc())?;
+    Ok(())
+}
+
 // The steps of two edges, the first of which is deleted at the end.
 fn steps_with_a_deletion() -> [(Option<EditKind>, Edge); 3] {
     [

@@ -7,7 +7,6 @@ use graph_words::{Few, ParentOf, Steps};
 use grove_edits::{Edge, Vertex, is_same_vertex};
 use grove_names::Name;
 use grove_sorts::{Ctor, Position};
-use seeded_hash::HashSeed;
 use std::alloc::Global;
 use std::marker::{Brand, Model};
 use std::sync::ledger::{Blank, Ledger};
@@ -143,7 +142,7 @@ fn find<L: Ledger>(alloc: Global, blank: Blank) -> Result<Found, NoMemory>
         vertex(1, Ctor::Fst),
     ];
     Ok(Found {
-        roots: cycle_roots(alloc, HashSeed::FIXED, &vertices, &edges, &mut steps)?,
+        roots: cycle_roots(alloc, &vertices, &edges, &mut steps)?,
         least: class_of(&least, &edges, &mut steps),
         other: class_of(&other, &edges, &mut steps),
     })

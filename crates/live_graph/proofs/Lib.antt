@@ -18,4 +18,5 @@ pub mod OneEdge
 pub mod Counts
 pub mod LeastTwo
 pub mod VertexNames
+pub mod WalkLengths
 pub mod Maxima

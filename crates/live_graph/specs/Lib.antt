@@ -7,3 +7,4 @@ pub mod Kept
 pub mod ByName
 pub mod Uses
 pub mod Greatest
+pub mod FewEdges

@@ -1,7 +1,9 @@
 ghost use Rattle.std.specs.Prelude.{◌≡◌, ◌==◌, ◌∷◌, [], length, slice_get, IfSome, IfNone};
 
+use edge_lists::LentNumbers;
 use edge_numbers::EdgeNumbers;
 use grove_edits::{Edge, Vertex};
+use grove_sorts::Position;
 use std::marker::Model;
 
 /// A live edge, lent by its graph, which keeps it as a few numbers.
@@ -30,6 +32,20 @@ impl<'g> LiveEdge<'g> {
         self.edges.edge(self.number)
     }
 
+    /// The position from which it leads.
+    pub fn position(&self) -> Position
+        ensures { result ≡ self.now.position }
+    {
+        self.edges.position(self.number)
+    }
+
+    /// The vertex from which it leads.
+    pub fn source(&self) -> &'g Vertex
+        ensures { result.now ≡ self.now.source }
+    {
+        self.edges.vertex(self.edges.source(self.number))
+    }
+
     /// The vertex that it leads to.
     pub fn target(&self) -> &'g Vertex
         ensures { result.now ≡ self.now.target }
@@ -42,7 +58,7 @@ impl<'g> LiveEdge<'g> {
 #[derive(Drop)]
 pub struct Edges<'g> {
     pub(crate) edges: &'g EdgeNumbers,
-    pub(crate) numbers: &'g [u32],
+    pub(crate) numbers: LentNumbers<'g>,
 }
 
 impl<'g> Model for Edges<'g> {
@@ -53,19 +69,9 @@ impl<'g> Model for Edges<'g> {
 
     ghost Value = { List Edge };
 
-    ghost view = { λ es. map (edge_at es.edges.now) es.numbers.now };
+    ghost view = { λ es. map (edge_at es.edges.now) es.numbers };
 
-    ghost invariant = { λ es. AreEdgeNumbers es.edges.now es.numbers.now };
-}
-
-// The number at an index of a list.
-fn number_at(numbers: &[u32], index: usize) -> Option<usize>
-    ensures { result ≡ slice_get numbers.now index }
-{
-    if index >= numbers.len() {
-        return None;
-    }
-    Some(numbers[index] as usize)
+    ghost invariant = { λ es. AreEdgeNumbers es.edges.now es.numbers };
 }
 
 impl<'g> Edges<'g> {
@@ -80,9 +86,10 @@ impl<'g> Edges<'g> {
     pub fn get(&self, index: usize) -> Option<Edge>
         ensures edge { result ≡ slice_get self.now index }
     {
-        let number = number_at(self.numbers, index)?;
+        let number = self.numbers.get(index)?;
         Some(self.edges.edge(number))
     }
+
     /// Whether there are none.
     pub fn is_empty(&self) -> bool
         ensures { result ≡ (length self.now == 0) }
@@ -102,10 +109,10 @@ impl<'g> Edges<'g> {
         ensures both { IfSome result (λ found. self.now ≡ found.0 ∷ found.1) }
         ensures none { IfNone result (self.now ≡ []) }
     {
-        let (first, others) = self.numbers.split_first()?;
+        let (number, others) = self.numbers.split_first()?;
         let edge = LiveEdge {
             edges: self.edges,
-            number: *first as usize,
+            number,
         };
         let edges = Edges {
             edges: self.edges,

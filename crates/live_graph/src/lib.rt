@@ -4,6 +4,7 @@
 
 mod by_name;
 mod edges;
+mod few_edges;
 mod greatest;
 mod live_graph;
 mod live_lists;
@@ -12,9 +13,11 @@ mod parent_count;
 mod places;
 mod uses;
 mod vertices;
+mod walk_up;
 mod whole;
 
 pub use edges::{Edges, LiveEdge};
+pub use few_edges::FewEdges;
 pub use graph_words::{Change, Named};
 pub use live_graph::LiveGraph;
 pub use text_parts::NoMemory;

@@ -9,18 +9,23 @@ ghost use Rattle.graph_words.specs.Whole.{AreLive, AreVertices};
 ghost use Rattle.graph_words.specs.States.{state_in, with_state, HasRoom, KeepsRoom, well_formed};
 ghost use Rattle.graph_words.specs.Change.{IsChange};
 ghost use Rattle.graph_words.specs.Names.{IsGreatest, IsNameOf};
+ghost use Rattle.graph_words.specs.Cycle.{leads_to};
+ghost use Rattle.graph_words.specs.Few.{first_two, few_len};
+ghost use Rattle.live_graph.specs.FewEdges.{few_of};
 ghost use Rattle.live_graph.specs.Live.{live};
 ghost use Rattle.graph_words.specs.Named.{AreNamed, AreLeastTwo, IsVertexNamed};
 ghost use Rattle.live_graph.specs.NumberOf.{IsNumberOf, KeepsNumbersOf};
 
 use crate::by_name::{find, name_next_edge, sort_edges, with_name};
 use crate::edges::Edges;
+use crate::few_edges::{FewEdges, first_two_of};
 use crate::greatest::{greatest_of_edges, greatest_of_vertices};
 use crate::live_lists::enter;
 use crate::neighbours::{children_at, parents_at};
 use crate::parent_count::set_counted_state;
 use crate::uses::recount_ends;
 use crate::vertices::least_named;
+use crate::walk_up::leads_to;
 use crate::whole::{are_edits, edits_of, ends_of, sort_vertices};
 use edge_lattice::{State, join, leq};
 use edge_lists::{ByEdge, ByPosition, EdgeLists};
@@ -106,6 +111,14 @@ impl LiveGraph {
         ensures only { (n : ℕ) → IsNumberOf self.now edge.now n → result ≡ Some n }
     {
         find(&self.edges, &self.edge_names, edge)
+    }
+
+    /// The edge with a number.
+    pub fn edge(&self, number: usize) -> Edge
+        requires { number < length self.now }
+        ensures { IsNumberOf self.now result number }
+    {
+        self.edges.edge(number)
     }
 
     /// The state of an edge.
@@ -292,7 +305,7 @@ impl LiveGraph {
     {
         let numbers = children_at(&self.edges, &self.children, vertex, position);
         steps.tick();
-        for _child in numbers {
+        for _child in 0..numbers.len() {
             steps.tick();
         }
         Edges {
@@ -301,13 +314,20 @@ impl LiveGraph {
         }
     }
 
+    /// Whether the second vertex stands on the walk up from the first. It goes by the numbers of vertices, and takes no hash on the way.
+    pub fn leads_to(&self, from: &Vertex, vertex: &Vertex) -> bool
+        ensures { result ≡ leads_to (live self.now) from.now vertex.now }
+    {
+        leads_to(&self.edges, &self.parents, self.parent_count, from, vertex)
+    }
+
     /// No edges, for what reads the live edges around vertices and is at none.
     pub fn no_edges(&self) -> Edges<'_>
         ensures none { result ≡ [] }
     {
         Edges {
             edges: &self.edges,
-            numbers: &[],
+            numbers: self.children.none(),
         }
     }
 
@@ -322,6 +342,25 @@ impl LiveGraph {
         }
     }
 
+    /// The least two live parent edges of a vertex, lent. It ticks once for the call, and once for each edge answered, as `few` does.
+    pub fn few_parents<L: Ledger>(&self, vertex: &Vertex, steps: &mut Steps<L>) -> FewEdges<'_>
+        ensures least { few_of result ≡ first_two (parents_of vertex.now (live self.now)) }
+        ensures ticks { steps.new ≡ steps.old + 1 + few_len (few_of result) }
+        ensures in_order { IsInEdgeOrder (live self.now) }
+    {
+        let few = first_two_of(&self.parents_told(vertex));
+        steps.tick();
+        match &few {
+            FewEdges::Zero => {}
+            FewEdges::One(_) => steps.tick(),
+            FewEdges::More(_, _) => {
+                steps.tick();
+                steps.tick();
+            }
+        }
+        few
+    }
+
     /// The live parent edges of a vertex, in edge order. It ticks once for the call, and once for each edge.
     pub fn parents<L: Ledger>(&self, vertex: &Vertex, steps: &mut Steps<L>) -> Edges<'_>
         ensures parents { result ≡ parents_of vertex.now (live self.now) }
@@ -330,7 +369,7 @@ impl LiveGraph {
     {
         let numbers = parents_at(&self.edges, &self.parents, vertex);
         steps.tick();
-        for _parent in numbers {
+        for _parent in 0..numbers.len() {
             steps.tick();
         }
         Edges {

@@ -37,3 +37,6 @@ pub mod SizeBound
 pub mod Receipts
 pub mod AllApplied
 pub mod Idle
+pub mod HeldBefore
+pub mod Judgements
+pub mod ChangedMarks

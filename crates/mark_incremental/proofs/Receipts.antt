@@ -27,10 +27,10 @@ use Rattle.mark_incremental.proofs.Lists.{all_gives}
 
 -- ---- what is put back over marks that have grown
 
-back_along : (old : List (Vertex × Option Record)) (found later : Vertex → Option Record) → ((v : Vertex) → later v ≡ found v) → (v : Vertex) → put_back_in old later v ≡ put_back_in old found v
+pub back_along : (old : List (Vertex × Option Record)) (found later : Vertex → Option Record) → ((v : Vertex) → later v ≡ found v) → (v : Vertex) → put_back_in old later v ≡ put_back_in old found v
 back_along old found later same v = ap (λ (f : Vertex → Option Record). put_back_in old f v) (λ j u. same u j)
 
-roots_along : (root : Option (Vertex × Bool)) (found later : Vertex → Bool) → ((v : Vertex) → later v ≡ found v) → (v : Vertex) → roots_back root later v ≡ roots_back root found v
+pub roots_along : (root : Option (Vertex × Bool)) (found later : Vertex → Bool) → ((v : Vertex) → later v ≡ found v) → (v : Vertex) → roots_back root later v ≡ roots_back root found v
 roots_along root found later same v = ap (λ (f : Vertex → Bool). roots_back root f v) (λ j u. same u j)
 
 pub grown_then : (first second third : KeptMarks) → HaveGrown first second → HaveGrown second third → HaveGrown first third

@@ -10,4 +10,6 @@ pub mod Rooting
 pub mod Ticks
 pub mod Cost
 pub mod Receipts
+pub mod Changed
+pub mod Before
 pub mod AtConflict

@@ -4,6 +4,7 @@
 mod apart;
 mod applying;
 mod applying_all;
+mod changed;
 mod conflict;
 mod frame;
 mod given;

@@ -1,7 +1,8 @@
 use crate::planning::due;
 use crate::replica::Replica;
 use graph_words::Steps;
-use grove_edits::{Actor, Answer, Command, EditList};
+use grove_edits::{Actor, Answer, Command};
+use shared_edits::SharedEdits;
 use shared_replica::Machine;
 use std::alloc::Global;
 use std::sync::ledger::Ledger;
@@ -10,7 +11,7 @@ use text_parts::NoMemory;
 impl Machine for Replica {
     type Command = Command;
 
-    type Effect = EditList;
+    type Effect = SharedEdits;
 
     type Reply = Answer;
 
@@ -31,9 +32,10 @@ impl Machine for Replica {
         actor: Actor,
         command: &Command,
         steps: &mut Steps<L>,
-    ) -> Result<(EditList, Answer), NoMemory> {
+    ) -> Result<(SharedEdits, Answer), NoMemory> {
         let (edits, answer) = due(alloc, &self.view(), actor, command)?;
-        self.apply_all(&edits, steps)?;
-        Ok((edits, answer))
+        let effect = self.shared(alloc, command, edits)?;
+        self.take(effect.as_slice(), steps)?;
+        Ok((effect, answer))
     }
 }

@@ -1,11 +1,13 @@
 ghost use Rattle.std.specs.Prelude.{◌≡◌, ◌+◌, ◌<◌, ◌≤◌, ℕ, [], ◌∷◌, ◌++◌, List, IsTrue, IfOk, OnOk, OnErr};
 ghost use Rattle.grove_edits.specs.declared.act_fault.ActFault.{ActFault};
-ghost use Rattle.grove_edits.specs.Graph.{graph, Ascends, IsCanonical};
+ghost use Rattle.grove_edits.specs.Graph.{graph, Ascends, IsCanonical, IsSame};
 ghost use Rattle.graph_words.specs.States.{state_in};
+ghost use Rattle.graph_words.specs.Whole.{AreLive};
 ghost use Rattle.live_graph.specs.Live.{live};
 ghost use Rattle.user_actions.specs.Flags.{opening_edges};
 ghost use Rattle.user_actions.specs.Plan.{IsPlan};
 ghost use Rattle.mark_incremental.specs.Standing.{StandFor};
+ghost use Rattle.mark_incremental.specs.Changed.{AreChangedMarks};
 ghost use Rattle.grove_answers.specs.Texts.{IsPrintText, IsCanonicalText};
 ghost use Rattle.replica_core.specs.Content.{IsContent, no_edits, with_taken, with_block};
 ghost use Rattle.replica_core.specs.Plain.{as_edits};
@@ -17,10 +19,11 @@ use crate::planning::planned;
 use crate::texts::append_print_text;
 use graph_words::Steps;
 use grove_answers::append_canonical_text;
-use grove_edits::{Action, Answer, Edit, EditList};
+use grove_edits::{Action, Answer, Command, Edit, EditList, Vertex};
 use live_graph::LiveGraph;
 use mark_incremental::Marks;
 use seeded_hash::HashSeed;
+use shared_edits::{CutEffects, SharedEdits};
 use std::alloc::Global;
 use std::marker::Model;
 use std::sync::ledger::Ledger;
@@ -37,6 +40,8 @@ pub struct Replica {
     // Which edges were not Absent as the block opened.
     opening: OpeningFlags,
     marks: Marks,
+    // What cuts deleted, so that cuts that delete the same share it. Contracts do not see it.
+    cuts: CutEffects,
 }
 
 impl Model for Replica {
@@ -69,15 +74,16 @@ impl Replica {
             graph,
             opening,
             marks,
+            cuts: CutEffects::new(alloc),
         })
     }
 
     /// Opens a block: the opening edges are now those that are not Absent. The graph stays.
-    pub fn begin_block(&mut self, alloc: Global) -> Result<(), NoMemory>
+    pub fn begin_block(&mut self, _alloc: Global) -> Result<(), NoMemory>
         ensures opened { OnOk result (self.new ≡ with_block self.old) }
         ensures unchanged { OnErr result (self.new ≡ self.old) }
     {
-        self.opening = OpeningFlags::of(alloc, &self.graph)?;
+        self.opening.renew(&self.graph)?;
         Ok(())
     }
 
@@ -117,12 +123,75 @@ impl Replica {
         self.take(edits.as_slice(), steps)
     }
 
-    fn take<L: Ledger>(&mut self, edits: &[Edit], steps: &mut Steps<L>) -> Result<(), NoMemory>
+    /// The edits of a step, which an entry of a journal may share with an earlier one.
+    pub(crate) fn shared(
+        &mut self,
+        alloc: Global,
+        command: &Command,
+        edits: EditList,
+    ) -> Result<SharedEdits, NoMemory>
+        ensures edits { IfOk result (λ shared. shared ≡ edits) }
+        ensures unchanged { self.new ≡ self.old }
+    {
+        match command {
+            Command::Act(Action::Cut { edge }) => self.cuts.of_cut(alloc, *edge, edits),
+            _ => SharedEdits::new(alloc, edits),
+        }
+    }
+
+    pub(crate) fn take<L: Ledger>(
+        &mut self,
+        edits: &[Edit],
+        steps: &mut Steps<L>,
+    ) -> Result<(), NoMemory>
         ensures taken { OnOk result (self.new ≡ with_taken edits.now self.old) }
         ensures unchanged { OnErr result (self.new ≡ self.old) }
         ensures bounded { steps.new ≤ steps.old + edits_cost self.old edits.now }
     {
         self.marks.apply_all(edits, &mut self.graph, steps)
+    }
+
+    /// Takes edits as `apply_all` does, and answers the vertices that are judged otherwise than before, in vertex order: those of which the
+    /// mode, the type or the mark is another, which came or went, and those that became the root of a cycle or ceased to be one.
+    pub fn apply_all_telling<L: Ledger>(
+        &mut self,
+        edits: &EditList,
+        steps: &mut Steps<L>,
+    ) -> Result<Vec<Vertex>, NoMemory>
+        ensures taken { OnOk result (self.new ≡ with_taken edits.now self.old) }
+        ensures changed { IfOk result (λ changed. AreChangedMarks (graph self.old.edits) (graph self.new.edits) changed.items) }
+        ensures unchanged { OnErr result (self.new ≡ self.old) }
+        ensures bounded { steps.new ≤ steps.old + edits_cost self.old edits.now }
+    {
+        self.take_telling(edits.as_slice(), steps)
+    }
+
+    fn take_telling<L: Ledger>(
+        &mut self,
+        edits: &[Edit],
+        steps: &mut Steps<L>,
+    ) -> Result<Vec<Vertex>, NoMemory>
+        ensures taken { OnOk result (self.new ≡ with_taken edits.now self.old) }
+        ensures changed { IfOk result (λ changed. AreChangedMarks (graph self.old.edits) (graph self.new.edits) changed.items) }
+        ensures unchanged { OnErr result (self.new ≡ self.old) }
+        ensures bounded { steps.new ≤ steps.old + edits_cost self.old edits.now }
+    {
+        self.marks.apply_all_telling(edits, &mut self.graph, steps)
+    }
+
+    /// The edits of an author's action on the graph and what is answered, of which none is taken. An action that is refused has no edits.
+    pub fn plan(
+        &self,
+        alloc: Global,
+        author: u32,
+        action: &Action,
+    ) -> Result<(EditList, Answer), NoMemory>
+        requires author { 0 < author }
+        ensures plan { IfOk result (λ made. IsPlan (graph self.now.edits) self.now.opening author action.now made.0 made.1) }
+        ensures edits { IfOk result (λ made. made.0 ≡ as_edits (plan_of self.now author action.now).edits) }
+        ensures answer { IfOk result (λ made. made.1 ≡ (plan_of self.now author action.now).answer) }
+    {
+        planned(alloc, &self.view(), author, action)
     }
 
     /// Plans an author's action on the graph, and takes the edits of the plan. It answers them, and what the plan answers. An action that
@@ -143,7 +212,7 @@ impl Replica {
         ensures unchanged { OnErr result (self.new ≡ self.old) }
         ensures bounded { steps.new ≤ steps.old + edits_cost self.old (as_edits (plan_of self.old author action.now).edits) }
     {
-        let (edits, answer) = planned(alloc, &self.view(), author, action)?;
+        let (edits, answer) = self.plan(alloc, author, action)?;
         self.apply_all(&edits, steps)?;
         Ok((edits, answer))
     }
@@ -191,6 +260,16 @@ impl Replica {
         ensures { StandFor (graph self.now.edits) result.now }
     {
         &self.marks
+    }
+
+    /// The graph, lent to what reads live graphs, as undoing does. Its states are those of the canonical list, and so are its live edges.
+    pub fn graph(&self) -> &LiveGraph
+        ensures states { IsSame (state_in result.now) (graph self.now.edits) }
+        ensures live { AreLive (graph self.now.edits) (live result.now) }
+    {
+        // The live edges are those whose state is Live.
+        let _edges = self.graph.edge_count();
+        &self.graph
     }
 
     /// What plans read.

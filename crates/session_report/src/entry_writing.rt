@@ -6,13 +6,14 @@ ghost use Rattle.session_report.specs.Entry.{entry_line, entry_text};
 
 use crate::report_writing::append_with_number;
 use answer_words::write_answer;
-use grove_edits::{Action, Actor, Answer, Command, EditList};
+use grove_edits::{Action, Actor, Answer, Command};
 use session_script::write_action;
+use shared_edits::SharedEdits;
 use shared_replica::{Entry, Machine};
 use text_parts::NoMemory;
 
 /// Appends the line of an entry, with its LF.
-pub fn append_entry<M: Machine<Command = Command, Effect = EditList, Reply = Answer>>(
+pub fn append_entry<M: Machine<Command = Command, Effect = SharedEdits, Reply = Answer>>(
     entry: &Entry<M>,
     out: &mut Vec<u8>,
 ) -> Result<(), NoMemory>

@@ -5,13 +5,14 @@ ghost use Rattle.session_report.specs.Entry.{entry_text};
 ghost use Rattle.session_report.specs.Report.{block_heading, show_heading, replica_heading, journal_heading, journal_text, journals_text};
 
 use crate::entry_writing::append_entry;
-use grove_edits::{Answer, Command, EditList};
+use grove_edits::{Answer, Command};
 use grove_sorts::{Ident, write_ident};
+use shared_edits::SharedEdits;
 use shared_replica::{Journal, Machine};
 use text_parts::{NoMemory, write_number};
 
 /// Appends what is written of a block: its number, counted from 1, and the journals of the replicas with these names.
-pub fn append_block<M: Machine<Command = Command, Effect = EditList, Reply = Answer>>(
+pub fn append_block<M: Machine<Command = Command, Effect = SharedEdits, Reply = Answer>>(
     block: u64,
     names: &[Ident],
     journals: &[Journal<M>],
@@ -55,7 +56,7 @@ pub fn append_replica_heading(name: &Ident, out: &mut Vec<u8>) -> Result<(), NoM
 }
 
 // After an error a part may stand, as in the functions below.
-fn append_journals<M: Machine<Command = Command, Effect = EditList, Reply = Answer>>(
+fn append_journals<M: Machine<Command = Command, Effect = SharedEdits, Reply = Answer>>(
     block: u64,
     names: &[Ident],
     journals: &[Journal<M>],
@@ -71,7 +72,7 @@ fn append_journals<M: Machine<Command = Command, Effect = EditList, Reply = Answ
     Ok(())
 }
 
-fn append_journal<M: Machine<Command = Command, Effect = EditList, Reply = Answer>>(
+fn append_journal<M: Machine<Command = Command, Effect = SharedEdits, Reply = Answer>>(
     name: &Ident,
     journal: &Journal<M>,
     out: &mut Vec<u8>,

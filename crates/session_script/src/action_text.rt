@@ -55,8 +55,8 @@ fn append_action(action: &Action, out: &mut Vec<u8>) -> Result<(), NoMemory>
     }
 }
 
-// An action of the version, which all of the text spells.
-pub(crate) fn read_action(version: Version, text: &[u8]) -> Option<Action>
+/// Reads an action of the version, which all of the text spells: its word, and what it is done with and where.
+pub fn read_action(version: Version, text: &[u8]) -> Option<Action>
     ensures found { IfSome result (λ action. text.now ≡ spaced (action_parts action)) }
     ensures in_range { IfSome result ActionInRange }
     ensures of_version { IfSome result (IsActionOf version) }

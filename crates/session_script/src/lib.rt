@@ -21,7 +21,7 @@ mod statement;
 mod statement_reading;
 mod taking;
 
-pub use action_text::write_action;
+pub use action_text::{read_action, write_action};
 pub use author::Declared;
 pub use author_list::AuthorList;
 pub use ident_list::IdentList;

@@ -7,6 +7,7 @@ use grove_edits::{Action, Answer, Edit, EditList};
 use replica_core::Replica;
 use seeded_hash::HashSeed;
 use session_script::{Item, Line};
+use shared_edits::SharedEdits;
 use std::alloc::Global;
 use text_parts::NoMemory;
 
@@ -15,7 +16,7 @@ use text_parts::NoMemory;
 pub(crate) struct Acted {
     /// How many edits the replica had taken before.
     pub(crate) before: usize,
-    pub(crate) edits: EditList,
+    pub(crate) edits: SharedEdits,
 }
 
 /// A session at one replica some of whose items are over.

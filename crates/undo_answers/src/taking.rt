@@ -8,6 +8,7 @@ ghost use Rattle.replica_core.specs.Step.{after, effect, reply};
 use graph_words::Steps;
 use grove_edits::{Action, Actor, Answer, Command, EditList};
 use replica_core::Replica;
+use shared_edits::SharedEdits;
 use shared_replica::Machine;
 use std::alloc::Global;
 use std::marker::Brand;
@@ -42,7 +43,7 @@ pub(crate) fn act(
     replica: &mut Replica,
     author: u32,
     action: Action,
-) -> Result<(EditList, Answer), NoMemory>
+) -> Result<(SharedEdits, Answer), NoMemory>
     ensures edits { IfOk result (λ acted. acted.0 ≡ effect replica.old (Author author) (Act action)) }
     ensures answer { IfOk result (λ acted. acted.1 ≡ reply replica.old (Author author) (Act action)) }
     ensures taken { OnOk result (replica.new ≡ after replica.old (Author author) (Act action)) }
@@ -56,7 +57,7 @@ fn act_counting<L: Ledger>(
     author: u32,
     action: Action,
     blank: Blank,
-) -> Result<(EditList, Answer), NoMemory>
+) -> Result<(SharedEdits, Answer), NoMemory>
     requires name { blank.name ≡ L.name }
     requires parts { blank.parts ≡ L.parts }
     requires some { 0 < blank.parts }

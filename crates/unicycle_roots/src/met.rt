@@ -5,24 +5,19 @@ ghost use Rattle.graph_words.specs.Met.{met_by, unmet, round_len, KeepsMet, AreN
 
 use graph_words::{ParentOf, Steps, vertex_above};
 use grove_edits::Vertex;
-use indexmap::IndexMap;
-use seeded_hash::HashSeed;
+use std::collections::BTreeMap;
 use std::sync::ledger::Ledger;
 use text_parts::NoMemory;
 
 /// The number of the walk that met a vertex first.
-fn met_by(met: &IndexMap<Vertex, usize, HashSeed>, vertex: &Vertex) -> Option<usize>
+fn met_by(met: &BTreeMap<Vertex, usize>, vertex: &Vertex) -> Option<usize>
     ensures { result ≡ met_by met.now.entries vertex.now }
 {
     met.get(vertex).copied()
 }
 
 /// Gives a vertex a number.
-fn enter(
-    met: &mut IndexMap<Vertex, usize, HashSeed>,
-    vertex: &Vertex,
-    number: usize,
-) -> Result<(), NoMemory>
+fn enter(met: &mut BTreeMap<Vertex, usize>, vertex: &Vertex, number: usize) -> Result<(), NoMemory>
     ensures { OnOk result ((v : Vertex) → met_by met.new.entries v ≡ (if is_same_vertex vertex.now v then Some number else met_by met.old.entries v)) }
 {
     met.insert(*vertex, number)?;
@@ -34,7 +29,7 @@ fn enter(
 pub(crate) fn walk_up<P: ParentOf, L: Ledger>(
     start: &Vertex,
     number: usize,
-    met: &mut IndexMap<Vertex, usize, HashSeed>,
+    met: &mut BTreeMap<Vertex, usize>,
     parents: &P,
     steps: &mut Steps<L>,
 ) -> Result<Option<Vertex>, NoMemory>

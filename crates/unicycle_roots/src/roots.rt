@@ -7,10 +7,8 @@ use crate::cycle::root_of_cycle;
 use crate::met::walk_up;
 use graph_words::{Class, ParentOf, Steps};
 use grove_edits::Vertex;
-use indexmap::IndexMap;
-use seeded_hash::HashSeed;
 use std::alloc::Global;
-use std::collections::BTreeSet;
+use std::collections::{BTreeMap, BTreeSet};
 use std::sync::ledger::Ledger;
 use text_parts::NoMemory;
 
@@ -32,7 +30,6 @@ fn add(roots: &mut BTreeSet<Vertex>, root: Vertex) -> Result<(), NoMemory>
 /// The roots of the cycles to which the walks up from some vertices lead.
 fn roots_above<P: ParentOf, L: Ledger>(
     alloc: Global,
-    seed: HashSeed,
     vertices: &[Vertex],
     parents: &P,
     steps: &mut Steps<L>,
@@ -40,7 +37,7 @@ fn roots_above<P: ParentOf, L: Ledger>(
     ensures roots { IfOk result (λ roots. (v : Vertex) → stands_in v vertices.now ≡ true → stands_in v roots.keys ≡ is_cycle_root (P.live parents.now) v) }
     ensures ticks { steps.new ≤ steps.old + 4 * length (P.live parents.now) + 3 * length vertices.now }
 {
-    let mut met = IndexMap::with_hasher(alloc, seed);
+    let mut met = BTreeMap::new(alloc);
     let mut roots = BTreeSet::new(alloc);
     for (number, start) in vertices.iter().enumerate() {
         if let Some(entry) = walk_up(start, number, &mut met, parents, steps)? {
@@ -68,10 +65,9 @@ fn held(
 }
 
 /// Those of some vertices that are the roots of cycles. However long the chains above them are, it takes no more ticks than a few for
-/// each live edge and each of these vertices. Vertices are found by their hash under a seed.
+/// each live edge and each of these vertices.
 pub fn cycle_roots<P: ParentOf, L: Ledger>(
     alloc: Global,
-    seed: HashSeed,
     vertices: &[Vertex],
     parents: &P,
     steps: &mut Steps<L>,
@@ -79,6 +75,6 @@ pub fn cycle_roots<P: ParentOf, L: Ledger>(
     ensures roots { IfOk result (λ roots. roots.items ≡ of_class Class.Cycle (P.live parents.now) vertices.now) }
     ensures ticks { steps.new ≤ steps.old + 4 * length (P.live parents.now) + 3 * length vertices.now }
 {
-    let roots = roots_above(alloc, seed, vertices, parents, steps)?;
+    let roots = roots_above(alloc, vertices, parents, steps)?;
     held(alloc, vertices, &roots)
 }

@@ -1,12 +1,11 @@
 -- What flags by the numbers of edges tell.
-use Rattle.std.proofs.Common.{◌≡◌, ◌≢◌, ℕ, zero, suc, ◌+◌, ◌<◌, ◌≤◌, Bool, true, false, List, [], ◌∷◌, ◌++◌, length, get_or, map, take, refl, sym, ap, ◌∙◌, arith}
+use Rattle.std.proofs.Common.{◌≡◌, ◌≢◌, ◌⊎◌, inl, inr, ℕ, zero, suc, ◌<◌, ◌≤◌, Bool, true, false, List, [], ◌∷◌, length, get_or, map, take, refl, sym, ap, subst, ◌∙◌, arith}
 use Rattle.std.specs.Prelude.{◌&&◌, ◌||◌, cond}
-use Rattle.std.proofs.lemmas.List.{get_or_past, length-map, map_more, take_all}
-use Rattle.edge_lattice.specs.declared.state.State.{State}
+use Rattle.std.proofs.lemmas.List.{get_or_past, length-map}
 use Rattle.edge_lattice.specs.declared.state.State.TheVariants.{Absent}
 use Rattle.grove_sorts.proofs.Truths.{both_true, or_left, or_right, false_from, and_true, same_tests}
 use Rattle.grove_edits.specs.declared.edge.Edge.{Edge}
-use Rattle.grove_edits.specs.Graph.{is_same_edge}
+use Rattle.grove_edits.specs.Graph.{Graph, is_same_edge}
 use Rattle.grove_edits.proofs.Orders.{one_edge}
 use Rattle.graph_words.specs.Live.{IsInEdgeOrder, holds_edge}
 use Rattle.graph_words.specs.Ordered.{with_edge}
@@ -15,7 +14,7 @@ use Rattle.edge_numbers.specs.Numbered.{edges_of, no_edge}
 use Rattle.graph_words.specs.States.{Entries, state_in, is_present}
 use Rattle.live_graph.specs.NumberOf.{IsNumberOf, KeepsNumbersOf}
 use Rattle.grove_terms.proofs.InLive.{same_edge_itself}
-use Rattle.user_actions.specs.Flags.{flagged, opening_edges, present_flags}
+use Rattle.user_actions.specs.Flags.{flagged, opening_edges, present_flags, first_flags, AreTrue}
 use Rattle.user_actions.specs.Good.{AreOpening}
 use Rattle.user_actions.specs.Lists.{ArePresent}
 use Rattle.user_actions.proofs.SomeLists.{entries_have}
@@ -155,18 +154,35 @@ holds-flagged_by p (x ∷ xs) e = by_flag (p x) refl (is_same_edge x e) refl (ho
       ∙ gone (p e) (holds_edge e xs) (is_same_edge x e || holds_edge e xs) (ap p (sym (one_edge x e same)) ∙ flag)
   by_flag false flag false other held = ap (λ f. holds_edge e (cond f (with_edge x rest) rest)) flag ∙ held ∙ ap (λ b. p e && (b || holds_edge e xs)) (sym other)
 
--- with the flag of the next edge
-pub flags_next : (entries : Entries) (i : ℕ) (s : State) (flag : Bool) (flags more : List Bool) → i < length entries → s ≡ state_in entries (get_or (edges_of entries) i no_edge) → flag ≡ is_present s
-    → flags ≡ map (λ e. is_present (state_in entries e)) (take i (edges_of entries)) → more ≡ flags ++ flag ∷ [] → more ≡ map (λ e. is_present (state_in entries e)) (take (i + 1) (edges_of entries))
-flags_next entries i s flag flags more within state told so_far behind =
-    behind
-    ∙ ap (λ (bs : List Bool). bs ++ flag ∷ []) so_far
-    ∙ ap (λ b. map (λ e. is_present (state_in entries e)) (take i (edges_of entries)) ++ b ∷ []) (told ∙ ap is_present state)
-    ∙ sym (map_more (λ e. is_present (state_in entries e)) (edges_of entries) i no_edge (omega (arith, within, length-map entries (λ entry. entry.0))))
+-- flags that are true are those of edges that are not Absent
+flags-true : (p : Edge → Bool) (es : List Edge) (flags : List Bool) → length flags ≤ length es → AreTrue flags → ((e : Edge) → holds_edge e (flagged es flags) ≡ true → p e ≡ true) → flags ≡ map p (take (length flags) es)
+flags-true p es [] within all held = refl
+flags-true p [] (flag ∷ flags) within all held = absurd (omega (arith, within))
+flags-true p (x ∷ xs) (false ∷ flags) within all held = absurd cc
+flags-true p (x ∷ xs) (true ∷ flags) within all held =
+    let here : holds_edge x (with_edge x (flagged xs flags)) ≡ true = holds-with_edge x x (flagged xs flags) ∙ or_left (is_same_edge x x) (holds_edge x (flagged xs flags)) (same_edge_itself x) in
+    let rest = flags-true p xs flags (omega (arith, within)) all.1 (λ e is. held e (holds-with_edge e x (flagged xs flags) ∙ or_right (is_same_edge x e) (holds_edge e (flagged xs flags)) is)) in
+    ap (λ b. b ∷ flags) (sym (held x here)) ∙ ap (λ bs. p x ∷ bs) rest
 
-pub flags_all : (entries : Entries) (i : ℕ) (flags : List Bool) → length entries ≤ i → flags ≡ map (λ e. is_present (state_in entries e)) (take i (edges_of entries)) → flags ≡ present_flags entries
-flags_all entries i flags all so_far =
-    so_far ∙ ap (map (λ e. is_present (state_in entries e))) (take_all i (edges_of entries) (omega (arith, all, length-map entries (λ entry. entry.0))))
+pub first_flags-true : (entries : Entries) (flags : List Bool) → length flags ≤ length entries → AreTrue flags → AreOpening (state_in entries) (opening_edges entries flags) → flags ≡ first_flags entries (length flags)
+first_flags-true entries flags within all opened =
+    flags-true (λ e. is_present (state_in entries e)) (edges_of entries) flags (omega (arith, within, length-map entries (λ entry. entry.0))) all
+    (λ e is. test_from_present (state_in entries e) (opened e is))
+
+-- where there are no flags nothing is open
+pub none_open : (g : Graph) (entries : Entries) (flags : List Bool) → flags ≡ [] → AreOpening g (opening_edges entries flags)
+none_open g entries flags none e held = let nothing : false ≡ true = sym (ap (holds_edge e) (ap (opening_edges entries) none ∙ nothing_flagged (edges_of entries))) ∙ held in absurd cc where
+  nothing_flagged : (es : List Edge) → flagged es [] ≡ []
+  nothing_flagged [] = refl
+  nothing_flagged (x ∷ xs) = refl
+
+-- what is kept of flags are those of the first numbers
+pub kept_told : (entries : Entries) (old flags : List Bool) (count : ℕ) → count ≡ length flags → AreTrue flags → (flags ≡ old) ⊎ (flags ≡ []) → length old ≤ length entries → AreOpening (state_in entries) (opening_edges entries old)
+    → flags ≡ first_flags entries count
+kept_told entries old flags count is all (inl same) within opened =
+    first_flags-true entries flags (subst (λ bs. length bs ≤ length entries) (sym same) within) all (subst (λ bs. AreOpening (state_in entries) (opening_edges entries bs)) (sym same) opened)
+    ∙ ap (first_flags entries) (sym is)
+kept_told entries old flags count is all (inr none) within opened = none ∙ sym (ap (first_flags entries) (is ∙ ap length none))
 
 -- they are the edges that are not Absent
 pub opening_present : (entries : Entries) → ArePresent (state_in entries) (opening_edges entries (present_flags entries))

@@ -18,7 +18,6 @@ pub mod CycleRoots
 pub mod GoodEdges
 pub mod GoodEdits
 pub mod SomePlan
-pub mod WalkLengths
 pub mod Openings
 pub mod FirstPassing
 pub mod NumberedEdits

@@ -17,7 +17,6 @@ mod planned;
 mod planning;
 mod spot;
 mod vertices;
-mod walk_up;
 
 pub use laws::{
     a_place_has_the_vertex_that_was_meant, a_place_is_filled_or_emptied, a_refusal_has_no_edits,

@@ -116,6 +116,10 @@ impl<'a> PlanView for LiveView<'a> {
         all_edges(alloc, &edges_at(self.graph, vertex, position))
     }
 
+    fn leads_to(&self, from: &Vertex, vertex: &Vertex) -> bool {
+        self.graph.leads_to(from, vertex)
+    }
+
     fn was_open(&self, edge: &Edge) -> bool {
         self.opening.was_open(self.graph, edge)
     }

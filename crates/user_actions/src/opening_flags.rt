@@ -1,7 +1,8 @@
-ghost use Rattle.std.specs.Prelude.{◌≡◌, IfOk};
+ghost use Rattle.std.specs.Prelude.{◌≡◌, ◌≤◌, ◌⊎◌, [], length, vec_len, vec_capacity, IsTrue, IfOk, OnOk, OnErr};
 ghost use Rattle.graph_words.specs.States.{state_in, is_present as is_present_state};
 ghost use Rattle.graph_words.specs.Live.{holds_edge};
-ghost use Rattle.user_actions.specs.Flags.{opening_edges, present_flags};
+ghost use Rattle.user_actions.specs.Flags.{opening_edges, present_flags, first_flags, AreTrue};
+ghost use Rattle.user_actions.specs.Good.{AreOpening};
 ghost use Rattle.user_actions.specs.Lists.{ArePresent};
 
 use edge_lattice::State;
@@ -16,14 +17,48 @@ use text_parts::NoMemory;
 #[derive(Debug, Drop)]
 pub struct OpeningFlags {
     flags: Vec<bool>,
+    // Whether it is known that all are true.
+    all_true: bool,
 }
 
 impl Model for OpeningFlags {
-    ghost use Rattle.std.specs.Prelude.{Bool, List};
+    ghost use Rattle.std.specs.Prelude.{Bool, List, IsTrue};
+    ghost use Rattle.user_actions.specs.Flags.{AreTrue};
 
     ghost Value = { List Bool };
 
     ghost view = { λ flags. flags.flags.items };
+
+    ghost invariant = { λ flags. IsTrue flags.all_true → AreTrue flags.flags.items };
+}
+
+// Takes all flags out, unless all are true.
+fn keep_true(flags: &mut Vec<bool>, all_true: bool)
+    requires { IsTrue all_true → AreTrue flags.old.items }
+    ensures known { AreTrue flags.new.items }
+    ensures kept { (flags.new.items ≡ flags.old.items) ⊎ (flags.new.items ≡ []) }
+    ensures room { vec_capacity flags.new ≡ vec_capacity flags.old }
+{
+    if !all_true {
+        flags.clear();
+    }
+}
+
+// Puts the flags of the edges that have none behind the others, and answers whether all are true.
+fn append_flags(flags: &mut Vec<bool>, graph: &LiveGraph) -> bool
+    requires known { AreTrue flags.old.items }
+    requires told { flags.old.items ≡ first_flags graph.now (vec_len flags.old) }
+    requires room { length graph.now ≤ vec_capacity flags.old }
+    ensures flags { flags.new.items ≡ present_flags graph.now }
+    ensures known { IsTrue result → AreTrue flags.new.items }
+{
+    let mut all_true = true;
+    for number in flags.len()..graph.edge_count() {
+        let present = is_present(graph.state_at(number));
+        flags.push_reserved(present);
+        all_true = all_true && present;
+    }
+    all_true
 }
 
 impl OpeningFlags {
@@ -32,12 +67,28 @@ impl OpeningFlags {
         ensures flags { IfOk result (λ flags. flags ≡ present_flags graph.now) }
         ensures opening { IfOk result (λ flags. ArePresent (state_in graph.now) (opening_edges graph.now flags)) }
     {
+        let mut flags = OpeningFlags {
+            flags: Vec::new(alloc),
+            all_true: true,
+        };
+        flags.renew(graph)?;
+        Ok(flags)
+    }
+
+    /// Keeps which edges of the graph are not Absent now. No edge that was not Absent gets Absent, so flags that are all true stay, and only
+    /// numbers that came since get theirs.
+    pub fn renew(&mut self, graph: &LiveGraph) -> Result<(), NoMemory>
+        requires within { length self.old ≤ length graph.now }
+        requires opened { AreOpening (state_in graph.now) (opening_edges graph.now self.old) }
+        ensures flags { OnOk result (self.new ≡ present_flags graph.now) }
+        ensures opening { OnOk result (ArePresent (state_in graph.now) (opening_edges graph.now self.new)) }
+        ensures unchanged { OnErr result (self.new ≡ self.old) }
+    {
         let count = graph.edge_count();
-        let mut flags = Vec::with_capacity(alloc, count)?;
-        for number in 0..count {
-            flags.push(is_present(graph.state_at(number)))?;
-        }
-        Ok(OpeningFlags { flags })
+        self.flags.reserve(count.saturating_sub(self.flags.len()))?;
+        keep_true(&mut self.flags, self.all_true);
+        self.all_true = append_flags(&mut self.flags, graph);
+        Ok(())
     }
 
     /// Whether an edge of the graph was not Absent when the flags were made.

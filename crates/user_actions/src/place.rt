@@ -11,7 +11,6 @@ ghost use Rattle.user_actions.specs.Told.{Tells};
 ghost use Rattle.graph_words.specs.Cycle.{leads_to};
 
 use crate::plan_view::PlanView;
-use crate::walk_up::leads_to;
 use graph_words::{Few, Steps};
 use grove_edits::{ActFault, Edge, Place, Vertex};
 use grove_names::Name;
@@ -165,26 +164,11 @@ pub(crate) fn check_apart<V: PlanView>(
 ) -> Result<(), ActFault>
     ensures { Tells (below_itself (V.live view.now) vertex.now (Some moved.now)) result }
 {
-    if leads_counting::<V, Brand>(view, vertex, moved, Blank::new(1)) {
+    if view.leads_to(vertex, moved) {
         Err(ActFault::IntoItself { vertex: *moved })
     } else {
         Ok(())
     }
-}
-
-fn leads_counting<V: PlanView, L: Ledger>(
-    view: &V,
-    vertex: &Vertex,
-    moved: &Vertex,
-    blank: Blank,
-) -> bool
-    requires name { blank.name ≡ L.name }
-    requires parts { blank.parts ≡ L.parts }
-    requires some { 0 < blank.parts }
-    ensures { result ≡ leads_to (V.live view.now) vertex.now moved.now }
-{
-    let mut steps = Steps::<L>::new(blank);
-    leads_to(vertex, moved, view, &mut steps)
 }
 
 /// Whether a vertex has no live parent edge.

@@ -1,4 +1,5 @@
 ghost use Rattle.std.specs.Prelude.{◌≡◌, length, slice_get, IfOk};
+ghost use Rattle.graph_words.specs.Cycle.{leads_to};
 ghost use Rattle.graph_words.specs.Live.{IsInEdgeOrder, children_of, holds_edge};
 ghost use Rattle.graph_words.specs.Names.{IsGreatest, IsNameOf};
 ghost use Rattle.graph_words.specs.Named.{AreLeastTwo, AreNamed};
@@ -61,6 +62,10 @@ pub trait PlanView: ParentOf {
         position: Position,
     ) -> Result<Vec<Edge>, NoMemory>
         ensures { IfOk result (λ edges. edges.items ≡ children_of vertex.now position (children self.now)) };
+
+    /// Whether the second vertex stands on the walk up from the first.
+    fn leads_to(&self, from: &Vertex, vertex: &Vertex) -> bool
+        ensures { result ≡ leads_to (Self.live self.now) from.now vertex.now };
 
     /// Whether an edge was not Absent as the block opened.
     fn was_open(&self, edge: &Edge) -> bool

@@ -1,64 +1,60 @@
-ghost use Rattle.std.specs.Prelude.{◌≡◌, ◌<◌, IfOk};
-ghost use Rattle.edge_lattice.specs.declared.state.State.TheVariants.{Live};
-ghost use Rattle.grove_edits.specs.declared.edge.Edge.{Edge};
-ghost use Rattle.grove_edits.specs.Edge.{IsWellFormed};
+ghost use Rattle.std.specs.Prelude.{◌≢◌, IfOk};
+ghost use Rattle.std.specs.List.{AllByRecursion};
+ghost use Rattle.grove_edits.specs.Graph.{graph};
+ghost use Rattle.graph_words.specs.declared.class.Class.TheVariants.{Inner};
+ghost use Rattle.graph_words.specs.Class.{class};
 ghost use Rattle.graph_words.specs.Whole.{AreLive};
-ghost use Rattle.edge_index.specs.Lists.{live};
-ghost use Rattle.graph_words.specs.States.{state_in};
-ghost use Rattle.grove_terms.specs.Grove.{IsGrove};
+ghost use Rattle.graph_table.specs.Table.{live, IsNumber};
+ghost use Rattle.grove_terms.specs.Grove.{AreTreesOf, IsGrove};
 ghost use Rattle.grove_terms.specs.Sorted.{IsSortedGrove};
+ghost use Rattle.grove_decompose.specs.Trees.{OnlyInner, vertices_of};
 
-use crate::heads::find_heads;
-use crate::listing_trees::trees_of;
-use child_index::ChildIndex;
-use graph_store::GraphStore;
-use graph_words::Steps;
-use grove_terms::Grove;
-use parent_index::ParentIndex;
+use graph_table::GraphTable;
+use grove_decompose::{Seen, cycle_heads, heads_of, tree_by_number};
+use grove_terms::{Grove, TreeList};
 use std::alloc::Global;
-use std::marker::Brand;
-use std::sync::ledger::{Blank, Ledger};
 use text_parts::NoMemory;
-use unicycle_roots::cycle_roots;
 
-/// The grove of the graph that a store holds, of which the indexes hold the live edges. Its trees are well sorted where the live edges
-/// are well formed, as they are where the store was raised by edits.
-pub fn decompose<'g>(
-    alloc: Global,
-    store: &'g GraphStore,
-    children: &'g ChildIndex,
-    parents: &ParentIndex,
-) -> Result<Grove<'g>, NoMemory>
-    requires children { AreLive (state_in store.now) (live children.now) }
-    requires parents { AreLive (state_in store.now) (live parents.now) }
-    ensures grove { IfOk result (λ grove. IsGrove (state_in store.now) grove) }
-    ensures sorted { ((e : Edge) → state_in store.now e ≡ Live → IsWellFormed e) → IfOk result IsSortedGrove }
+/// The grove of the graph of a table, whose trees are well sorted. The table lends it its vertices and edges.
+pub fn decompose<'g>(alloc: Global, table: &'g GraphTable) -> Result<Grove<'g>, NoMemory>
+    ensures grove { IfOk result (IsGrove (graph table.now.edits)) }
+    ensures sorted { IfOk result IsSortedGrove }
 {
-    decompose_counting::<Brand>(alloc, store, children, parents, Blank::new(1))
+    insertions_are_live(table);
+    let mut seen = Seen::none_of(alloc, table)?;
+    let heads = heads_of(alloc, table)?;
+    let none = trees_of(alloc, table, &heads.none, &mut seen)?;
+    let multi = trees_of(alloc, table, &heads.multi, &mut seen)?;
+    let cycles = cycle_heads(alloc, table, &seen)?;
+    let cycle = trees_of(alloc, table, &cycles, &mut seen)?;
+    Ok(Grove { none, multi, cycle })
 }
 
-fn decompose_counting<'g, L: Ledger>(
-    alloc: Global,
-    store: &'g GraphStore,
-    children: &'g ChildIndex,
-    parents: &ParentIndex,
-    blank: Blank,
-) -> Result<Grove<'g>, NoMemory>
-    requires name { blank.name ≡ L.name }
-    requires parts { blank.parts ≡ L.parts }
-    requires some { 0 < blank.parts }
-    requires children { AreLive (state_in store.now) (live children.now) }
-    requires parents { AreLive (state_in store.now) (live parents.now) }
-    ensures grove { IfOk result (λ grove. IsGrove (state_in store.now) grove) }
-    ensures sorted { ((e : Edge) → state_in store.now e ≡ Live → IsWellFormed e) → IfOk result IsSortedGrove }
+// The root is a vertex of each graph, so a table has one with the number 0, and what it tells of its parents tells which edges are live.
+fn insertions_are_live(table: &GraphTable)
+    ensures { AreLive (graph table.now.edits) (live table.now) }
 {
-    let mut steps = Steps::<L>::new(blank);
-    let vertices = store.vertices(alloc)?;
-    let heads = find_heads(alloc, &vertices, parents, &mut steps)?;
-    let cycles = cycle_roots(alloc, parents.seed(), &vertices, parents, &mut steps)?;
-    Ok(Grove {
-        none: trees_of(alloc, store, &heads.none, children, parents, &mut steps)?,
-        multi: trees_of(alloc, store, &heads.multi, children, parents, &mut steps)?,
-        cycle: trees_of(alloc, store, &cycles, children, parents, &mut steps)?,
-    })
+    if table.number_count() > 0 {
+        table.parents(0);
+    }
+}
+
+// The trees of some vertices that head one each.
+fn trees_of<'g>(
+    alloc: Global,
+    table: &'g GraphTable,
+    heads: &[u32],
+    seen: &mut Seen,
+) -> Result<TreeList<'g>, NoMemory>
+    requires numbers { AllByRecursion (IsNumber table.now) heads.now }
+    requires outer { AllByRecursion (λ v. class (live table.now) v ≢ Inner) (vertices_of table.now heads.now) }
+    requires seen { OnlyInner table.now seen.old }
+    ensures trees { IfOk result (λ trees. AreTreesOf (live table.now) (vertices_of table.now heads.now) trees) }
+    ensures seen { OnlyInner table.now seen.new }
+{
+    let mut trees = TreeList::new(alloc);
+    for head in heads {
+        trees.push(tree_by_number(alloc, table, *head, seen)?)?;
+    }
+    Ok(trees)
 }

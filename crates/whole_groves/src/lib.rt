@@ -1,14 +1,11 @@
-//! Groves as values: the grove of a graph that a store holds, with all its trees at once, its edges, its marking, and its print text. No
-//! command needs them, since each lists, marks and prints one tree after the other; what takes a whole grove stands on this crate.
+//! Groves as values: the grove of a graph by numbers, with all its trees at once, its edges, its marking, and its print text. No command
+//! needs them, since each lists, marks and prints one tree after the other; what takes a whole grove stands on this crate.
 #![tactic(auto)]
 
 mod decomposition;
 mod edge_list;
 mod erasing;
-mod heads;
 mod listing;
-mod listing_trees;
-mod live_indexes;
 mod marked_grove;
 mod marked_lines;
 mod marked_tree_list;

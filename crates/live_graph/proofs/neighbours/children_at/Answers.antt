@@ -10,7 +10,8 @@ none_is_some h = absurd cc
 
 pub returns-in_default-clause-edges : goal.returns-in_default-clause-edges
 returns-in_default-clause-edges c =
-    sym (no_children c.args.edges.now c.args.vertex.now c.edge_count-edges.ensures.once c.edge_count-edges.ensures.ends (λ n is. none_is_some (c.in_default.ensures.only n is)) c.args.position)
+    ap (map (edge_at c.args.edges.now)) c.none.ensures
+    ∙ sym (no_children c.args.edges.now c.args.vertex.now c.edge_count-edges.ensures.once c.edge_count-edges.ensures.ends (λ n is. none_is_some (c.in_default.ensures.only n is)) c.args.position)
 
 pub returns-then-number-vertex_count-clause-edges : goal.returns-then-number-vertex_count-clause-edges
 returns-then-number-vertex_count-clause-edges c =
@@ -18,7 +19,8 @@ returns-then-number-vertex_count-clause-edges c =
     let n = c.in-Some.number in
     let nothing : numbers_at lists n ≡ [] = nothing_at lists n (λ within. omega (arith, within, c.vertex_count.ensures, c.if-number-vertex_count.true)) in
     let none : with_position c.args.position (edges_at c.args.edges.now lists n) ≡ [] = ap (λ ns. with_position c.args.position (map (edge_at c.args.edges.now) ns)) nothing in
-    sym none
+    ap (map (edge_at c.args.edges.now)) c.none-then-number-vertex_count.ensures
+    ∙ sym none
     ∙ children_listed c.args.edges.now c.args.vertex.now c.edge_count-edges.ensures.once c.vertex_count-vertices.ensures.once n c.in-Some.ensures.number lists c.requires c.args.position
     (subst IsInEdgeOrder (sym none) tt)
 

@@ -6,4 +6,4 @@ use Rattle.undo_answers.proofs.text.append_undoing_of.Goals as goal
 pub returns : goal.returns
 returns c =
     answers_along c.append_undoing_in.result (state_in c.in_ok-graph.graph) (graph c.args.taken.now) c.args.author c.args.change.now c.args.out.now.items c.append_undoing_in.new.out.items
-    c.in_ok-graph.ensures c.append_undoing_in.ensures
+    c.in_ok-graph.ensures.graph c.append_undoing_in.ensures

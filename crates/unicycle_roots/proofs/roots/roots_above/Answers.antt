@@ -44,8 +44,8 @@ loop-number-preserved g c =
 pub loop-number-init : goal.loop-number-init
 loop-number-init g c =
     let live = g.P.ParentOf.live c.args.parents.now in
-    let none : c.with_hasher-met.result.entries ≡ [] = search rules in
-    let all : unmet live c.with_hasher-met.result.entries ≡ length live = ap (unmet live) none ∙ unmet-none live in
+    let none : c.new-met.result.entries ≡ [] = search rules in
+    let all : unmet live c.new-met.result.entries ≡ length live = ap (unmet live) none ∙ unmet-none live in
     record { found = search rules; ticks = omega arith }
 
 pub returns-in_err-entry-clause-ticks : goal.returns-in_err-entry-clause-ticks

@@ -1,5 +1,0 @@
-pub mod Places
-pub mod Ties
-pub mod Lookups
-pub mod Keys
-pub mod Numbers

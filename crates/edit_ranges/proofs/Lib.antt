@@ -1,0 +1,10 @@
+pub mod Grouping
+pub mod InOrder
+pub mod Joined
+pub mod OneList
+pub mod Present
+pub mod RangeTexts
+pub mod Searching
+pub mod SharedNames
+pub mod SummaryTexts
+pub mod WhatEditsTell

@@ -1,0 +1,4 @@
+pub mod Raised
+pub mod Raises
+pub mod Joined
+pub mod Merges

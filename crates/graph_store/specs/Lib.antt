@@ -1,9 +1,0 @@
-pub mod Room
-pub mod Store
-pub mod Listed
-pub mod Raised
-pub mod Least
-pub mod Named
-pub mod Counts
-pub mod Vertices
-pub mod Greatest

@@ -1,5 +1,0 @@
-use Rattle.std.proofs.Common.{◌≡◌, ◌+◌}
-use Rattle.parent_index.proofs.parent_index.ParentIndex.parents.Given as goal
-
-abbrev pub invariant-loop-parent : goal.invariant-loop-parent
-invariant-loop-parent g l = l.steps ≡ l.fn.steps + 1 + l._parent-index

@@ -1,0 +1,1 @@
+"""Grove a second time, in plain Python: slow, short, and apart from the library, so that one can be held against the other."""
