@@ -1,4 +1,5 @@
 use Rattle.std.proofs.Common.{◌≡◌, List, sym, ap, subst, ◌∙◌}
+use Rattle.std.specs.Prelude.{not}
 use Rattle.grove_edits.specs.declared.edit.Edit.{Edit}
 use Rattle.grove_edits.specs.Graph.{graph}
 use Rattle.mark_incremental.specs.Standing.{StandFor}
@@ -10,5 +11,5 @@ pub returns-then-is_none-clause-fault : goal.returns-then-is_none-clause-fault
 returns-then-is_none-clause-fault c =
     let marks = c.marks-marks.result.now in
     let stand = subst (λ (edits : List Edit). StandFor (graph edits) marks) (ap (λ (s : State). s.edits) c.self.view_is) c.marks-marks.ensures in
-    let none = sym c.kept.ensures ∙ none_found c.kept.result (sym c.is_none.ensures ∙ c.if-is_none.true) in
+    let none = sym c.kept.ensures ∙ none_found c.kept.result (c.is_none.ensures ∙ ap not c.if-is_none.true) in
     (c.in-Some.vertex, c.in-Some.ensures.found, no_vertex (graph c.args.self.now.edits) marks c.in-Some.vertex stand none)
