@@ -1,9 +1,9 @@
-use Rattle.std.proofs.Common.{List, subst}
+use Rattle.std.proofs.Common.{subst}
+use Rattle.std.proofs.Math.Path.{fun_ext}
 use Rattle.std.specs.Prelude.{IfOk}
-use Rattle.grove_edits.specs.declared.edit.Edit.{Edit}
-use Rattle.grove_edits.specs.Graph.{graph}
+use Rattle.grove_edits.specs.Graph.{Graph}
 use Rattle.grove_json.specs.JsonText.{IsJsonText}
 use Rattle.grove_editor.proofs.texts.report_of.Goals as goal
 
 pub returns : goal.returns
-returns c = subst (λ (edits : List Edit). IfOk c.json_text.result (λ text. IsJsonText (graph edits) text.items)) c.in_ok-table.ensures c.json_text.ensures
+returns c = subst (λ (g : Graph). IfOk c.json_text.result (λ text. IsJsonText g text.items)) (fun_ext c.in_ok-table.ensures.same) c.json_text.ensures
