@@ -8,7 +8,7 @@ use Rattle.session_script.specs.declared.line.Line.{Line}
 use Rattle.session_script.specs.declared.item.Block.{Block}
 use Rattle.session_script.specs.declared.session.Session.{Session}
 use Rattle.session_run.specs.Run.{IsPlaced, CanRun}
-use Rattle.session_run.proofs.OfSessions.{sends_counted}
+use Rattle.session_run.proofs.OfSessions.{all_placed, sends_counted}
 use Rattle.replica_core.specs.Content.{Content}
 use Rattle.session_answers.specs.Boards.{AreBoards, all_cut_from, board_of, states_in}
 use Rattle.session_answers.specs.Opened.{all_listed}
@@ -31,7 +31,7 @@ pub run_block-requires-clause-sources : goal.run_block-requires-clause-sources
 run_block-requires-clause-sources g c κs within = as_many c.args.session.now c.args.block.now c.args.lists.now c.args.replicas.items c.requires.lists
 
 pub run_block-requires-clause-authors : goal.run_block-requires-clause-authors
-run_block-requires-clause-authors g c κs within = subst (λ n. AllByRecursion (IsPlaced n) c.args.session.now.authors) (sym c.requires.replicas) c.requires.session.authors
+run_block-requires-clause-authors g c κs within = subst (λ n. AllByRecursion (IsPlaced n) c.args.session.now.authors) (sym c.requires.replicas) (all_placed c.args.session.now c.requires.session)
 
 pub run_block-requires-clause-lines : goal.run_block-requires-clause-lines
 run_block-requires-clause-lines g c κs within = subst (λ n. AllByRecursion (CanRun c.args.session.now.authors n) c.args.block.now.lines) (sym c.requires.replicas) c.requires.lines
