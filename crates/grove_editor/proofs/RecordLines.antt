@@ -1,6 +1,6 @@
 -- The lines of records, one after the other.
 use Rattle.std.proofs.Common.{◌≡◌, ℕ, List, [], ◌∷◌, ◌++◌, refl, sym, ap, subst, ◌∙◌, append_assoc, append-nil}
-use Rattle.std.specs.Prelude.{Option, None, Some, option_map}
+use Rattle.std.specs.Prelude.{false, Option, None, Some, is_some, option_map}
 use Rattle.std.specs.List.{flat_map}
 use Rattle.std.proofs.lemmas.List.Concat.{flat_map-cons}
 use Rattle.grove_edits.specs.declared.vertex.Vertex.{Vertex}
@@ -55,3 +55,7 @@ pub no_vertex : (g : Graph) (marks : KeptMarks) (v : Vertex) → StandFor g mark
 no_vertex g marks v of none is =
     let kept = of.kept.each v is in
     some_is_not_none kept.0 (sym kept.1 ∙ ap (λ (found : Option Record). option_map (kept_by marks.types marks.contexts) found) none)
+
+pub none_found : (found : Option Record) → is_some found ≡ false → found ≡ None
+none_found None is = refl
+none_found (Some r) is = absurd cc

@@ -50,35 +50,38 @@ kept_turned author content after deeds left others more (Made edits changed) is 
     (subst (All IsKnown) (sym is.6) (known_less deeds is.0 known))
     (subst (All IsKnown) (sym is.7) (known_more others author is.2 known_others (known_undone content.edits edits author is.1.deed.change is.2 is.3)))
 
+pub kept_swapped : (content : Content) (a b : List Deed) → IsKept content a b → IsKept content b a
+kept_swapped content a b kept = record { is_content = kept.is_content; no_opening = kept.no_opening; done_known = kept.undone_known; undone_known = kept.done_known }
+
 -- ---- the state
 
 module _ (content after : Content) (fed : List ℕ) (news : News) (author : ℕ) where
-  undone_at : (done left undone more : List Deed) (turned : Turned) (told : News) → HasTurned author content after done left undone more turned → IsNewsOf Undo turned told
-      → HasUndone author (state_of content fed done undone news) (state_of after fed left more told)
-  undone_at done left undone more Nothing told is of =
+  undone_at : (done left others more : List Deed) (turned : Turned) (told : News) → HasTurned author content after done left others more turned → IsNewsOf Undo turned told
+      → HasUndone author (state_of content fed done others news) (state_of after fed left more told)
+  undone_at done left others more Nothing told is of =
       nothing_done is.0
-      (with_parts fed after.edits content.edits left done more undone told.reply NothingToTurn told.made [] told.changed.items [] (ap (λ (c : Content). c.edits) is.1) is.2 is.3 of.0 of.1 of.2)
-  undone_at done left undone more (Refused fault) told is of =
+      (with_parts fed after.edits content.edits left done more others told.reply NothingToTurn told.made [] told.changed.items [] (ap (λ (c : Content). c.edits) is.1) is.2 is.3 of.0 of.1 of.2)
+  undone_at done left others more (Refused fault) told is of =
       not_undone is.0 is.1 fault is.2 is.3
-      (with_parts fed after.edits content.edits left done more undone told.reply (NotTurned fault) told.made [] told.changed.items [] (ap (λ (c : Content). c.edits) is.4) is.5 is.6 of.0 of.1 of.2)
+      (with_parts fed after.edits content.edits left done more others told.reply (NotTurned fault) told.made [] told.changed.items [] (ap (λ (c : Content). c.edits) is.4) is.5 is.6 of.0 of.1 of.2)
   undone_at done left others more (Made edits changed) told is of =
       let same : after.edits ≡ with_edits edits content.edits = ap (λ (c : Content). c.edits) is.5 in
       undone is.0 is.1 edits is.2 changed.items is.3 (subst (λ (es : List Edit). AreChangedMarks (graph content.edits) (graph es) changed.items) same is.4)
       (with_parts fed after.edits (with_edits edits content.edits) left (remove done is.0) more (others ++ deed_by author is.2 ∷ []) told.reply (Undone (length edits)) told.made edits
       told.changed.items changed.items same is.6 is.7 of.0 of.1 of.2)
 
-  redone_at : (done left undone more : List Deed) (turned : Turned) (told : News) → HasTurned author content after undone left done more turned → IsNewsOf Redo turned told
-      → HasRedone author (state_of content fed done undone news) (state_of after fed more left told)
-  redone_at done left undone more Nothing told is of =
+  redone_at : (done left others more : List Deed) (turned : Turned) (told : News) → HasTurned author content after others left done more turned → IsNewsOf Redo turned told
+      → HasRedone author (state_of content fed done others news) (state_of after fed more left told)
+  redone_at done left others more Nothing told is of =
       nothing_undone is.0
-      (with_parts fed after.edits content.edits more done left undone told.reply NothingToTurn told.made [] told.changed.items [] (ap (λ (c : Content). c.edits) is.1) is.3 is.2 of.0 of.1 of.2)
-  redone_at done left undone more (Refused fault) told is of =
+      (with_parts fed after.edits content.edits more done left others told.reply NothingToTurn told.made [] told.changed.items [] (ap (λ (c : Content). c.edits) is.1) is.3 is.2 of.0 of.1 of.2)
+  redone_at done left others more (Refused fault) told is of =
       not_redone is.0 is.1 fault is.2 is.3
-      (with_parts fed after.edits content.edits more done left undone told.reply (NotTurned fault) told.made [] told.changed.items [] (ap (λ (c : Content). c.edits) is.4) is.6 is.5 of.0 of.1 of.2)
-  redone_at done left undone more (Made edits changed) told is of =
+      (with_parts fed after.edits content.edits more done left others told.reply (NotTurned fault) told.made [] told.changed.items [] (ap (λ (c : Content). c.edits) is.4) is.6 is.5 of.0 of.1 of.2)
+  redone_at done left others more (Made edits changed) told is of =
       let same : after.edits ≡ with_edits edits content.edits = ap (λ (c : Content). c.edits) is.5 in
       redone is.0 is.1 edits is.2 changed.items is.3 (subst (λ (es : List Edit). AreChangedMarks (graph content.edits) (graph es) changed.items) same is.4)
-      (with_parts fed after.edits (with_edits edits content.edits) more (done ++ deed_by author is.2 ∷ []) left (remove undone is.0) told.reply (Redone (length edits)) told.made edits
+      (with_parts fed after.edits (with_edits edits content.edits) more (done ++ deed_by author is.2 ∷ []) left (remove others is.0) told.reply (Redone (length edits)) told.made edits
       told.changed.items changed.items same is.7 is.6 of.0 of.1 of.2)
 
   module _ (done left others more : List Deed) (old : State) (turned : Turned) (told : News) where
