@@ -1,0 +1,4 @@
+pub mod BadLines
+pub mod Codes
+pub mod Held
+pub mod Texts
