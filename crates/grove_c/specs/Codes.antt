@@ -4,8 +4,6 @@ use Rattle.grove_edits.specs.declared.answer.Answer.{Answer}
 use Rattle.grove_edits.specs.declared.answer.Answer.TheVariants.{Refused}
 use Rattle.grove_editor.specs.declared.reply.Reply.{Reply}
 use Rattle.grove_editor.specs.declared.reply.Reply.TheVariants.{Unasked, Answered, Undone, Redone, NothingToTurn, NotTurned}
-use Rattle.grove_editor.specs.declared.author_fault.AuthorFault.{AuthorFault}
-use Rattle.grove_editor.specs.declared.author_fault.AuthorFault.TheVariants.{NoAuthor, NoMemory}
 use Rattle.grove_c.specs.declared.code.TheConstants.{DONE, REFUSED, MALFORMED, NO_MEMORY, NO_AUTHOR, NOTHING}
 
 abbrev pub answer_code : Answer → ℕ
@@ -22,7 +20,3 @@ reply_code _ = DONE
 -- the call was not made, and there is no reply to it
 abbrev pub is_fault : ℕ → Bool
 is_fault code = (code == MALFORMED) || ((code == NO_MEMORY) || (code == NO_AUTHOR))
-
-abbrev pub author_code : AuthorFault → ℕ
-author_code NoAuthor = NO_AUTHOR
-author_code NoMemory = NO_MEMORY
