@@ -31,15 +31,15 @@ class RandomCalls:
     # ---- parts
 
     def vertex(self):
-        if not self.graph.edges or self.rng.random() < 0.05:
+        if not self.graph.edges or self.rng.random() < 0.02:
             return ROOT
         return self.rng.choice(self.graph.edges)[self.rng.choice((2, 4))]
 
     def place(self):
-        """A vertex and a position, mostly one that it has."""
-        vertex = self.vertex()
+        """A vertex and a position, mostly of a vertex that has some and one that it has."""
+        vertex = next((vertex for vertex in (self.vertex() for _ in range(3)) if self.graph.places(vertex)), ROOT)
         positions = list(self.graph.places(vertex))
-        return vertex, self.rng.choice(positions if positions and self.rng.random() < 0.95 else POSITIONS)
+        return vertex, self.rng.choice(positions if positions and self.rng.random() < 0.93 else POSITIONS)
 
     def constructor(self, vertex, position):
         """A constructor, mostly of the sort that the place wants."""

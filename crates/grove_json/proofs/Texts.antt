@@ -1,15 +1,22 @@
 -- The texts of nodes, of trees and of lists of trees.
 use Rattle.std.proofs.Common.{◌≡◌, ℕ, List, [], ◌∷◌, ◌++◌, length, map, refl, sym, ap, ◌∙◌, append_assoc, arith}
-use Rattle.std.specs.Prelude.{Bool, true, false, codes, decimal}
+use Rattle.std.specs.Prelude.{Bool, true, false, Option, codes, decimal}
 use Rattle.json.specs.Print.{quoted}
 use Rattle.serde_json.specs.Data.{string, Members, member, no_members}
 use Rattle.serde_json.specs.View.{items_of}
 use Rattle.serde_json.specs.Written.{comma_if, compact_text, items_text, members_text}
+use Rattle.grove_names.specs.Name.{name_text}
+use Rattle.grove_sorts.specs.Ctor.{ctor_text, sort_of_ctor}
+use Rattle.grove_edits.specs.declared.vertex.Vertex.{Vertex}
+use Rattle.type_core.specs.Typ.{Typ}
+use Rattle.mark_step.specs.declared.node.Mark.{Mark}
+use Rattle.mark_step.specs.Expression.{Wanted}
 use Rattle.marking.specs.Marking.{MarkedNode}
 use Rattle.marking.specs.Grove.{MarkedTrees}
 use Rattle.grove_printer.specs.Print.{edge_column, mark_text, mode_column, position_column, sort_of_node, type_column, vertex_column, what_column}
 use Rattle.grove_json.specs.GroveValue.{node_value, tree_value, trees_value, grove_value}
-use Rattle.grove_json.specs.NodeText.{depth_member, text_member, first_members, last_members}
+use Rattle.grove_json.specs.NodeText.{depth_member, text_member, first_members, last_members, opening_member, judgement_members, vertex_members}
+use Rattle.grove_json.specs.RecordValue.{record_value}
 use Rattle.grove_json.specs.TreeTexts.{listed}
 use Rattle.grove_json.proofs.Plain.{IsPlain, plain_stays}
 
@@ -75,6 +82,38 @@ node_is m =
 pub two_parts : (old middle new first last whole : List ℕ) → middle ≡ old ++ first → new ≡ middle ++ last → first ++ last ≡ whole → new ≡ old ++ whole
 two_parts old middle new first last whole is_middle is_new is =
     is_new ∙ ap (λ (xs : List ℕ). xs ++ last) is_middle ∙ append_assoc old first last ∙ ap (λ (xs : List ℕ). old ++ xs) is
+
+-- ---- what marking says of a vertex
+
+pub record_is : (v : Vertex) (wanted : Option Wanted) (typ : Option Typ) (mark : Mark)
+    → judgement_members (sort_of_ctor v.ctor) wanted typ mark ++ vertex_members v ≡ compact_text (record_value v wanted typ mark)
+record_is v wanted typ mark =
+    append_assoc opening (text_member (codes "mode") mode ++ text_member (codes "type") (type_column typ)) (vertex_members v)
+    ∙ ap (λ (xs : List ℕ). opening ++ xs)
+    (append_assoc (text_member (codes "mode") mode) (text_member (codes "type") (type_column typ)) (vertex_members v)
+    ∙ member_first (codes "mode") mode _ (member (codes "type") (string (type_column typ)) (member (codes "vertex") (string (name_text v.name)) (member (codes "what") (string (ctor_text v.ctor)) no_members)))
+    (member_first (codes "type") (type_column typ) _ (member (codes "vertex") (string (name_text v.name)) (member (codes "what") (string (ctor_text v.ctor)) no_members))
+    (member_first (codes "vertex") (name_text v.name) _ (member (codes "what") (string (ctor_text v.ctor)) no_members)
+    (member_first (codes "what") (ctor_text v.ctor) (125 ∷ []) no_members refl))))
+    ∙ ap (λ (xs : List ℕ). 123 ∷ xs) (append_assoc (quoted (codes "mark")) (58 ∷ quoted (mark_text mark)) _)
+  where
+    opening : List ℕ
+    opening = opening_member (codes "mark") (mark_text mark)
+
+    mode : List ℕ
+    mode = mode_column (sort_of_ctor v.ctor) wanted
+
+-- what opens an object up to the text of its first member, the text, and a quote
+pub opening_written : (old opened told new opening key text : List ℕ) → opened ≡ old ++ opening → told ≡ opened ++ text → new ≡ told ++ 34 ∷ []
+    → opening ≡ 123 ∷ (quoted key ++ 58 ∷ 34 ∷ []) → IsPlain text → new ≡ old ++ opening_member key text
+opening_written old opened told new opening key text is_opened is_told is_new is_opening plain =
+    is_new
+    ∙ ap (λ (xs : List ℕ). xs ++ 34 ∷ []) (is_told ∙ ap (λ (xs : List ℕ). xs ++ text) is_opened)
+    ∙ append_assoc (old ++ opening) text (34 ∷ [])
+    ∙ append_assoc old opening (text ++ 34 ∷ [])
+    ∙ ap (λ (xs : List ℕ). old ++ (xs ++ (text ++ 34 ∷ []))) is_opening
+    ∙ ap (λ (xs : List ℕ). old ++ 123 ∷ xs) (append_assoc (quoted key) (58 ∷ 34 ∷ []) (text ++ 34 ∷ []))
+    ∙ ap (λ (xs : List ℕ). old ++ 123 ∷ (quoted key ++ 58 ∷ 34 ∷ (xs ++ 34 ∷ []))) (sym (plain_stays text plain))
 
 -- ---- trees
 

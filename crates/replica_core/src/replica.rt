@@ -163,8 +163,20 @@ impl Replica {
         ensures unchanged { OnErr result (self.new ≡ self.old) }
         ensures bounded { steps.new ≤ steps.old + edits_cost self.old edits.now }
     {
-        self.marks
-            .apply_all_telling(edits.as_slice(), &mut self.graph, steps)
+        self.take_telling(edits.as_slice(), steps)
+    }
+
+    fn take_telling<L: Ledger>(
+        &mut self,
+        edits: &[Edit],
+        steps: &mut Steps<L>,
+    ) -> Result<Vec<Vertex>, NoMemory>
+        ensures taken { OnOk result (self.new ≡ with_taken edits.now self.old) }
+        ensures changed { IfOk result (λ changed. AreChangedMarks (graph self.old.edits) (graph self.new.edits) changed.items) }
+        ensures unchanged { OnErr result (self.new ≡ self.old) }
+        ensures bounded { steps.new ≤ steps.old + edits_cost self.old edits.now }
+    {
+        self.marks.apply_all_telling(edits, &mut self.graph, steps)
     }
 
     /// The edits of an author's action on the graph and what is answered, of which none is taken. An action that is refused has no edits.

@@ -2,7 +2,7 @@ ghost use Rattle.std.specs.Prelude.{◌≡◌, ◌<◌};
 
 use edit_text::read_line;
 use graph_words::Steps;
-use grove_edits::{Action, Place};
+use grove_edits::{Action, EditList, Place, Vertex};
 use grove_names::Name;
 use grove_sorts::{Ctor, Position, Version};
 use mark_step::Mark;
@@ -202,5 +202,74 @@ fn a_use_takes_the_type_of_what_comes_in_place(rt: HostRuntime) -> Result<(), Fa
     };
     let defined = kept_once_acted(rt.alloc(), &DEFINITION, &literal, DEFINITION[3])?;
     assert!(rt; defined == Some(GOOD_TRUTH));
+    Ok(())
+}
+
+fn list_of(alloc: Global, lines: &[&str]) -> Result<EditList, Fail> {
+    let mut edits = EditList::new(alloc);
+    for line in lines {
+        edits.push(read_line(Version::Two, line.as_bytes())?)?;
+    }
+    Ok(edits)
+}
+
+// The vertices that edits change behind those of lines.
+fn changed_counting<L: Ledger>(
+    alloc: Global,
+    marked: &mut Replica,
+    lines: &[&str],
+    edits: &EditList,
+    blank: Blank,
+) -> Result<Vec<Vertex>, Fail>
+    requires name { blank.name ≡ L.name }
+    requires parts { blank.parts ≡ L.parts }
+    requires some { 0 < blank.parts }
+{
+    let mut steps = Steps::<L>::new(blank);
+    take(alloc, marked, lines, &mut steps)?;
+    let changed = marked.apply_all_telling(edits, &mut steps)?;
+    Ok(changed)
+}
+
+fn changed(
+    alloc: Global,
+    marked: &mut Replica,
+    lines: &[&str],
+    later: &[&str],
+) -> Result<Vec<Vertex>, Fail> {
+    let edits = list_of(alloc, later)?;
+    changed_counting::<Brand>(alloc, marked, lines, &edits, Blank::new(1))
+}
+
+// Whether the vertex to which the edge of a line leads stands there alone.
+fn is_alone(vertices: &[Vertex], line: &str) -> Result<bool, Fail> {
+    let edge = read_line(Version::Two, line.as_bytes())?.edge();
+    Ok(vertices.len() == 1 && vertices[0] == edge.target)
+}
+
+// Whether later edits change one vertex alone.
+fn change_alone(alloc: Global, lines: &[&str], later: &[&str], line: &str) -> Result<bool, Fail> {
+    let mut marked = Replica::new(alloc)?;
+    let vertices = changed(alloc, &mut marked, lines, later);
+    drop(marked);
+    is_alone(&vertices?, line)
+}
+
+// The sum stays a number, and its other operand what it was.
+#[test]
+fn what_is_cut_off_is_judged_otherwise(rt: HostRuntime) -> Result<(), Fail> {
+    let cut = ["-1.6 1.1 plus right 1.5 true"];
+    assert!(rt; change_alone(rt.alloc(), &SUM, &cut, SUM[2])?);
+    Ok(())
+}
+
+// While there are two patterns the use is free, and then it is what it was. The vertex of the second pattern has come.
+#[test]
+fn a_mark_that_came_back_is_no_change(rt: HostRuntime) -> Result<(), Fail> {
+    let twice = [
+        "+2.2 1.1 let param 2.1 pvar:y",
+        "-2.2 1.1 let param 2.1 pvar:y",
+    ];
+    assert!(rt; change_alone(rt.alloc(), &DEFINITION, &twice, twice[0])?);
     Ok(())
 }

@@ -1,9 +1,9 @@
 ghost use Rattle.std.specs.Prelude.{◌<◌};
 
+use graph_joins::graph_of;
 use grove_edits::{Edge, Edit, EditKind, Vertex};
 use grove_names::Name;
 use grove_sorts::{Ctor, Position};
-use graph_joins::graph_of;
 use grove_undo::{UndoFault, change_of, undo};
 use seeded_hash::HashSeed;
 use session_script::{Session, read_session};

@@ -11,7 +11,7 @@ pub mod Summed
 pub mod OneActor
 pub mod OneCourse
 pub mod GeneratedAlone
-pub mod Opened
+pub mod Listed
 pub mod OnBoards
 pub mod Raised
 pub mod OneSize

@@ -22,7 +22,7 @@ use Rattle.replica_core.specs.Content.{Content}
 use Rattle.session_answers.specs.Running.{stage_of, sources_of}
 use Rattle.session_answers.specs.Boards.{states_of, parts_at, IsBoardFor, AreBoards, cut_from, all_cut_from, board_of, IsWholeSeat, held_by, all_held, IsHeld, AreHeld}
 use Rattle.session_answers.specs.Opened.{sends_from, cuts_at, asks_of, listed, all_listed}
-use Rattle.session_answers.proofs.Opened.{listed_if_cut, length-all_listed, listed_at, no_slots_without_cut, no_slots_without_edges}
+use Rattle.session_answers.proofs.Listed.{listed_if_cut, length-all_listed, listed_at, no_slots_without_cut, no_slots_without_edges}
 
 -- ---- lists, place by place
 

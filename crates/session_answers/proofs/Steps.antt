@@ -15,7 +15,7 @@ use Rattle.session_answers.specs.BlockJournals.{block_journals}
 use Rattle.session_report.proofs.Zipped.{zip_cons, zip_none}
 use Rattle.session_answers.specs.Opened.{all_listed}
 use Rattle.session_answers.specs.Running.{AreShown, HaveRun, stage_of}
-use Rattle.session_answers.proofs.Opened.{has_run_by_all}
+use Rattle.session_answers.proofs.Listed.{has_run_by_all}
 
 pub block_journals-more : {M : Type 0} (block replica : ℕ) (more : List (Entries M)) (last : Entries M)
     → block_journals block replica (more ++ last ∷ []) ≡ block_journals block replica more ++ record { block = block; replica = replica + length more; journal = last } ∷ []

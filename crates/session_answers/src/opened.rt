@@ -26,9 +26,11 @@ pub(crate) fn open_block_on_each(
     let mut opened = Vec::with_capacity(alloc, replicas.len())?;
     let mut lists = Vec::with_capacity(alloc, replicas.len())?;
     for mut replica in replicas {
-        let asked = is_asked_of(authors, lines, opened.len() as u64);
-        lists.push(list_if(alloc, &replica, asked)?)?;
+        let number = opened.len();
+        let asked = is_asked_of(authors, lines, number as u64);
+        let list = list_if(alloc, &replica, asked)?;
         replica.begin_block(alloc)?;
+        lists.push(list)?;
         opened.push(replica)?;
     }
     Ok((opened, lists))

@@ -1,6 +1,6 @@
 /* Draws trees into a box that scrolls. Only rows near the view are in the document; those that are as they were keep their elements. */
 import { CONFLICT_ROWS, rowsOf } from "./layout.js";
-import { itemsOf, nodeAt, headNode } from "./nodes.js";
+import { headNode, itemsOf, nodeAt, standsInConflict } from "./nodes.js";
 import { authorColour, authorName, explain, ownText, ownerOf } from "./words.js";
 
 const ROW = 26;          // pixels
@@ -118,10 +118,11 @@ export class Canvas {
   }
 
   paintChoice(open, vertex, { node, width, height }, x, y) {
-    const frame = this.putFrame(`choice ${node.id} ${vertex.stamp}`, "choice", x - 0.5, y + 1, width + 1, height + 1);
+    const isBlock = node.kind === "vertex" && !node.vertex.box.inline;
+    const frame = this.putFrame(`choice ${node.id} ${vertex.stamp}`, "choice", x - 0.5, y + 1, width + 1, height + (isBlock ? 1.5 : 1));
     this.put(`by ${node.id} ${vertex.stamp}`, x, y + 1, () => byline(ownerOf(node)));
     const top = y + CONFLICT_ROWS;
-    if (node.kind === "vertex" && !node.vertex.box.inline) {
+    if (isBlock) {
       named(frame, node.id);
       open.push({ vertex: node.vertex, x, y: top, base: x });
     } else this.put(`${node.id} ${node.vertex.stamp} ${vertex.stamp}`, x, top, () => this.row(null, [{ node }]));
@@ -185,10 +186,11 @@ export class Canvas {
     return list.join(" ");
   }
 
-  /** Only where another author's part begins stands a bar: one at every node would be noise. */
+  /** Only where another author's part begins stands a bar: one at every node would be noise. Conflicts name their authors. */
   beginsAnothers(node) {
     const owner = ownerOf(node);
-    return Boolean(owner) && owner !== this.me() && kindsWithOwner.has(node.kind) && owner !== ownerOf(headNode(node.holder ?? node.vertex));
+    if (!owner || owner === this.me() || !node.vertex || standsInConflict(node)) return false;
+    return owner !== ownerOf(headNode(node.holder ?? node.vertex));
   }
 
   elementsOf(id) { return [...this.sheet.querySelectorAll(`[data-id="${id}"]`)]; }
@@ -205,8 +207,6 @@ export class Canvas {
   /** The row at which the tree of a head begins, or null where it is not on this canvas. */
   rowOfTree(head) { return this.entries.find((entry) => entry.head === head && !entry.className)?.y ?? null; }
 }
-
-const kindsWithOwner = new Set(["vertex", "reference"]);
 
 function named(element, id) {
   element.dataset.id = id;

@@ -9,6 +9,7 @@ const INDENT = 2;
 const GAP = 2;
 export const CONFLICT_ROWS = 2;  // its heading, and the row that names the authors
 const WIDEST_CHOICE = 120;
+const NARROWEST_CONFLICT = 16;  // its heading stands there
 
 /** Settles the boxes of all vertices that changed, and of those above them where theirs change with it: each once, the lowest first. */
 export function settle(graph) {
@@ -81,7 +82,7 @@ function boxOf(vertex) {
 export function sizeOf(node) {
   if (node.kind === "vertex") return node.vertex.box ?? UNSETTLED;
   if (node.kind === "conflict") return conflictSize(columnsOf(node));
-  return { inline: true, width: ownText(node).length, height: 1 };
+  return { inline: true, width: ownText(node).length + (node.kind === "reference" ? 1 : 0), height: 1 };
 }
 
 const UNSETTLED = { inline: true, width: 1, height: 1 };
@@ -151,7 +152,7 @@ function addChild(out, vertex, position) {
   return out.put({ kind: node.kind === "conflict" ? "conflict" : "block", node, columns, height: size.height, dx }, size.width);
 }
 
-/** The children of a conflict, each with its place and size. */
+/** The children of a conflict, each with its place and size. Where blocks are among them, a free row parts their ends from its own. */
 function columnsOf(conflict) {
   let x = 1;
   return conflict.holder.children.get(conflict.position).map(nodeOfEdge).map((node) => {
@@ -165,7 +166,8 @@ function columnsOf(conflict) {
 
 function conflictSize(columns) {
   const last = columns[columns.length - 1];
-  return { inline: false, width: Math.max(last.x + last.width + 1, 16), height: CONFLICT_ROWS + Math.max(...columns.map((one) => one.height)) };
+  const highest = Math.max(...columns.map((one) => one.height));
+  return { inline: false, width: Math.max(last.x + last.width + 1, NARROWEST_CONFLICT), height: CONFLICT_ROWS + highest + Number(highest > 1) };
 }
 
 /** How many rows a tree has. */

@@ -15,8 +15,8 @@ sys.path.insert(0, str(EDITOR.parents[1] / "python" / "tests"))
 from plain_grove.model import Model  # noqa: E402
 from random_calls import RandomCalls  # noqa: E402
 
-TEXTS_OF_A_PROGRAM = 60
-BETWEEN_LOOKS = 4
+TEXTS_OF_A_PROGRAM = 400
+BETWEEN_LOOKS = 10
 BOXES = """
 const boxes = [...window.grove.graph.vertices.values()].map(({ key, box }) => [key, box.inline, box.width, box.height]);
 return JSON.stringify(boxes.sort());

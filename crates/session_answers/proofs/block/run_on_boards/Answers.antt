@@ -1,19 +1,45 @@
-use Rattle.std.proofs.Common.{List, Option, length, map, refl, sym, ap, subst, ◌∙◌, arith}
+use Rattle.std.proofs.Common.{◌≡◌, List, Option, length, map, refl, sym, ap, subst, ◌∙◌, arith}
+use Rattle.std.specs.List.{AllByRecursion}
 use Rattle.std.specs.Option.{option_map}
+use Rattle.std.proofs.lemmas.List.{length-map}
+use Rattle.grove_edits.specs.declared.edit.Edit.{Edit}
 use Rattle.edge_board.specs.Seats.{BoardOf, first_board_seat}
 use Rattle.session_script.specs.declared.line.Line.{Line}
-use Rattle.session_run.proofs.OfSessions.{sends_counted}
-use Rattle.session_answers.specs.Boards.{AreBoards, all_cut_from, states_in}
+use Rattle.session_script.specs.declared.item.Block.{Block}
+use Rattle.session_script.specs.declared.session.Session.{Session}
+use Rattle.session_run.specs.Run.{IsPlaced, CanRun}
+use Rattle.session_run.proofs.OfSessions.{all_placed, sends_counted}
+use Rattle.replica_core.specs.Content.{Content}
+use Rattle.session_answers.specs.Boards.{AreBoards, all_cut_from, board_of, states_in}
+use Rattle.session_answers.specs.Opened.{all_listed}
 use Rattle.session_answers.specs.Running.{stage_of}
+use Rattle.session_answers.proofs.Listed.{length-all_listed}
 use Rattle.session_answers.proofs.OnBoards.{can_cut, all_whole_among, all_are_held}
 use Rattle.session_answers.proofs.Steps.{have_run}
 use Rattle.session_answers.proofs.block.run_on_boards.Goals as goal
+
+as_many : (session : Session) (block : Block) (lists : List (List Edit)) (replicas : List Content) → lists ≡ all_listed session.authors block.lines 0 replicas → length lists ≡ length replicas
+as_many session block lists replicas are = ap (λ (ls : List (List Edit)). length ls) are ∙ length-all_listed session.authors block.lines 0 replicas
 
 pub cuts_on-requires-clause-boards : goal.cuts_on-requires-clause-boards
 cuts_on-requires-clause-boards g c = ap (λ (bs : List (Option BoardOf)). length bs) c.deref.ensures.value ∙ c.in_ok-boards.ensures.boards.as_many
 
 pub cuts_on-requires-clause-seats : goal.cuts_on-requires-clause-seats
 cuts_on-requires-clause-seats g c = c.in_ok-boards.ensures.seats ∙ ap (map (option_map first_board_seat)) (sym c.deref.ensures.value)
+
+pub run_block-requires-clause-sources : goal.run_block-requires-clause-sources
+run_block-requires-clause-sources g c κs within = as_many c.args.session.now c.args.block.now c.args.lists.now c.args.replicas.items c.requires.lists
+
+pub run_block-requires-clause-authors : goal.run_block-requires-clause-authors
+run_block-requires-clause-authors g c κs within = subst (λ n. AllByRecursion (IsPlaced n) c.args.session.now.authors) (sym c.requires.replicas) (all_placed c.args.session.now c.requires.session)
+
+pub run_block-requires-clause-lines : goal.run_block-requires-clause-lines
+run_block-requires-clause-lines g c κs within = subst (λ n. AllByRecursion (CanRun c.args.session.now.authors n) c.args.block.now.lines) (sym c.requires.replicas) c.requires.lines
+
+pub run_block-requires-clause-cuts : goal.run_block-requires-clause-cuts
+run_block-requires-clause-cuts g c κs within =
+    sym (length-map c.in_ok-cuts.cuts.items board_of) ∙ ap (λ (bs : List (Option BoardOf)). length bs) (c.in_ok-cuts.ensures.boards ∙ c.deref.ensures.value) ∙ c.in_ok-boards.ensures.boards.as_many
+    ∙ as_many c.args.session.now c.args.block.now c.args.lists.now c.args.replicas.items c.requires.lists
 
 pub run_block-requires-clause-numbers : goal.run_block-requires-clause-numbers
 run_block-requires-clause-numbers g c κs within = let few = c.requires.sends in let counted = sends_counted c.args.block.now.lines in omega arith

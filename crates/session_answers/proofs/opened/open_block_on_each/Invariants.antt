@@ -6,4 +6,4 @@ use Rattle.session_answers.specs.Opened.{all_listed}
 use Rattle.session_answers.proofs.opened.open_block_on_each.Given as goal
 
 abbrev pub invariant-loop-replica : goal.invariant-loop-replica
-invariant-loop-replica l = (l.opened.items ≡ map with_block l.yielded) × (l.lists.items ≡ all_listed l.fn.authors.now l.fn.lines.now 0 l.yielded) × AllByRecursion Ascends l.lists.items
+invariant-loop-replica l = (l.opened.items ≡ map with_block l.yielded) × (l.lists.items ≡ all_listed l.authors l.lines 0 l.yielded) × AllByRecursion Ascends l.lists.items

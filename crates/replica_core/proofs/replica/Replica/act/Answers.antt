@@ -4,5 +4,5 @@ use Rattle.replica_core.proofs.replica.Replica.act.Goals as goal
 
 pub returns-clause-refused : goal.returns-clause-refused
 returns-clause-refused g c = λ fault is.
-    let told = refused_stays c.args.self.now c.args.author c.args.action.now c.in_ok-edits.edits c.in_ok-edits.answer fault (c.in_ok-edits.ensures.plan c.args.self.now c.view.ensures) is in
+    let told = refused_stays c.args.self.now c.args.author c.args.action.now c.in_ok-edits.edits c.in_ok-edits.answer fault c.in_ok-edits.ensures.plan is in
     (told.0, c.in_ok-apply_all.ensures.taken ∙ told.1)

@@ -8,7 +8,7 @@ use Rattle.session_run.specs.Asked.{IsNumberIn}
 use Rattle.session_answers.specs.Numbers.{numbers_behind}
 use Rattle.session_answers.specs.Opened.{all_listed}
 use Rattle.session_answers.specs.Running.{HaveRun}
-use Rattle.session_answers.proofs.Opened.{all_listed-opened}
+use Rattle.session_answers.proofs.Listed.{all_listed-opened}
 use Rattle.session_answers.proofs.running.Running.run_block.Goals as goal
 
 pub count_lines-requires-clause-calls : goal.count_lines-requires-clause-calls

@@ -2,6 +2,7 @@
 use Rattle.std.proofs.Common.{◌≡◌, ℕ, zero, suc, ◌+◌, ◌==◌, ◌&&◌, ◌||◌, Bool, true, false, List, [], ◌∷◌, ◌++◌, length, map, slice_get, Some, if◌then◌else◌, refl, sym, ap, ap₂, subst, ◌∙◌, arith, append_assoc}
 use Rattle.std.specs.List.{AllByRecursion, flat_map, list_any}
 use Rattle.std.proofs.lemmas.Bool.{eqb-true, eq-eqb}
+use Rattle.std.proofs.lemmas.List.{length-map}
 use Rattle.std.proofs.lemmas.Option.{same_Some, none-some}
 use Rattle.grove_edits.specs.declared.action.Action.{Action}
 use Rattle.grove_edits.specs.declared.action.Action.TheVariants.{Construct, Wrap, Become, Delete, Cut, Relocate, Restore}
@@ -40,6 +41,10 @@ any_there : {X : Type 0} (p : X → Bool) (before more : List X) (x : X) → p x
 any_there p [] more x is = ap (λ b. b || list_any p more) is
 any_there p (y ∷ before) more x is = ap (λ b. p y || b) (any_there p before more x is) ∙ or_true (p y)
 
+pub all_more : {X : Type 0} (P : X → Type 0) (xs : List X) (x : X) → AllByRecursion P xs → P x → AllByRecursion P (xs ++ x ∷ [])
+all_more P [] x all is = (is, tt)
+all_more P (y ∷ xs) x all is = (all.0, all_more P xs x all.1 is)
+
 -- ---- what is listed
 
 -- all of it, if an author cuts, and also if some of it is sent
@@ -69,6 +74,13 @@ module _ (authors : List Declared) (lines : List Line) where
   pub all_listed-opened : (replica : ℕ) (contents : List Content) → all_listed authors lines replica contents ≡ all_listed authors lines replica (map with_block contents)
   all_listed-opened replica [] = refl
   all_listed-opened replica (content ∷ contents) = ap (λ lists. listed (asks_of authors lines replica) content.edits ∷ lists) (all_listed-opened (replica + 1) contents)
+
+  -- a replica more has opened
+  pub one_more_listed : (done : List Content) (next : Content) (opened : List Content) (lists more : List (List Edit)) (number : ℕ) (asked : Bool) (list : List Edit) → opened ≡ map with_block done → number ≡ length opened
+      → asked ≡ asks_of authors lines number → list ≡ listed asked next.edits → lists ≡ all_listed authors lines 0 done → more ≡ lists ++ list ∷ [] → more ≡ all_listed authors lines 0 (done ++ next ∷ [])
+  one_more_listed done next opened lists more number asked list are counted test is before pushed =
+      let place : number ≡ 0 + length done = let long = ap (λ (cs : List Content). length cs) are in let same = length-map done with_block in omega arith in
+      pushed ∙ ap₂ (λ ls l. ls ++ l ∷ []) before (is ∙ ap (λ b. listed b next.edits) (test ∙ ap (asks_of authors lines) place)) ∙ sym (all_listed-more 0 done next)
 
   -- what is listed of a replica that opened with some edits
   pub listed_at : (replica : ℕ) (contents : List Content) (place number : ℕ) (opening : List Edit) → number ≡ replica + place → slice_get (sources_of contents) place ≡ Some opening
@@ -166,15 +178,15 @@ module _ (authors : List Declared) (replica : ℕ) (opening : List Edit) (author
   none_cut : (lines : List Line) → cuts_at authors lines replica ≡ false → slots_cut opening (actions_of author lines) ≡ []
   none_cut [] none = refl
   none_cut (line.Send send ∷ lines) none = none_cut lines none
-  none_cut (line.Author n action ∷ lines) none = by_test (n == author) refl where
-    both : ((is_cut action && list_any (acts_at n replica) authors) ≡ false) × (cuts_at authors lines replica ≡ false)
-    both = or_false (is_cut action && list_any (acts_at n replica) authors) (cuts_at authors lines replica) none
-
-    by_test : (b : Bool) → (n == author) ≡ b → slots_cut opening (if b then action ∷ actions_of author lines else actions_of author lines) ≡ []
-    by_test false is = none_cut lines both.1
-    by_test true is =
-        let acts = ap (λ m. list_any (acts_at m replica) authors) (eqb-true n author is) ∙ there in
-        ap₂ (λ xs ys. xs ++ ys) (no_slots_named opening action (and_false (is_cut action) (list_any (acts_at n replica) authors) both.0 acts)) (none_cut lines both.1)
+  none_cut (line.Author n action ∷ lines) none =
+      let both = or_false (is_cut action && list_any (acts_at n replica) authors) (cuts_at authors lines replica) none in
+      by_test (n == author) refl both.0 (none_cut lines both.1) where
+        by_test : (b : Bool) → (n == author) ≡ b → (is_cut action && list_any (acts_at n replica) authors) ≡ false → slots_cut opening (actions_of author lines) ≡ []
+            → slots_cut opening (if b then action ∷ actions_of author lines else actions_of author lines) ≡ []
+        by_test false is no_cut rest = rest
+        by_test true is no_cut rest =
+            let acts = ap (λ m. list_any (acts_at m replica) authors) (eqb-true n author is) ∙ there in
+            ap₂ (λ xs ys. xs ++ ys) (no_slots_named opening action (and_false (is_cut action) (list_any (acts_at n replica) authors) no_cut acts)) rest
 
 module _ (stage : Stage) (opening : List Edit) where
   module _ (none : cuts_at stage.authors stage.lines stage.replica ≡ false) where

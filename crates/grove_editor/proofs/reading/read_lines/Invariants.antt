@@ -1,0 +1,13 @@
+use Rattle.std.proofs.Common.{◌≡◌, ◌+◌, ◌≤◌, ◌++◌, length}
+use Rattle.edit_text.specs.Text.{text_of, AreOf}
+use Rattle.grove_editor.proofs.reading.read_lines.Given as goal
+
+abbrev pub invariant-loop-line : goal.invariant-loop-line
+invariant-loop-line l = record {
+  parts : l.fn.lines ≡ text_of l.edits ++ l.rest;
+  of_version : AreOf l.version l.edits;
+  few : length l.edits + length l.rest ≤ length l.fn.lines;
+}
+
+abbrev pub decreases-loop-line : goal.decreases-loop-line
+decreases-loop-line l = length l.rest

@@ -1,0 +1,11 @@
+pub mod State
+pub mod Kept
+pub mod Deeds
+pub mod Taken
+pub mod Acted
+pub mod Turned
+pub mod Turn
+pub mod News
+pub mod Told
+pub mod EditsText
+pub mod Records
