@@ -77,9 +77,9 @@ def record(lines: bytes) -> bytes:
 def whole_records(content: bytes):
     """The lines of each record, up to the first that is torn."""
     while content:
-        head, _, content = content.partition(b"\n")
+        head, ended, content = content.partition(b"\n")
         length, _, check = head.partition(b" ")
-        if not (length.isdigit() and check.isdigit()):
+        if not (ended and length.isdigit() and check.isdigit()):
             return
         lines, content = content[: int(length)], content[int(length) :]
         if len(lines) != int(length) or zlib.crc32(lines) != int(check):
