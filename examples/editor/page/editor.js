@@ -8,7 +8,7 @@ import {
 import { canMove, hasPlace, moveLine, removalLine, whyNot } from "./offers.js";
 import { Palette, putBeside } from "./palette.js";
 import { call, listen } from "./wire.js";
-import { authorColour, authorName, describe, explain, kindWords, ownerOf, typeOrWords } from "./words.js";
+import { authorColour, authorName, describe, explain, kindWords, typeOrWords } from "./words.js";
 
 const $ = (id) => document.getElementById(id);
 const words = new URLSearchParams(location.search);

@@ -79,7 +79,7 @@ function boxOf(vertex) {
 }
 
 /** The size of what stands at a place. */
-export function sizeOf(node) {
+function sizeOf(node) {
   if (node.kind === "vertex") return node.vertex.box ?? UNSETTLED;
   if (node.kind === "conflict") return conflictSize(columnsOf(node));
   return { inline: true, width: ownText(node).length + (node.kind === "reference" ? 1 : 0), height: 1 };

@@ -3,7 +3,7 @@ import { rankOf } from "./forms.js";
 
 const compareNumbers = (one, two) => one.length - two.length || (one < two ? -1 : one > two ? 1 : 0);
 
-export function compareNames(one, two) {
+function compareNames(one, two) {
   const [author, counter] = one.split(".");
   const [otherAuthor, otherCounter] = two.split(".");
   return compareNumbers(author, otherAuthor) || compareNumbers(counter, otherCounter);

@@ -84,7 +84,7 @@ export const typeAt = (vertex, position) => typeOf(nodeAt(vertex, position)) ?? 
 const part = (type, op, side) => type === null ? null : matched(type, op)?.[side] ?? "?";
 
 /** What is wanted at a position, by the rules for types and marks. */
-export function wantedAt(holder, position) {
+function wantedAt(holder, position) {
   const { wanted } = holder;
   switch (`${holder.word} ${position}`) {
     case "plus left": case "plus right": return "num";

@@ -8,7 +8,7 @@ const CARRYING = new Set(["var", "num", "pvar"]);
 const GREATEST_NUMBER = 2n ** 64n - 1n;
 
 /** A place as actions name it. */
-export const placeOf = (node) => `${node.holder.name} ${node.position}`;
+const placeOf = (node) => `${node.holder.name} ${node.position}`;
 
 /** The choices at a node that match what was typed: on a hole what fits its sort, what fits its type first; elsewhere what can be put
     around what stands or in its place, and taking it away. Each has its constructor or word, what it does, and its action line. */

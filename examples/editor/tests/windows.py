@@ -1,4 +1,5 @@
 """Windows of a real browser on the editor, for tests."""
+import atexit
 import contextlib
 import pathlib
 import sys
@@ -32,18 +33,26 @@ def make_driver():
     return webdriver.Chrome(service=Service("/usr/bin/chromedriver"), options=options)
 
 
+# Browsers that no window has now. Starting one takes longer than most tests.
+FREE_DRIVERS = []
+atexit.register(lambda: [driver.quit() for driver in FREE_DRIVERS])
+
+
 class Window:
     """One author's page."""
 
     def __init__(self, address: str, author: int):
         self.address, self.author = address, author
-        self.driver = make_driver()
+        self.driver = FREE_DRIVERS.pop() if FREE_DRIVERS else make_driver()
         self.driver.set_script_timeout(PATIENCE)
         self.driver.get(f"{address}?author={author}&measure&theme=light")
         self.wait_for_program()
 
     def close(self):
-        self.driver.quit()
+        """Leaves the page, and the browser to the next window."""
+        self.driver.get("about:blank")
+        self.driver.get_log("browser")
+        FREE_DRIVERS.append(self.driver)
 
     def reload(self):
         self.driver.refresh()
