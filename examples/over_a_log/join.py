@@ -11,7 +11,7 @@ from grove import BadLine, Refused
 
 from folder import Folder
 from logs import log_at
-from member import Member
+from member import Member, Taken
 
 SECONDS_BETWEEN_LOOKS = 0.2
 
@@ -27,6 +27,12 @@ def do(member: Member, line: str) -> None:
         except (BadLine, Refused) as fault:
             print(fault)
     sys.stdout.flush()
+
+
+def catch_up(member: Member) -> None:
+    """Takes what is there before the first line is read, unless the log is down."""
+    while member.take(SECONDS_BETWEEN_LOOKS) is Taken.SOME:
+        pass
 
 
 def follow_input(member: Member) -> None:
@@ -46,10 +52,10 @@ def follow_input(member: Member) -> None:
 
 def settle(member: Member) -> None:
     """Stays until nothing waits and nothing more comes."""
-    is_at_end = False
-    while member.waiting or not is_at_end:
+    taken = None
+    while member.waiting or taken is not Taken.NOTHING_LEFT:
         member.send()
-        is_at_end = member.take(SECONDS_BETWEEN_LOOKS)
+        taken = member.take(SECONDS_BETWEEN_LOOKS)
 
 
 def main(words: list[str]) -> int:
@@ -58,6 +64,7 @@ def main(words: list[str]) -> int:
         return 2
     address, folder, author = words
     member = Member(log_at(address), Folder(folder), int(author))
+    catch_up(member)
     follow_input(member)
     settle(member)
     sys.stdout.write(member.replica.show())

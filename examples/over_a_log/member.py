@@ -1,4 +1,5 @@
 """A member: an author's replica, joined to a log that others are joined to."""
+import enum
 import sys
 import time
 
@@ -8,6 +9,14 @@ from folder import Folder
 from logs import Log, LogDown
 
 LEAST_BETWEEN_SAVES = 256
+
+
+class Taken(enum.Enum):
+    """What came of following the log."""
+
+    SOME = enum.auto()
+    NOTHING_LEFT = enum.auto()
+    LOG_DOWN = enum.auto()
 
 
 class Member:
@@ -57,20 +66,20 @@ class Member:
         self.unsaved += sent
         return acknowledged
 
-    def take(self, seconds: float) -> bool:
-        """Takes entries of the log, waiting so long for the first; True where the log answered that there is none."""
+    def take(self, seconds: float) -> Taken:
+        """Takes some entries of the log, waiting so long for the first."""
         try:
             entries = self.log.follow(self.place, seconds)
         except LogDown:
             time.sleep(seconds)
-            return False
+            return Taken.LOG_DOWN
         for entry in entries:
             self._take_entry(entry.lines)
         if entries:
             self.place = entries[-1].place
         self.unsaved += len(entries)
         self._save_if_due()
-        return not entries
+        return Taken.SOME if entries else Taken.NOTHING_LEFT
 
     def _take_entry(self, lines: bytes) -> None:
         """An entry that is no edit text is passed over by all members alike, since each entry is read by itself, whole or not at all."""

@@ -14,7 +14,7 @@ sys.path[:0] = [str(HERE.parent), str(HERE.parents[2] / "python"), str(HERE.pare
 
 from folder import Folder, InUse  # noqa: E402
 from logs import Entry, log_at  # noqa: E402
-from member import Member  # noqa: E402
+from member import Member, Taken  # noqa: E402
 
 from grove import BadLine, Refused  # noqa: E402
 from plain_grove.forms import FORMS  # noqa: E402
@@ -121,7 +121,7 @@ def settle(end: pathlib.Path, member: Member) -> None:
     print("settled", flush=True)
     while not end.exists():
         member.take(0.1)
-    while not member.take(0.1):
+    while member.take(0.1) is not Taken.NOTHING_LEFT:
         pass
 
 

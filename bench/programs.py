@@ -1,0 +1,37 @@
+"""Programs to measure with: edit texts of a given length, of authors that take turns."""
+from collections.abc import Iterator
+
+AUTHORS = 8
+
+
+def name(number: int, kind: int) -> str:
+    """The name that the author of the action with this number gave to the vertex (1) or the edge (2) that it made."""
+    return f"{number % AUTHORS + 1}.{number // AUTHORS * 2 + kind}"
+
+
+def tree(edits: int) -> Iterator[str]:
+    """The lines of a sum in which each `plus` has two parts down to numbers: every edge is live, and nothing is marked."""
+    branches = max(edits // 2, 1)
+    for number in range(edits):
+        source = f"{name((number - 1) // 2, 1)} plus {'left' if number % 2 else 'right'}" if number else "0.0 root main"
+        target = "plus" if number < branches else f"num:{number % 1000}"
+        yield f"+{name(number, 2)} {source} {name(number, 1)} {target}\n"
+
+
+def history(edits: int) -> Iterator[str]:
+    """The lines of a tree of a tenth of the edits, at whose ends numbers were put and deleted again, so that nine tenths of the edges are deleted.
+
+    Each vertex that was taken away heads a tree of its own.
+    """
+    kept = max(edits // 10, 3)
+    yield from tree(kept)
+    for number in range(kept, edits):
+        source = (number - kept) % max(kept // 2, 1)
+        yield f"-{name(number, 2)} {name(source, 1)} plus left {name(number, 1)} num:{number % 1000}\n"
+
+
+KINDS = {"tree": tree, "history": history}
+
+
+def text(kind: str, edits: int) -> bytes:
+    return "".join(KINDS[kind](edits)).encode()
