@@ -1,6 +1,6 @@
 """Grove beside Yjs on the same edges: run.py [SIZE..] writes a table. Needs node and Debian's node-yjs.
 
-One author builds a tree, and of the last tenth of the edits each deletes one of its edges. Each side runs in a process of its own, and of
+One author builds a tree, and deletes some of its edges on the way. Each side runs in a process of its own, and of
 three runs the least of each measure counts. Updates are taken in reverse at the smallest size alone.
 """
 import json
@@ -26,16 +26,22 @@ ROWS = {
 }
 
 
+def insertion(number: int, branches: int) -> str:
+    parent = (number - 1) // 2
+    source = f"1.{2 * parent + 1} plus {'left' if number % 2 else 'right'}" if number else "0.0 root main"
+    target = "plus" if number < branches else "num:7"
+    return f"+1.{2 * number + 2} {source} 1.{2 * number + 1} {target}"
+
+
 def edits(size: int) -> list[str]:
-    """The lines of a tree of `plus` by author 1, who makes 1.1, 1.2, 1.3 .. by turns a vertex and its edge, and deletions of leaves."""
-    insertions = size - size // 10
+    """The lines of a tree of `plus` by author 1, who makes 1.1, 1.2, 1.3 .. by turns a vertex and its edge; each tenth line deletes an edge."""
+    branches = size * 9 // 20
     lines = []
-    for number in range(insertions):
-        parent = (number - 1) // 2
-        source = f"1.{2 * parent + 1} plus {'left' if number % 2 else 'right'}" if number else "0.0 root main"
-        target = "plus" if number < insertions // 2 else "num:7"
-        lines.append(f"+1.{2 * number + 2} {source} 1.{2 * number + 1} {target}")
-    return lines + ["-" + line[1:] for line in lines[: -size // 10 - 1 : -1]]
+    for number in range(size - size // 10):
+        lines.append(insertion(number, branches))
+        if number % 9 == 8:
+            lines.append("-" + insertion(number - 5, branches)[1:])
+    return lines
 
 
 def run(words: list[str]) -> dict:
