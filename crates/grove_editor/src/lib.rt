@@ -18,6 +18,7 @@ mod records;
 mod replica_calls;
 mod reply;
 mod reply_writing;
+mod summaries;
 mod texts;
 mod turn;
 mod turning;
