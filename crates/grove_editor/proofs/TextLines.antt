@@ -1,5 +1,5 @@
 -- The numbers of lines are no greater than the numbers of bytes.
-use Rattle.std.proofs.Common.{◌≡◌, ℕ, ◌+◌, ◌≤◌, List, ◌++◌, length, ap, arith, length-append}
+use Rattle.std.proofs.Common.{ℕ, ◌+◌, ◌≤◌, List, length, ap, arith, length-append}
 use Rattle.grove_sorts.specs.declared.version.Version.{Version}
 use Rattle.grove_sorts.specs.declared.version.Version.TheVariants.{One, Two}
 use Rattle.edit_text.specs.declared.line_fault.LineFault.{LineFault}

@@ -1,13 +1,12 @@
 -- What undoing and redoing make of the state of an editor.
-use Rattle.std.proofs.Common.{◌≡◌, ℕ, List, [], ◌∷◌, ◌++◌, length, refl, sym, ap, subst, ◌∙◌}
-use Rattle.std.specs.Prelude.{remove, Some, slice_get}
+use Rattle.std.proofs.Common.{◌≡◌, ℕ, List, [], ◌∷◌, ◌++◌, length, sym, ap, subst, ◌∙◌}
+use Rattle.std.specs.Prelude.{remove}
 use Rattle.std.specs.List.{All}
-use Rattle.grove_edits.specs.declared.vertex.Vertex.{Vertex}
 use Rattle.grove_edits.specs.declared.edit.Edit.{Edit}
-use Rattle.grove_edits.specs.Graph.{Graph, graph}
+use Rattle.grove_edits.specs.Graph.{graph}
 use Rattle.mark_incremental.specs.Changed.{AreChangedMarks}
 use Rattle.replica_core.specs.Canonical.{with_edits}
-use Rattle.replica_core.specs.Content.{Content, IsContent, with_taken}
+use Rattle.replica_core.specs.Content.{Content, IsContent}
 use Rattle.grove_undo.specs.declared.change.Change.{Change}
 use Rattle.grove_undo.specs.Change.{IsOfEdits}
 use Rattle.grove_editor.specs.declared.deed.Deed.{Deed}

@@ -1,4 +1,4 @@
-use Rattle.std.proofs.Common.{ℕ, refl, ap, ◌∙◌}
+use Rattle.std.proofs.Common.{ℕ, ap}
 use Rattle.grove_edits.specs.declared.answer.Answer.TheVariants.{Taken}
 use Rattle.grove_editor.specs.declared.reply.Reply.TheVariants.{Answered}
 use Rattle.grove_editor.proofs.States.{kept_taken, taken_state}
