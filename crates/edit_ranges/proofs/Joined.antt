@@ -140,6 +140,24 @@ within_first g h e is none = is (absent_first (g e) (h e) none)
 pub within_second : (g h : Graph) → IsWithin h (graph_join g h)
 within_second g h e is none = is (absent_second (g e) (h e) none)
 
+-- ---- both have the join
+
+pub joined_by_first : (a b : List Edit) (told : List NameRange) → IsSummaryOf (graph a) told → AreNamesOnce (graph_join (graph a) (graph b))
+    → IsSame (graph_join (graph a) (graph (lacking told b))) (graph_join (graph a) (graph b))
+joined_by_first a b told summary once e =
+    enough b a told summary
+    (known_by_name (graph_join (graph a) (graph b)) (graph b) (graph a) (within_second (graph a) (graph b)) (within_first (graph a) (graph b)) once) e
+    ∙ state_join_comm (graph b e) (graph a e)
+
+pub once_along : (g h : Graph) → IsSame g h → AreNamesOnce g → AreNamesOnce h
+once_along g h same once = record {
+  one_edge = λ e f one other. once.one_edge e f (there e one) (there f other);
+  no_source = λ e f one other. once.no_source e f (there e one) (there f other);
+  no_target = λ e f one other. once.no_target e f (there e one) (there f other);
+} where
+  there : (e : Edge) → h e ≢ Absent → g e ≢ Absent
+  there e is none = is (sym (same e) ∙ none)
+
 -- ---- what is sent is there
 
 has_more : (y : Edit) (xs ys : List Edit) → HasAll xs ys → HasAll (y ∷ xs) ys
