@@ -1,5 +1,5 @@
 -- Who caught up has the join.
-use Rattle.std.proofs.Common.{◌≡◌, ℕ, List, refl, sym, ap, subst, ◌∙◌}
+use Rattle.std.proofs.Common.{◌≡◌, sym, ap, subst, ◌∙◌}
 use Rattle.edge_lattice.specs.State.{state_join}
 use Rattle.edge_lattice.proofs.States.{state_join_assoc, state_join_comm, state_join_idem}
 use Rattle.grove_edits.specs.declared.edge.Edge.{Edge}
@@ -23,7 +23,7 @@ taken_as_answered a b after h =
     let read = text_is_read sent in
     let is_read : IsTextOf h.answer read.0 sent = subst (λ t. IsTextOf t read.0 sent) (sym h.is_answered.spelled) read.1 in
     let same_ranges : h.is_answered.ranges ≡ h.is_told.ranges =
-        one_text h.is_answered.ranges h.is_told.ranges h.is_answered.in_order h.is_told.is_summary.in_order (sym h.is_answered.read ∙ h.is_told.spelled) in
+    one_text h.is_answered.ranges h.is_told.ranges h.is_answered.in_order h.is_told.is_summary.in_order (sym h.is_answered.read ∙ h.is_told.spelled) in
     (one_list h.answer h.version read.0 h.taken sent h.is_read is_read).1 ∙ ap (λ ranges. lacking ranges b.edits) same_ranges
 
 pub caught_up : (a b after : State) → AreNamesOnce (graph_join (graph a.edits) (graph b.edits)) → HasCaughtUp b.edits a after
