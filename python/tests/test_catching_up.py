@@ -70,6 +70,13 @@ class CatchingUp(unittest.TestCase):
             self.assertEqual(replica.summary(), "+0.0\n+1.1-4\n+1.7-8\n+2.1\n+2.3\n-1.7-8\n")
             self.assertEqual(replica.lacking("+1.1-8\n-1.8\n"), "grove 2\n-1.7 1.1 plus right 2.1 num:1\n")
 
+    def test_one_range_tells_of_deleted_edges_and_the_vertices_between(self):
+        with Replica() as replica:
+            replica.apply("-1.2 0.0 root main 1.1 plus\n-1.4 1.1 plus left 1.3 plus\n-1.6 1.3 plus left 1.5 num:1\n+1.8 1.3 plus right 1.7 num:1\n-1.10 1.1 plus right 1.9 num:1\n")
+            self.assertEqual(replica.summary(), "+0.0\n+1.1-10\n-1.2-6\n-1.10\n")
+            replica.apply("-1.8 1.3 plus right 1.7 num:1\n")
+            self.assertEqual(replica.summary(), "+0.0\n+1.1-10\n-1.2-10\n")
+
     def test_names_given_twice_are_not_told(self):
         with Replica() as replica:
             replica.apply("+1.2 0.0 root main 1.1 plus\n-1.2 0.0 root main 1.3 plus\n")

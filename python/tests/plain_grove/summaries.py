@@ -1,6 +1,7 @@
 """What a graph has, told by ranges of names, and what another lacks by that.
 
-A range is (what is told, author, first counter, last counter), where 0 tells of names that the graph has and 1 of deleted edges.
+A range is (what is told, author, first counter, last counter), where 0 tells of names that the graph has and 1 of deleted edges. The name of a
+vertex is told with those of deleted edges where it stands between two of them, the second of which leads to it.
 """
 import bisect
 import re
@@ -18,8 +19,18 @@ def told_of(edges, gone):
     edges_named = {}
     for edge in edges:
         edges_named.setdefault(edge[:2], set()).add(edge)
-    told = {(HAD, *name) for edge in edges for name in (edge[:2], edge[2][:2], edge[4][:2])} | {(GONE, *edge[:2]) for edge in gone}
-    return {(what, *name) for what, *name in told if len(edges_named.get(tuple(name), ())) < 2}
+    named = {name for edge in edges for name in (edge[:2], edge[2][:2], edge[4][:2]) if len(edges_named.get(name, ())) < 2}
+    deleted = {edge[:2] for edge in gone if len(edges_named[edge[:2]]) < 2}
+    return {(HAD, *name) for name in named} | {(GONE, *name) for name in deleted | set(between(edges_named, gone, deleted))}
+
+
+def between(edges_named, gone, deleted):
+    """The names of vertices between those of deleted edges."""
+    for edge in gone:
+        author, counter = edge[:2]
+        vertex = edge[4][:2]
+        if edge[:2] in deleted and vertex == (author, counter - 1) and vertex not in edges_named and (author, counter - 2) in deleted:
+            yield vertex
 
 
 def ranges_of(told):
