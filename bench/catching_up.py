@@ -1,12 +1,13 @@
 """What two replicas send each other until both have the same: catching_up.py [EDITS [APART]] > catching_up.tsv.
 
 For each kind of program, two replicas have the same edits, and then each takes half of APART further ones, insertions and deletions. Each
-tells its summary and takes what the other answers. Bytes are those of both summaries and both answers, `alone` those of sending the whole
-text both ways; times are of the processor, of one call and the best of three.
+tells its summary and takes what the other answers. Bytes are those of both summaries and both answers, `packed` the same as zlib packs each
+of the four, and `whole` those of sending the canonical text both ways. Times are of the processor, of one call and the best of three.
 """
 import random
 import sys
 import time
+import zlib
 from collections.abc import Iterator
 from pathlib import Path
 
@@ -20,7 +21,7 @@ REPEATS = 3
 AUTHORS = 8
 MOST_VERTICES_IN_SIGHT = 200
 ACTIONS = {"construct {at} left plus": 30, "construct {at} right num:1": 30, "wrap {at} left plus": 15, "delete {at} right": 8, "cut {edge}": 8, "relocate {edge} {at} left": 9}
-COLUMNS = "kind edits apart deleted ranges summary_bytes answer_bytes bytes alone summary_ms lacking_ms apply_ms".split()
+COLUMNS = "kind edits apart deleted ranges summary_bytes answer_bytes bytes packed whole summary_ms lacking_ms apply_ms".split()
 
 
 def scattered(edits: int) -> Iterator[str]:
@@ -65,15 +66,20 @@ def further(rng: random.Random, lines: list[str], author: int, count: int) -> st
     return "grove 2\n" + "".join(edits)
 
 
-def timed(call, *words):
-    """What a call answers, and the milliseconds that it takes."""
-    best = None
+def timed(replica: Replica, call, *words):
+    """What a call of a replica answers, and the milliseconds that it takes."""
+    times = []
     for _ in range(REPEATS):
+        # A text that was made is kept until the replica takes something.
+        replica.apply("")
         start = time.process_time()
-        answer = call(*words)
-        taken = (time.process_time() - start) * 1e3
-        best = taken if best is None else min(best, taken)
-    return answer, best
+        answer = call(replica, *words)
+        times.append((time.process_time() - start) * 1e3)
+    return answer, min(times)
+
+
+def packed(*texts: str) -> int:
+    return sum(len(zlib.compress(text.encode(), 9)) for text in texts)
 
 
 def measure(kind: str, edits: int, apart: int) -> dict:
@@ -83,16 +89,17 @@ def measure(kind: str, edits: int, apart: int) -> dict:
     for replica, author in ((ann, 98), (ben, 99)):
         replica.apply("grove 2\n" + "".join(lines))
         replica.apply(further(rng, lines, author, apart // 2))
-    summary, summary_ms = timed(ann.summary)
-    answer, lacking_ms = timed(ben.lacking, summary)
-    others = ben.summary(), ann.lacking(ben.summary())
-    alone = len(ann.canonical()) + len(ben.canonical())
-    _, apply_ms = timed(ann.apply, answer)
-    ben.apply(others[1])
+    summary, summary_ms = timed(ann, Replica.summary)
+    answer, lacking_ms = timed(ben, Replica.lacking, summary)
+    other_summary = ben.summary()
+    other_answer = ann.lacking(other_summary)
+    whole = len(ann.canonical()) + len(ben.canonical())
+    _, apply_ms = timed(ann, Replica.apply, answer)
+    ben.apply(other_answer)
     assert ann.canonical() == ben.canonical(), "both have the same"
-    told, answered = len(summary) + len(others[0]), len(answer) + len(others[1])
-    deleted = ann.canonical().count("\n-")
-    return dict(zip(COLUMNS, (kind, len(lines), apart, deleted, summary.count("\n"), told, answered, told + answered, alone, summary_ms, lacking_ms, apply_ms), strict=True))
+    told, answered = len(summary) + len(other_summary), len(answer) + len(other_answer)
+    bytes_of = (told, answered, told + answered, packed(summary, other_summary, answer, other_answer), whole)
+    return dict(zip(COLUMNS, (kind, len(lines), apart, ann.canonical().count("\n-"), summary.count("\n"), *bytes_of, summary_ms, lacking_ms, apply_ms), strict=True))
 
 
 def main(words: list[str]) -> None:
