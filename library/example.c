@@ -1,4 +1,4 @@
-/* An edit comes as text, an author acts on it, and the program is printed. */
+/* An edit comes as text, an author acts on it, and the program is printed. An editor of the empty graph then catches up. */
 #include "grove.h"
 #include <stdio.h>
 #include <string.h>
@@ -11,11 +11,24 @@ static void print(grove_editor *editor, uint32_t which)
         fwrite(room, 1, length, stdout);
 }
 
+/* One editor tells what it has, and takes what the other answers: the edits that it lacks. */
+static uint32_t catch_up(grove_editor *late, grove_editor *other)
+{
+    uint8_t summary[4096], edits[4096];
+    size_t summary_length, length;
+    uint32_t code = grove_text(late, GROVE_SUMMARY, summary, sizeof summary, &summary_length);
+    if (code == GROVE_DONE)
+        code = grove_lacking(other, summary, summary_length, edits, sizeof edits, &length, NULL);
+    if (code == GROVE_DONE)
+        code = grove_apply(late, edits, length, NULL);
+    return code;
+}
+
 int main(void)
 {
     const char *edits = "+1.2 0.0 root main 1.1 if\n", *action = "construct 1.1 cond num:5";
-    grove_editor editor;
-    if (grove_new(0, &editor) != GROVE_DONE)
+    grove_editor editor, late;
+    if (grove_new(0, &editor) != GROVE_DONE || grove_new(0, &late) != GROVE_DONE)
         return 1;
     uint32_t code = grove_apply(&editor, (const uint8_t *)edits, strlen(edits), NULL);
     if (code == GROVE_DONE)
@@ -23,6 +36,10 @@ int main(void)
     print(&editor, GROVE_ANSWER);
     print(&editor, GROVE_EDITS);
     print(&editor, GROVE_PRINT);
+    if (code == GROVE_DONE)
+        code = catch_up(&late, &editor);
+    print(&late, GROVE_SUMMARY);
     grove_free(&editor);
+    grove_free(&late);
     return (int)code;
 }

@@ -102,6 +102,14 @@ uint32_t grove_judged(grove_editor *editor, const uint8_t *vertex, size_t vertex
     return grove_c_judged(editor, read_at(vertex), vertex_length, room_at(room), room_length, length);
 }
 
+uint32_t grove_lacking(grove_editor *editor, const uint8_t *summary, size_t summary_length, uint8_t *room, size_t room_length, size_t *length, grove_bad_line *bad)
+{
+    grove_bad_line unread = {0, GROVE_NO_FAULT};
+    if (!is_open(editor) || !is_slice(summary, summary_length) || !is_slice(room, room_length) || length == NULL)
+        return GROVE_WRONG_CALL;
+    return grove_c_lacking(editor, read_at(summary), summary_length, room_at(room), room_length, length, bad != NULL ? bad : &unread);
+}
+
 uint32_t grove_greatest(grove_editor *editor, uint32_t author, uint64_t *counter)
 {
     if (!is_open(editor) || counter == NULL)

@@ -25,14 +25,14 @@ extern "C" {
 #endif
 
 /* The version of these calls. It rises where a call is added; no number below changes its meaning. */
-#define GROVE_VERSION 1u
+#define GROVE_VERSION 2u
 
 /* How a call ended. After each code but GROVE_DONE the graph is as it was. */
 enum {
     GROVE_DONE = 0,
     GROVE_REFUSED = 1,    /* the graph does not allow the action, or its undoing: the text GROVE_ANSWER tells why */
     GROVE_WRONG_CALL = 2, /* a null pointer, a closed editor, a length that no memory has, or a text of no known number */
-    GROVE_MALFORMED = 3,  /* bytes that spell no edits, no action or no vertex */
+    GROVE_MALFORMED = 3,  /* bytes that spell no edits, no action, no vertex or no summary */
     GROVE_NO_ROOM = 6,    /* the room is too short: the length that it has to have is written, and nothing else */
     GROVE_NO_MEMORY = 7,
     GROVE_NO_VERTEX = 8,  /* the graph has no such vertex */
@@ -40,14 +40,15 @@ enum {
     GROVE_NOTHING = 10    /* the author has done nothing that could be undone, or undone nothing that could be done again */
 };
 
-/* What is wrong with a line of edits. */
+/* What is wrong with a line of edits, or of a summary. */
 enum {
     GROVE_NO_FAULT = 0,
-    GROVE_SYNTAX = 1,      /* it has not the form of an edit */
+    GROVE_SYNTAX = 1,      /* it has not the form of an edit, or of a range */
     GROVE_BAD_VERTEX = 2,  /* the edge has no author's name, or one of its ends is not well formed */
     GROVE_NO_POSITION = 3, /* the source has no such position */
     GROVE_WRONG_SORT = 4,  /* the position wants children of another sort */
-    GROVE_REST = 5         /* the last line has no line feed */
+    GROVE_REST = 5,        /* the last line has no line feed */
+    GROVE_OUT_OF_ORDER = 6 /* of a summary: the range does not come after the one before it, or stands right behind it */
 };
 
 /* The texts of an editor. */
@@ -57,7 +58,8 @@ enum {
     GROVE_JSON = 2,      /* the report of the graph as JSON */
     GROVE_ANSWER = 3,    /* what the last action or undoing answered */
     GROVE_EDITS = 4,     /* the edits that it made, as lines: what other replicas are to be sent */
-    GROVE_CHANGED = 5    /* the records that the last call changed, a line of JSON for each vertex */
+    GROVE_CHANGED = 5,   /* the records that the last call changed, a line of JSON for each vertex */
+    GROVE_SUMMARY = 6    /* what the graph has, by ranges of names: what another replica is to be told to answer what this one lacks */
 };
 
 /* An editor that is held. It is the caller's object, which begins as grove_new left it. */
@@ -113,6 +115,12 @@ uint32_t grove_text(grove_editor *editor, uint32_t which, uint8_t *room, size_t 
 /* Copies the record of a vertex to the room, given as its name and constructor, `1.1 if`: its line among GROVE_CHANGED. As grove_text; beside
  * that GROVE_MALFORMED: the words are no vertex; GROVE_NO_VERTEX: the graph has no such vertex. */
 uint32_t grove_judged(grove_editor *editor, const uint8_t *vertex, size_t vertex_length, uint8_t *room, size_t room_length, size_t *length);
+
+/* Copies the edits that another replica lacks to the room, given the text of its summary: what it is to apply. There are none, and the length
+ * is 0, where it lacks none. Once each of two replicas has applied what the other answered, both have all edits of both, where no name was given
+ * twice. As grove_text, but that what is too long for the room is not kept; beside that GROVE_MALFORMED: the bytes are no summary, and `bad`
+ * tells the first bad line. `bad` may be null. */
+uint32_t grove_lacking(grove_editor *editor, const uint8_t *summary, size_t summary_length, uint8_t *room, size_t room_length, size_t *length, grove_bad_line *bad);
 
 /* Writes the greatest number that the author's names in the graph have, or 0 where there are none. GROVE_DONE; GROVE_WRONG_CALL. */
 uint32_t grove_greatest(grove_editor *editor, uint32_t author, uint64_t *counter);

@@ -77,6 +77,13 @@ static uint32_t read_judged(grove_editor *editor)
     return grove_judged(editor, bytes_of("1.1 if"), 6, room, sizeof room, &length);
 }
 
+static uint32_t read_lacking(grove_editor *editor)
+{
+    uint8_t room[4096];
+    size_t length;
+    return grove_lacking(editor, bytes_of("+1.1-2\n-1.4\n"), 12, room, sizeof room, &length, NULL);
+}
+
 /* Every call once or more. */
 static void tell_story(grove_editor *editor)
 {
@@ -92,9 +99,10 @@ static void tell_story(grove_editor *editor)
     INSIST(editor, act(editor, 2, "cut 1.4"));
     INSIST(editor, grove_undo(editor, 2));
     INSIST(editor, grove_redo(editor, 2));
-    for (uint32_t which = GROVE_PRINT; which <= GROVE_CHANGED; which++)
+    for (uint32_t which = GROVE_PRINT; which <= GROVE_SUMMARY; which++)
         INSIST(editor, grove_text(editor, which, room, sizeof room, &length));
     INSIST(editor, read_judged(editor));
+    INSIST(editor, read_lacking(editor));
     INSIST(editor, grove_greatest(editor, 1, &counter));
 }
 

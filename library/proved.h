@@ -1,4 +1,4 @@
-/* The exports of the crate grove_c, which is proved. Each meets the contract that stands beside it in crates/grove_c/src/lib.rt, for callers that
+/* The exports of the crate grove_c, which is proved. Each meets the contract that stands beside it in crates/grove_c/src, for callers that
  * pass no null pointer, no closed editor, and no length above PTRDIFF_MAX: grove.c sees to these. */
 #ifndef GROVE_PROVED_H
 #define GROVE_PROVED_H
@@ -16,6 +16,7 @@ uint32_t grove_c_undo(grove_editor *editor, uint32_t author);
 uint32_t grove_c_redo(grove_editor *editor, uint32_t author);
 uint32_t grove_c_text(grove_editor *editor, uint32_t which, uint8_t *room, size_t room_length, size_t *length);
 uint32_t grove_c_judged(grove_editor *editor, const uint8_t *vertex, size_t vertex_length, uint8_t *room, size_t room_length, size_t *length);
+uint32_t grove_c_lacking(grove_editor *editor, const uint8_t *summary, size_t summary_length, uint8_t *room, size_t room_length, size_t *length, grove_bad_line *bad);
 uint64_t grove_c_greatest(grove_editor *editor, uint32_t author);
 
 #endif

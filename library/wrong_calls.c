@@ -1,7 +1,7 @@
 /* Calls that no careful program makes: each is answered by its code, and the editor stays as it was. */
 #include "asked.h"
 
-enum { TEXTS = 6, MEBIBYTE = 1 << 20 };
+enum { TEXTS = 7, MEBIBYTE = 1 << 20 };
 
 static const char STORY[] = "+1.2 0.0 root main 1.1 if\n+1.4 1.1 if cond 1.3 true\n+1.6 1.1 if then 1.5 plus\n-1.4 1.1 if cond 1.3 true\n";
 
@@ -35,6 +35,7 @@ static void try_without_editor(grove_editor *none)
     TRY(grove_redo(none, 1) == GROVE_WRONG_CALL);
     TRY(grove_text(none, GROVE_PRINT, room, sizeof room, &length) == GROVE_WRONG_CALL);
     TRY(grove_judged(none, bytes_of("1.1 if"), 6, room, sizeof room, &length) == GROVE_WRONG_CALL);
+    TRY(grove_lacking(none, NULL, 0, room, sizeof room, &length, &bad) == GROVE_WRONG_CALL);
     TRY(grove_greatest(none, 1, &counter) == GROVE_WRONG_CALL);
     grove_free(none);
     TRY(length == 77 && counter == 77 && bad.line == 77 && bad.fault == 77);
@@ -62,6 +63,9 @@ static void try_null_pointers(grove_editor *editor)
     TRY(grove_judged(editor, NULL, 1, room, sizeof room, &length) == GROVE_WRONG_CALL);
     TRY(grove_judged(editor, bytes_of("1.1 if"), 6, NULL, 1, &length) == GROVE_WRONG_CALL);
     TRY(grove_judged(editor, bytes_of("1.1 if"), 6, room, sizeof room, NULL) == GROVE_WRONG_CALL);
+    TRY(grove_lacking(editor, NULL, 1, room, sizeof room, &length, NULL) == GROVE_WRONG_CALL);
+    TRY(grove_lacking(editor, bytes_of("+1.1\n"), 5, NULL, 1, &length, NULL) == GROVE_WRONG_CALL);
+    TRY(grove_lacking(editor, bytes_of("+1.1\n"), 5, room, sizeof room, NULL, NULL) == GROVE_WRONG_CALL);
     TRY(grove_greatest(editor, 1, NULL) == GROVE_WRONG_CALL);
     TRY(length == 77);
 }
@@ -74,6 +78,7 @@ static void try_nothing(grove_editor *editor)
     TRY(grove_act(editor, 1, NULL, 0) == GROVE_MALFORMED);
     TRY(grove_text(editor, GROVE_PRINT, NULL, 0, &length) == GROVE_NO_ROOM);
     TRY(grove_judged(editor, NULL, 0, NULL, 0, &length) == GROVE_MALFORMED);
+    TRY(grove_lacking(editor, NULL, 0, NULL, 0, &length, NULL) == GROVE_NO_ROOM);
 }
 
 static void try_lengths(grove_editor *editor)
@@ -87,6 +92,8 @@ static void try_lengths(grove_editor *editor)
         TRY(grove_text(editor, GROVE_PRINT, byte, long_one, &length) == GROVE_WRONG_CALL);
         TRY(grove_judged(editor, byte, long_one, byte, 0, &length) == GROVE_WRONG_CALL);
         TRY(grove_judged(editor, byte, 1, byte, long_one, &length) == GROVE_WRONG_CALL);
+        TRY(grove_lacking(editor, byte, long_one, byte, 0, &length, NULL) == GROVE_WRONG_CALL);
+        TRY(grove_lacking(editor, byte, 0, byte, long_one, &length, NULL) == GROVE_WRONG_CALL);
     }
     TRY(length == 77 && byte[0] == '+');
 }
@@ -238,6 +245,66 @@ static void try_answers(void)
     grove_free(&editor);
 }
 
+static uint32_t lacking(grove_editor *editor, const char *summary, uint8_t *room, size_t room_length, size_t *length, grove_bad_line *bad)
+{
+    return grove_lacking(editor, bytes_of(summary), strlen(summary), room, room_length, length, bad);
+}
+
+/* Texts that are no summary: each is refused with its first bad line, and nothing is written. */
+static void try_bad_summaries(grove_editor *editor)
+{
+    static const struct {
+        const char *text;
+        uint64_t line;
+        uint32_t fault;
+    } bads[] = {{"\n", 1, GROVE_SYNTAX},         {"+\n", 1, GROVE_SYNTAX},           {"1.1\n", 1, GROVE_SYNTAX},           {"+1.2-2\n", 1, GROVE_SYNTAX},
+                {"+1.3-2\n", 1, GROVE_SYNTAX},   {"+1.1-\n", 1, GROVE_SYNTAX},       {"+1.01\n", 1, GROVE_SYNTAX},         {"+4294967296.1\n", 1, GROVE_SYNTAX},
+                {"+1.1 \n", 1, GROVE_SYNTAX},    {"+1.1\r\n", 1, GROVE_SYNTAX},      {"+1.18446744073709551616\n", 1, GROVE_SYNTAX},
+                {"+1.1", 1, GROVE_REST},         {"+1.1\n+1.3", 2, GROVE_REST},      {"+1.1\n+1.1\n", 2, GROVE_OUT_OF_ORDER}, {"+1.1-4\n+1.5\n", 2, GROVE_OUT_OF_ORDER},
+                {"+2.1\n+1.1\n", 2, GROVE_OUT_OF_ORDER}, {"-1.1\n+1.1\n", 2, GROVE_OUT_OF_ORDER}, {"+1.1\n-1.1\n+2.1\n", 3, GROVE_OUT_OF_ORDER},
+                {"grove 2\n", 1, GROVE_SYNTAX}};
+    uint8_t room[4096];
+    memset(room, 0xAA, sizeof room);
+    for (size_t k = 0; k < sizeof bads / sizeof *bads; k++) {
+        size_t length = 77;
+        grove_bad_line bad = {77, 77};
+        TRY(lacking(editor, bads[k].text, room, sizeof room, &length, &bad) == GROVE_MALFORMED);
+        TRY(length == 77 && bad.line == bads[k].line && bad.fault == bads[k].fault);
+        TRY(lacking(editor, bads[k].text, room, sizeof room, &length, NULL) == GROVE_MALFORMED);
+    }
+    for (size_t at = 0; at < sizeof room; at++)
+        TRY(room[at] == 0xAA);
+}
+
+/* What is lacking has no room that is too short, and is none where nothing is lacking. */
+static void try_lacking(void)
+{
+    grove_editor editor = after_story(), other = opened();
+    text canonical = text_of(&editor, GROVE_CANONICAL), summary = text_of(&editor, GROVE_SUMMARY), none = text_of(&other, GROVE_SUMMARY);
+    TRY(none.length == 0 && summary.code == GROVE_DONE);
+    for (size_t room_length = 0; room_length <= canonical.length + 3; room_length++) {
+        uint8_t *room = malloc(room_length + 1);
+        memset(room, 0xAA, room_length + 1);
+        size_t length = 77, written = room_length < canonical.length ? 0 : canonical.length;
+        grove_bad_line bad = {77, 77};
+        TRY(grove_lacking(&editor, none.bytes, none.length, room, room_length, &length, &bad) == (written == 0 ? GROVE_NO_ROOM : GROVE_DONE));
+        TRY(length == canonical.length && bad.line == 0 && bad.fault == GROVE_NO_FAULT);
+        TRY(written == 0 || memcmp(room, canonical.bytes, written) == 0);
+        for (size_t at = written; at <= room_length; at++)
+            TRY(room[at] == 0xAA);
+        free(room);
+    }
+    size_t length = 77;
+    TRY(grove_lacking(&editor, summary.bytes, summary.length, NULL, 0, &length, NULL) == GROVE_DONE && length == 0);
+    TRY(grove_lacking(&other, summary.bytes, summary.length, NULL, 0, &length, NULL) == GROVE_DONE && length == 0);
+    TRY(has_text(&editor, GROVE_CANONICAL, canonical));
+    try_bad_summaries(&editor);
+    free(canonical.bytes);
+    free(summary.bytes);
+    grove_free(&editor);
+    grove_free(&other);
+}
+
 int main(void)
 {
     try_editors_that_are_none();
@@ -257,6 +324,7 @@ int main(void)
     try_other_bytes();
     try_long_texts();
     try_answers();
+    try_lacking();
     TRY(grove_version() == GROVE_VERSION);
     return told("wrong_calls");
 }

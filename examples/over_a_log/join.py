@@ -1,8 +1,9 @@
-"""Joins an author to a log: join.py ADDRESS FOLDER AUTHOR.
+"""Joins an author to a log: join.py ADDRESS FOLDER AUTHOR [PEER].
 
 Reads action lines from standard input, as `construct 0.0 main plus`, and writes what each answers. `show` writes the print text of what is
 there by then, `offer` sends the whole program again. After the last line it stays until the log has all of its edits and it has all of
-the log's, and writes the print text.
+the log's, and writes the print text. Where PEER, the folder of another member, is told, what came while this one was away is asked of that
+one; what it does not answer is read from the log.
 """
 import select
 import sys
@@ -12,6 +13,7 @@ from grove import BadLine, Refused
 from folder import Folder
 from logs import log_at
 from member import Member, Taken
+from peer import Port
 
 SECONDS_BETWEEN_LOOKS = 0.2
 
@@ -35,7 +37,7 @@ def catch_up(member: Member) -> None:
         pass
 
 
-def follow_input(member: Member) -> None:
+def follow_input(member: Member, port: Port) -> None:
     """Does what the input says as it comes; where no line is there, sends and takes."""
     # A buffer would hold lines back of which select does not know.
     lines = open(0, "rb", buffering=0)
@@ -43,6 +45,7 @@ def follow_input(member: Member) -> None:
         if not select.select([lines], [], [], 0)[0]:
             member.send()
             member.take(SECONDS_BETWEEN_LOOKS)
+            port.answer(member.replica, member.place)
             continue
         line = lines.readline()
         if not line:
@@ -59,13 +62,18 @@ def settle(member: Member) -> None:
 
 
 def main(words: list[str]) -> int:
-    if len(words) != 3:
+    if len(words) not in (3, 4):
         print(__doc__, file=sys.stderr)
         return 2
-    address, folder, author = words
+    address, folder, author, *peers = words
     member = Member(log_at(address), Folder(folder), int(author))
+    for peer in peers:
+        member.catch_up(peer)
     catch_up(member)
-    follow_input(member)
+    # It listens only now, so two that come at once do not wait for each other.
+    port = Port(folder)
+    follow_input(member, port)
+    port.close()
     settle(member)
     sys.stdout.write(member.replica.show())
     member.close()

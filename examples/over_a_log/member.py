@@ -7,6 +7,7 @@ from grove import Answer, BadLine, Replica
 
 from folder import Folder
 from logs import Log, LogDown
+from peer import NoPeer, ask
 
 LEAST_BETWEEN_SAVES = 256
 
@@ -65,6 +66,23 @@ class Member:
         acknowledged, self.waiting = self.waiting[:sent], self.waiting[sent:]
         self.unsaved += sent
         return acknowledged
+
+    def catch_up(self, folder: str) -> bool:
+        """Takes what the member of another folder has and this one lacks, and follows the log on from where that member is.
+
+        Where the other does not answer all is as it was, and what it would have told comes from the log. A place that is before its own
+        costs a member reading again, and no more.
+        """
+        try:
+            place, edits = ask(folder, self.replica.summary())
+            self.replica.apply(edits)
+        except (NoPeer, BadLine) as fault:
+            print(f"{folder} does not answer: {fault}", file=sys.stderr)
+            return False
+        self.place = place or self.place
+        self.unsaved += edits.count(b"\n")
+        self._save_if_due()
+        return True
 
     def take(self, seconds: float) -> Taken:
         """Takes some entries of the log, waiting so long for the first."""

@@ -41,4 +41,10 @@ class Rest(BadLine):
     name = "rest"
 
 
-BY_NAME = {fault.name: fault for fault in (Syntax, BadVertex, NoPosition, WrongSort, Rest)}
+class OutOfOrder(BadLine):
+    """Of a summary: the range does not come after the one before it, or stands right behind it."""
+
+    name = "out-of-order"
+
+
+BY_NAME = {fault.name: fault for fault in (Syntax, BadVertex, NoPosition, WrongSort, Rest, OutOfOrder)}

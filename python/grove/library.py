@@ -30,10 +30,11 @@ class Text(IntEnum):
     ANSWER = 3
     EDITS = 4
     CHANGED = 5
+    SUMMARY = 6
 
 
 # The words of the faults of lines, by their numbers.
-FAULTS = ("", "syntax", "bad-vertex", "no-position", "wrong-sort", "rest")
+FAULTS = ("", "syntax", "bad-vertex", "no-position", "wrong-sort", "rest", "out-of-order")
 
 
 class Handle(ctypes.Structure):
@@ -65,6 +66,7 @@ CALLS = {
     "grove_redo": [HANDLE, AUTHOR],
     "grove_text": [HANDLE, ctypes.c_uint32, ROOM, SIZE, LENGTH],
     "grove_judged": [HANDLE, BYTES, SIZE, ROOM, SIZE, LENGTH],
+    "grove_lacking": [HANDLE, BYTES, SIZE, ROOM, SIZE, LENGTH, BAD],
     "grove_greatest": [HANDLE, AUTHOR, COUNTER],
 }
 

@@ -103,6 +103,21 @@ class Replica:
         self._check(code)
         return Record.read(line)
 
+    def summary(self) -> str:
+        """What the program has, by ranges of names: what another replica is told to answer what this one lacks."""
+        return self._text(Text.SUMMARY)
+
+    def lacking(self, summary: str | bytes) -> str:
+        """The edits that another replica lacks by its summary, which it is to apply; a text that is no summary raises its BadLine.
+
+        Once each of two replicas has applied what the other answered, both have all edits of both, where no name was given twice.
+        """
+        summary = as_bytes(summary)
+        bad = FirstBadLine()
+        code, edits = self._read(lambda room, size: LIBRARY.grove_lacking(self._handle, summary, len(summary), room, size, self._length, bad))
+        self._check_text(code, bad)
+        return edits
+
     def greatest(self, author: int) -> int:
         """The greatest counter of the author's names in the program, or 0."""
         counter = ctypes.c_uint64()

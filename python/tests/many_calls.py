@@ -61,6 +61,7 @@ def look(replica, model, calls):
     same("canonical", replica.canonical(), model.canonical(), calls)
     same("report", "".join(report_lines(replica.report())), text, calls)
     same("marks", replica.marks(), model.marks(), calls)
+    same("summary", replica.summary(), model.summary(), calls)
 
 
 class Pair:

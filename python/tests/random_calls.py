@@ -1,5 +1,6 @@
 """Random calls of a replica: every kind of call and of action, sensible and not, good texts and bad ones."""
 from plain_grove.forms import FORMS, POSITIONS, WORDS
+from plain_grove.summaries import ranges_of, summary_text, told_of
 from plain_grove.texts import ROOT, edge_text, name_text, vertex_text, word_of
 
 AUTHORS = (1, 2, 3)
@@ -22,7 +23,7 @@ class RandomCalls:
         self.rng, self.graph = rng, graph
         self.makers, self.weights = zip(
             (self.action, 40), (self.edits, 16), (self.pieces, 6), (self.bad_edits, 6), (self.bad_action, 4),
-            (self.turn, 12), (self.question, 12), (self.wrong_call, 4),
+            (self.turn, 12), (self.question, 12), (self.exchange, 4), (self.wrong_call, 4),
         )
 
     def call(self):
@@ -125,8 +126,18 @@ class RandomCalls:
             words = self.spoilt(words.encode()).decode("latin-1")
         return "record", words
 
+    def exchange(self):
+        """The summary, or what another lacks that has a part of the edges and some others."""
+        if self.rng.random() < 0.3:
+            return ("summary",)
+        edges = self.rng.sample(self.graph.edges, self.rng.randrange(len(self.graph.edges) + 1))
+        told = told_of(edges, [edge for edge in edges if self.rng.random() < 0.5])
+        told |= {(self.rng.randrange(2), self.rng.choice(AUTHORS), self.rng.randrange(3000)) for _ in range(self.rng.randrange(3))}
+        summary = summary_text(ranges_of(told)).encode()
+        return "lacking", summary if self.rng.random() < 0.7 else self.spoilt(summary)
+
     def wrong_call(self):
         if self.rng.random() < 0.5:
             name = self.rng.choice(("undo", "redo", "greatest"))
             return name, self.rng.choice(WRONG_AUTHORS)
-        return "apply", self.rng.choice(WRONG_TEXTS)
+        return self.rng.choice(("apply", "lacking")), self.rng.choice(WRONG_TEXTS)

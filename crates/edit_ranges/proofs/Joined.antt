@@ -20,7 +20,7 @@ use Rattle.grove_edits.proofs.Orders.{one_edge}
 use Rattle.grove_edits.proofs.Graphs.{asked}
 use Rattle.edit_ranges.specs.declared.name_range.NameRange.{NameRange}
 use Rattle.edit_ranges.specs.Ranges.{tell}
-use Rattle.edit_ranges.specs.Summary.{IsHad, IsOfOneEdge, IsSummaryOf}
+use Rattle.edit_ranges.specs.Summary.{IsBetweenGone, IsGone, IsHad, IsOfOneEdge, IsSummaryOf}
 use Rattle.edit_ranges.specs.Lacking.{told_by, is_taken, lacking, IsKnownByName, AreNamesOnce}
 use Rattle.edit_ranges.proofs.Present.{absent_first, absent_second, deleted_present, present_first, present_later}
 
@@ -100,15 +100,25 @@ present_at_least Deleted h = omega arith
 
 taken_is_there : (h : Graph) (ranges : List NameRange) (x : Edit) → IsSummaryOf h ranges → (IsHad h (edit_edge x).name → h (edit_edge x) ≢ Absent) → is_taken ranges x ≡ true → IsThere h x
 taken_is_there h ranges x summary known is = by_kind (edit_kind x) is where
-  by_kind : (k : EditKind) → tell ranges (told_by k) (edit_edge x).name ≡ true → IsAtMost (state_of k) (h (edit_edge x))
-  by_kind Insert named = present_at_least (h (edit_edge x)) (known ((summary.named (edit_edge x).name).0 named))
-  by_kind Delete deleted =
-      let gone = (summary.deleted (edit_edge x).name).0 deleted in
+  gone_is_there : IsGone h (edit_edge x).name → IsAtMost Deleted (h (edit_edge x))
+  gone_is_there gone =
       let f = gone.0.0 in
       let there : h f ≢ Absent = λ none. deleted_present (sym gone.0.1 ∙ none) in
       let here = known ((f, there, inl gone.0.2), gone.1) in
       let same : edit_edge x ≡ f = gone.1 (edit_edge x) f here there refl gone.0.2 in
       subst (λ s. IsAtMost Deleted s) (sym (ap h same ∙ gone.0.1)) (omega arith)
+
+  -- a vertex has the name, so the edge would stand in the graph, and no edge with the name does
+  not_between : IsBetweenGone h (edit_edge x).name → ⊥
+  not_between between =
+      let f = between.behind_gone.0.0 in
+      let there : h f ≢ Absent = λ none. deleted_present (sym between.behind_gone.0.1 ∙ none) in
+      between.no_edge (edit_edge x) (known ((f, there, inr (inr between.leads)), λ e g is_e is_g name_e name_g. absurd (between.no_edge e is_e name_e))) refl
+
+  by_kind : (k : EditKind) → tell ranges (told_by k) (edit_edge x).name ≡ true → IsAtMost (state_of k) (h (edit_edge x))
+  by_kind Insert named = present_at_least (h (edit_edge x)) (known ((summary.named (edit_edge x).name).0 named))
+  by_kind Delete deleted =
+      elim ((summary.deleted (edit_edge x).name).0 deleted) [ inl gone ↦ gone_is_there gone | inr between ↦ absurd (not_between between) ]
 
 all_there : (h : Graph) (ranges : List NameRange) (a : List Edit) → IsSummaryOf h ranges → IsKnownByName (graph a) h → AllByRecursion (λ x. is_taken ranges x ≡ true → IsThere h x) a
 all_there h ranges [] summary known = tt
@@ -139,6 +149,24 @@ within_first g h e is none = is (absent_first (g e) (h e) none)
 
 pub within_second : (g h : Graph) → IsWithin h (graph_join g h)
 within_second g h e is none = is (absent_second (g e) (h e) none)
+
+-- ---- both have the join
+
+pub joined_by_first : (a b : List Edit) (told : List NameRange) → IsSummaryOf (graph a) told → AreNamesOnce (graph_join (graph a) (graph b))
+    → IsSame (graph_join (graph a) (graph (lacking told b))) (graph_join (graph a) (graph b))
+joined_by_first a b told summary once e =
+    enough b a told summary
+    (known_by_name (graph_join (graph a) (graph b)) (graph b) (graph a) (within_second (graph a) (graph b)) (within_first (graph a) (graph b)) once) e
+    ∙ state_join_comm (graph b e) (graph a e)
+
+pub once_along : (g h : Graph) → IsSame g h → AreNamesOnce g → AreNamesOnce h
+once_along g h same once = record {
+  one_edge = λ e f one other. once.one_edge e f (there e one) (there f other);
+  no_source = λ e f one other. once.no_source e f (there e one) (there f other);
+  no_target = λ e f one other. once.no_target e f (there e one) (there f other);
+} where
+  there : (e : Edge) → h e ≢ Absent → g e ≢ Absent
+  there e is none = is (sym (same e) ∙ none)
 
 -- ---- what is sent is there
 
@@ -204,7 +232,7 @@ there_is_taken : (h : Graph) (ranges : List NameRange) (x : Edit) → IsSummaryO
 there_is_taken h ranges x summary once there = by_kind (edit_kind x) there where
   by_kind : (k : EditKind) → IsAtMost (state_of k) (h (edit_edge x)) → tell ranges (told_by k) (edit_edge x).name ≡ true
   by_kind Insert le = (summary.named (edit_edge x).name).1 ((edit_edge x, not_absent (h (edit_edge x)) le, inl refl), once)
-  by_kind Delete le = (summary.deleted (edit_edge x).name).1 ((edit_edge x, deleted_from (h (edit_edge x)) le, refl), once)
+  by_kind Delete le = (summary.deleted (edit_edge x).name).1 (inl ((edit_edge x, deleted_from (h (edit_edge x)) le, refl), once))
 
 pub none_in_vain : (a b : List Edit) (ranges : List NameRange) → IsSummaryOf (graph b) ranges → ((n : Name) → IsOfOneEdge (graph b) n)
     → AllByRecursion (λ x. rank (graph b (edit_edge x)) < rank (state_of (edit_kind x))) (lacking ranges a)

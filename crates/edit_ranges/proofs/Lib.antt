@@ -1,6 +1,7 @@
 pub mod Grouping
 pub mod InOrder
 pub mod Joined
+pub mod NamesBetween
 pub mod OneList
 pub mod Present
 pub mod RangeTexts

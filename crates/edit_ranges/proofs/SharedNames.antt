@@ -64,7 +64,7 @@ fact_name t n f h = name_from_fields f.name n
 -- ---- names in edge order
 
 -- an edge of a list comes after what comes before all of it
-after_edge : (e : Edge) (xs : List Edit) (f : Edge) → AllByRecursion (λ later. edge_cmp e (edit_edge later) ≡ Less) xs → graph xs f ≢ Absent → edge_cmp e f ≡ Less
+pub after_edge : (e : Edge) (xs : List Edit) (f : Edge) → AllByRecursion (λ later. edge_cmp e (edit_edge later) ≡ Less) xs → graph xs f ≢ Absent → edge_cmp e f ≡ Less
 after_edge e [] f all is = absurd (is refl)
 after_edge e (x ∷ xs) f all is = elim (first_or_later x xs f is) [
   | inl same ↦ subst (λ (g : Edge). edge_cmp e g ≡ Less) same all.0
@@ -76,7 +76,7 @@ not_greater Less p lt is = cc
 not_greater Equal p lt is = cc
 not_greater Greater p lt is = cc
 
-names_rise : (a b : Edge) → edge_cmp a b ≡ Less → name_cmp a.name b.name ≡ Greater → ⊥
+pub names_rise : (a b : Edge) → edge_cmp a b ≡ Less → name_cmp a.name b.name ≡ Greater → ⊥
 names_rise a b lt is =
     not_greater (name_cmp a.name b.name) (ordering_then (vertex_cmp a.source b.source) (ordering_then (position_cmp a.position b.position) (vertex_cmp a.target b.target))) lt is
 
@@ -95,7 +95,7 @@ next_has_name x (y ∷ ys) f up is same = same_name (edit_edge y).name (edit_edg
   | inr later ↦ name_between (edit_edge x) (edit_edge y) f up.0.0 (after_edge (edit_edge y) ys f up.1.0 later) same
 ])
 
-not_before_itself : (e f : Edge) → edge_cmp e f ≡ Less → e ≡ f → ⊥
+pub not_before_itself : (e f : Edge) → edge_cmp e f ≡ Less → e ≡ f → ⊥
 not_before_itself e f lt same = less_not_equal (edge_cmp e f) lt (ap (edge_cmp e) (sym same) ∙ tied_itself edge_cmp_total e) where
   less_not_equal : (o : Ordering) → o ≡ Less → o ≡ Equal → ⊥
   less_not_equal o less equal = absurd (absurd_both (sym less ∙ equal)) where
@@ -104,7 +104,7 @@ not_before_itself e f lt same = less_not_equal (edge_cmp e f) lt (ap (edge_cmp e
 
 -- ---- shared names
 
-in_rest : (x : Edit) (xs : List Edit) (n : Name) → IsOfOneEdge (graph (x ∷ xs)) n → IsOfOneEdge (graph xs) n
+pub in_rest : (x : Edit) (xs : List Edit) (n : Name) → IsOfOneEdge (graph (x ∷ xs)) n → IsOfOneEdge (graph xs) n
 in_rest x xs n once e f is_e is_f name_e name_f = once e f (present_later x xs e is_e) (present_later x xs f is_f) name_e name_f
 
 shared_first : (x : Edit) (xs : List Edit) (n : Name) → Ascends (x ∷ xs) → begins_with_name (edit_edge x).name xs ≡ true → (edit_edge x).name ≡ n → IsOfOneEdge (graph (x ∷ xs)) n → ⊥

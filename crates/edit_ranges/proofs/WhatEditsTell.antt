@@ -19,9 +19,10 @@ use Rattle.edit_ranges.specs.declared.told.Told.TheVariants as told
 use Rattle.edit_ranges.specs.declared.fact.Fact.{Fact}
 use Rattle.edit_ranges.specs.declared.name_range.NameRange.{NameRange}
 use Rattle.edit_ranges.specs.Ranges.{tell, are_ranges}
-use Rattle.edit_ranges.specs.Summary.{Mentions, IsOfOneEdge, IsSummaryOf}
-use Rattle.edit_ranges.specs.Facts.{FactInRange, fact, is_fact, deletion_of, facts_of_edit, begins_with_name, shared_facts, is_told_by}
-use Rattle.edit_ranges.proofs.InOrder.{both, both_hold, one_of, false_from}
+use Rattle.edit_ranges.specs.Summary.{Mentions, IsBetweenGone, IsOfOneEdge, IsSummaryOf, name_behind}
+use Rattle.edit_ranges.specs.Facts.{FactInRange, fact, is_fact, deletion_of, facts_of_edit, begins_with_name, between_facts, shared_facts, is_told_by}
+use Rattle.edit_ranges.proofs.InOrder.{both, both_hold, one_of, false_from, or_false}
+use Rattle.edit_ranges.proofs.NamesBetween.{Around, Found, all_append, between_back, between_in_range, between_to, none_named}
 use Rattle.edit_ranges.proofs.Present.{present_first, present_later, first_or_later, deleted_later, deleted_first, deleted_by}
 use Rattle.edit_ranges.proofs.SharedNames.{fact_here, fact_name, shared_to, shared_back}
 
@@ -151,23 +152,31 @@ not_false b h = ap not h
 
 pub is_summary : (edits : List Edit) (shared ranges : List NameRange) → Ascends edits → are_ranges ranges ≡ true
     → ((t : Told) (n : Name) → tell shared t n ≡ list_any (is_fact t n) (shared_facts edits))
-    → ((t : Told) (n : Name) → tell ranges t n ≡ list_any (is_fact t n) (filter (λ f. not (is_told_by shared f)) (flat_map facts_of_edit edits)))
+    → ((t : Told) (n : Name) → tell ranges t n ≡ list_any (is_fact t n) (filter (λ f. not (is_told_by shared f)) (flat_map facts_of_edit edits) ++ between_facts shared edits))
     → IsSummaryOf (graph edits) ranges
 is_summary edits shared ranges up in_order shares tells = record {
   in_order = in_order;
   named = λ n. (
     λ is.
-        let parts = both (not (tell shared told.Named n)) (told_in told.Named n edits) (sym (kept_told shared edits told.Named n) ∙ sym (tells told.Named n) ∙ is) in
+        let parts = both (not (tell shared told.Named n)) (told_in told.Named n edits) (sym (named_part n) ∙ is) in
         (named_to edits n parts.1, once n parts.0),
-    λ had. tells told.Named n ∙ kept_told shared edits told.Named n
+    λ had. named_part n
         ∙ both_hold (not (tell shared told.Named n)) (told_in told.Named n edits) (alone n had.1) (named_back edits n had.0.0 had.0.1 had.0.2),
   );
   deleted = λ n. (
-    λ is.
-        let parts = both (not (tell shared told.Named n)) (told_in told.Deleted n edits) (sym (kept_told shared edits told.Deleted n) ∙ sym (tells told.Deleted n) ∙ is) in
-        (gone_to edits n parts.1, once n parts.0),
-    λ gone. tells told.Deleted n ∙ kept_told shared edits told.Deleted n
-        ∙ both_hold (not (tell shared told.Named n)) (told_in told.Deleted n edits) (alone n gone.1) (gone_back edits n gone.0.0 gone.0.1 gone.0.2),
+    λ is. elim (one_of (not (tell shared told.Named n) && told_in told.Deleted n edits) (list_any (is_fact told.Deleted n) (between_facts shared edits)) (sym (whole_told told.Deleted n) ∙ is)) [
+      | inl gone ↦
+          let parts = both (not (tell shared told.Named n)) (told_in told.Deleted n edits) gone in
+          inl (gone_to edits n parts.1, once n parts.0)
+      | inr passed ↦ inr (between_gone n (between_to shared edits n up passed))
+    ],
+    λ either. whole_told told.Deleted n ∙ elim either [
+      | inl gone ↦
+          or_first (not (tell shared told.Named n) && told_in told.Deleted n edits) (list_any (is_fact told.Deleted n) (between_facts shared edits))
+          (both_hold (not (tell shared told.Named n)) (told_in told.Deleted n edits) (alone n gone.1) (gone_back edits n gone.0.0 gone.0.1 gone.0.2))
+      | inr passed ↦
+          or_second (not (tell shared told.Named n) && told_in told.Deleted n edits) (list_any (is_fact told.Deleted n) (between_facts shared edits)) (gone_between n passed)
+    ],
   );
 }
   where
@@ -177,11 +186,46 @@ is_summary edits shared ranges up in_order shares tells = record {
     alone : (n : Name) → IsOfOneEdge (graph edits) n → not (tell shared told.Named n) ≡ true
     alone n one = not_false (tell shared told.Named n) (false_from (tell shared told.Named n) (λ is. shared_to edits n up (sym (shares told.Named n) ∙ is) one))
 
--- ---- the numbers of facts fit
+    whole_told : (t : Told) (n : Name) → tell ranges t n ≡ ((not (tell shared told.Named n) && told_in t n edits) || list_any (is_fact t n) (between_facts shared edits))
+    whole_told t n =
+        tells t n ∙ list_any-append (is_fact t n) (kept shared edits) (between_facts shared edits)
+        ∙ ap (λ b. b || list_any (is_fact t n) (between_facts shared edits)) (kept_told shared edits t n)
 
-all_append : {X : Type 0} (P : X → Type 0) (xs ys : List X) → AllByRecursion P xs → AllByRecursion P ys → AllByRecursion P (xs ++ ys)
-all_append P [] ys all rest = rest
-all_append P (x ∷ xs) ys all rest = (all.0, all_append P xs ys all.1 rest)
+    named_part : (n : Name) → tell ranges told.Named n ≡ (not (tell shared told.Named n) && told_in told.Named n edits)
+    named_part n =
+        whole_told told.Named n
+        ∙ or_false (not (tell shared told.Named n) && told_in told.Named n edits) (list_any (is_fact told.Named n) (between_facts shared edits)) (none_named shared edits n)
+
+    between_gone : (n : Name) → Found shared edits n → IsBetweenGone (graph edits) n
+    between_gone n found =
+        let h = found.0 in
+        record {
+          no_edge = h.no_edge;
+          before = h.before.name;
+          follows = h.follows;
+          before_gone = ((h.before, h.before_gone, refl), once h.before.name found.1);
+          behind_gone = ((h.behind, h.behind_gone, h.followed), subst (λ (m : Name). IsOfOneEdge (graph edits) m) h.followed (once h.behind.name found.2));
+          leads = h.leads;
+        }
+
+    gone_between : (n : Name) → IsBetweenGone (graph edits) n → list_any (is_fact told.Deleted n) (between_facts shared edits) ≡ true
+    gone_between n passed =
+        let one_before = subst (λ (m : Name). IsOfOneEdge (graph edits) m) (sym passed.before_gone.0.2) passed.before_gone.1 in
+        let one_behind = subst (λ (m : Name). IsOfOneEdge (graph edits) m) (sym passed.behind_gone.0.2) passed.behind_gone.1 in
+        let around : Around edits n = record {
+          before = passed.before_gone.0.0;
+          behind = passed.behind_gone.0.0;
+          before_gone = passed.before_gone.0.1;
+          behind_gone = passed.behind_gone.0.1;
+          follows = passed.follows ∙ ap name_behind (sym passed.before_gone.0.2);
+          followed = passed.behind_gone.0.2;
+          leads = passed.leads;
+          no_edge = passed.no_edge;
+        } in
+        between_back shared edits n up around one_before one_behind
+        (alone passed.before_gone.0.0.name one_before) (alone passed.behind_gone.0.0.name one_behind)
+
+-- ---- the numbers of facts fit
 
 all_filtered : {X : Type 0} (P : X → Type 0) (p : X → Bool) (xs : List X) → AllByRecursion P xs → AllByRecursion P (filter p xs)
 all_filtered P p [] all = tt
@@ -203,8 +247,10 @@ facts_in_range : (edits : List Edit) → AllByRecursion FactInRange (flat_map fa
 facts_in_range [] = tt
 facts_in_range (x ∷ xs) = all_append FactInRange (facts_of_edit x) (flat_map facts_of_edit xs) (edit_in_range x) (facts_in_range xs)
 
-pub kept_in_range : (p : Fact → Bool) (edits : List Edit) → All FactInRange (filter p (flat_map facts_of_edit edits))
-kept_in_range p edits = All-from_recursion FactInRange (filter p (flat_map facts_of_edit edits)) (all_filtered FactInRange p (flat_map facts_of_edit edits) (facts_in_range edits))
+pub kept_in_range : (p : Fact → Bool) (shared : List NameRange) (edits : List Edit) → All FactInRange (filter p (flat_map facts_of_edit edits) ++ between_facts shared edits)
+kept_in_range p shared edits =
+    All-from_recursion FactInRange (filter p (flat_map facts_of_edit edits) ++ between_facts shared edits)
+    (all_append FactInRange (filter p (flat_map facts_of_edit edits)) (between_facts shared edits) (all_filtered FactInRange p (flat_map facts_of_edit edits) (facts_in_range edits)) (between_in_range shared edits))
 
 shared_by_recursion : (edits : List Edit) → AllByRecursion FactInRange (shared_facts edits)
 shared_by_recursion [] = tt

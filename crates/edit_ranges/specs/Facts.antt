@@ -1,5 +1,5 @@
 -- Inner model, which no public contract cites: what edits tell, fact by fact, and the ranges of facts in order.
-use Rattle.std.specs.Prelude.{◌-◌, Bool, false, ◌&&◌, ◌==◌, nat_le, List, [], ◌∷◌, if◌then◌else◌}
+use Rattle.std.specs.Prelude.{◌+◌, ◌-◌, Bool, true, false, not, ◌&&◌, ◌==◌, nat_le, List, [], ◌∷◌, ◌++◌, if◌then◌else◌}
 use Rattle.grove_names.specs.declared.name.Name.{Name}
 use Rattle.grove_names.specs.Name.{InRange}
 use Rattle.grove_edits.specs.declared.edit.Edit.{Edit}
@@ -46,6 +46,33 @@ abbrev pub shared_facts : List Edit → List Fact
 shared_facts [] = []
 shared_facts (edit ∷ edits) =
     if begins_with_name (edit_edge edit).name edits then (fact Named (edit_edge edit).name ∷ shared_facts edits) else shared_facts edits
+
+abbrev pub is_deletion : EditKind → Bool
+is_deletion Insert = false
+is_deletion Delete = true
+
+-- the second name is right behind the first
+abbrev pub is_next : Name → Name → Bool
+is_next name next = (name.author == next.author) && (next.counter == name.counter + 1)
+
+-- both edges are deleted, and between their names there is that of the vertex to which the second leads
+abbrev pub are_around : Edit → Edit → Bool
+are_around before behind =
+    is_deletion (edit_kind before) && is_deletion (edit_kind behind)
+    && is_next (edit_edge before).name (edit_edge behind).target.name && is_next (edit_edge behind).target.name (edit_edge behind).name
+
+-- neither of the edges has its name together with others, which the ranges tell
+abbrev pub are_alone : List NameRange → Edit → Edit → Bool
+are_alone shared before behind = not (tell shared Named (edit_edge before).name) && not (tell shared Named (edit_edge behind).name)
+
+-- the name between those of an edge and of the next one
+abbrev pub between_next : List NameRange → Edit → List Edit → List Fact
+between_next shared before [] = []
+between_next shared before (behind ∷ edits) = if are_around before behind && are_alone shared before behind then (fact Deleted (edit_edge behind).target.name ∷ []) else []
+
+abbrev pub between_facts : List NameRange → List Edit → List Fact
+between_facts shared [] = []
+between_facts shared (edit ∷ edits) = between_next shared edit edits ++ between_facts shared edits
 
 -- the ranges tell the fact's name
 abbrev pub is_told_by : List NameRange → Fact → Bool

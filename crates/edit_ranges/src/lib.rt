@@ -2,6 +2,7 @@
 //! send each other their summaries, and then only what the other lacks: both have the join of their graphs then.
 #![tactic(auto)]
 
+mod between;
 mod fact;
 mod facts;
 mod fault;

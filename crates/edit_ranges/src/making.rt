@@ -4,6 +4,7 @@ ghost use Rattle.edit_ranges.specs.Ranges.{are_ranges};
 ghost use Rattle.edit_ranges.specs.Summary.{IsSummaryOf};
 ghost use Rattle.edit_ranges.specs.Facts.{is_told_by};
 
+use crate::between::between_facts;
 use crate::fact::Fact;
 use crate::facts::{facts_of, shared_facts};
 use crate::name_range::NameRange;
@@ -23,6 +24,8 @@ pub fn summary_of(alloc: Global, edits: &[Edit]) -> Result<Summary, NoMemory>
     let shared = ranges_of(alloc, shared_facts(alloc, edits)?)?;
     let mut facts = facts_of(alloc, edits)?;
     leave_out(&shared, &mut facts);
+    let between = between_facts(alloc, &shared, edits)?;
+    facts.extend_from_slice(&between)?;
     let ranges = ranges_of(alloc, facts)?;
     Ok(Summary { ranges })
 }

@@ -1,9 +1,11 @@
--- What C is told of the first bad line of an edit text.
+-- What C is told of the first bad line of an edit text or of a summary.
 use Rattle.std.specs.Prelude.{ℕ}
 use Rattle.edit_text.specs.declared.line_fault.LineFault.{LineFault}
 use Rattle.edit_text.specs.declared.line_fault.LineFault.TheVariants.{Syntax, BadVertex, NoPosition, WrongSort}
 use Rattle.edit_text.specs.declared.text_fault.TextFault.{TextFault}
 use Rattle.edit_text.specs.declared.text_fault.TextFault.TheVariants.{Malformed, Rest, NoMemory}
+use Rattle.edit_ranges.specs.declared.fault.RangeFault.{RangeFault}
+use Rattle.edit_ranges.specs.declared.fault.RangeFault.TheVariants as range_fault
 use Rattle.grove_c.specs.declared.bad_line.BadLine.{BadLine}
 use Rattle.grove_c.specs.declared.code.TheConstants.{MALFORMED, NO_MEMORY}
 
@@ -25,3 +27,12 @@ bad_line NoMemory = no_bad_line
 abbrev pub fault_code : TextFault → ℕ
 fault_code NoMemory = NO_MEMORY
 fault_code _ = MALFORMED
+
+-- in a summary too, bytes behind the last line feed have the fault 5
+abbrev pub number_of_range_fault : RangeFault → ℕ
+number_of_range_fault range_fault.Syntax = 1
+number_of_range_fault range_fault.Unended = 5
+number_of_range_fault range_fault.OutOfOrder = 6
+
+abbrev pub range_bad_line : ℕ → RangeFault → BadLine
+range_bad_line line fault = record { line = line; fault = number_of_range_fault fault }

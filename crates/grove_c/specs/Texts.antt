@@ -5,11 +5,12 @@ use Rattle.grove_edits.specs.declared.vertex.Vertex.{Vertex}
 use Rattle.grove_edits.specs.Graph.{graph}
 use Rattle.grove_answers.specs.Texts.{IsPrintText}
 use Rattle.grove_json.specs.JsonText.{IsJsonText}
+use Rattle.grove_editor.specs.CatchingUp.{IsSummaryText}
 use Rattle.grove_editor.specs.EditsText.{edits_text}
 use Rattle.grove_editor.specs.Told.{reply_text}
 use Rattle.grove_editor.specs.Records.{AreRecordsTold, IsRecordTold, vertex_text}
 use Rattle.grove_c.specs.declared.text_kind.TextKind.{TextKind}
-use Rattle.grove_c.specs.declared.text_kind.TextKind.TheVariants.{Print, Canonical, Json, Answer, Edits, Changed}
+use Rattle.grove_c.specs.declared.text_kind.TextKind.TheVariants.{Print, Canonical, Json, Answer, Edits, Changed, Summary}
 use Rattle.grove_c.specs.declared.instance.MadeText.{MadeText}
 
 -- the numbers that C has for them
@@ -20,6 +21,7 @@ number_of Json = 2
 number_of Answer = 3
 number_of Edits = 4
 number_of Changed = 5
+number_of Summary = 6
 
 -- these bytes are the text of this kind of an editor in this state
 abbrev pub IsTextOf : State → TextKind → List ℕ → Type 0
@@ -29,6 +31,7 @@ IsTextOf state Json text = IsJsonText (graph state.edits) text
 IsTextOf state Answer text = text ≡ reply_text state.reply
 IsTextOf state Edits text = text ≡ edits_text state.made
 IsTextOf state Changed text = AreRecordsTold (graph state.edits) state.changed text
+IsTextOf state Summary text = IsSummaryText (graph state.edits) text
 
 -- the editor has a text for which C has this number, and these bytes are that text
 pub record IsTextNumbered (state : State) (number : ℕ) (text : List ℕ) : Type 0 where

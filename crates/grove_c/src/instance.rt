@@ -74,6 +74,7 @@ fn made_text(alloc: Global, editor: &Editor, kind: TextKind) -> Result<MadeText,
         TextKind::Answer => editor.append_reply(&mut bytes)?,
         TextKind::Edits => editor.append_made(&mut bytes)?,
         TextKind::Changed => editor.append_changed(&mut bytes)?,
+        TextKind::Summary => editor.append_summary(&mut bytes)?,
     }
     Ok(MadeText { kind, bytes })
 }

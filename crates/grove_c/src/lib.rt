@@ -4,6 +4,7 @@
 
 mod acting;
 mod bad_line;
+mod catching_up;
 mod code;
 mod edits;
 mod held;

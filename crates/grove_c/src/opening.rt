@@ -12,9 +12,9 @@ use std::alloc::Global;
 /// The version of the calls. It rises where one is added.
 #[unsafe(no_mangle)]
 pub extern "C" fn grove_c_version() -> u32
-    ensures { result ≡ 1 }
+    ensures { result ≡ 2 }
 {
-    1
+    2
 }
 
 /// Makes an editor at its start, and writes its address to `at`. Where memory runs out `at` is as it was.

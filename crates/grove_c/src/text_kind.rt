@@ -11,6 +11,7 @@ pub enum TextKind {
     Answer,
     Edits,
     Changed,
+    Summary,
 }
 
 /// The text for which C has this number.
@@ -25,6 +26,7 @@ pub(crate) fn text_kind(number: u32) -> Option<TextKind>
         3 => Some(TextKind::Answer),
         4 => Some(TextKind::Edits),
         5 => Some(TextKind::Changed),
+        6 => Some(TextKind::Summary),
         _ => None,
     }
 }

@@ -4,5 +4,6 @@ pub mod OwnBlocks
 pub mod Turns
 pub mod Undone
 pub mod EditTexts
+pub mod CaughtUp
 pub mod TextLines
 pub mod RecordLines

@@ -3,6 +3,7 @@ pub mod Kept
 pub mod Deeds
 pub mod Taken
 pub mod Acted
+pub mod CatchingUp
 pub mod Turned
 pub mod Turn
 pub mod News

@@ -6,6 +6,7 @@ mod acting;
 mod action_fault;
 mod author_fault;
 mod authors;
+mod catching_up;
 mod deed;
 mod doing;
 mod editor;
@@ -28,8 +29,11 @@ mod vertex_reading;
 pub use action_fault::ActionFault;
 pub use author_fault::AuthorFault;
 pub use deed::Deed;
+pub use edit_ranges::{RangeFault, SummaryFault};
 pub use editor::Editor;
-pub use laws::{a_text_of_edits_is_read, an_action_is_in_a_block_of_its_own};
+pub use laws::{
+    a_text_of_edits_is_read, an_action_is_in_a_block_of_its_own, who_caught_up_has_the_join,
+};
 pub use reading::read_edits;
 pub use reply::Reply;
 pub use text_parts::NoMemory;

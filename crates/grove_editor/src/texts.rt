@@ -65,8 +65,8 @@ impl Editor {
     }
 }
 
-// The lines of edits behind the one that tells their version, and nothing where there are none.
-fn append_edits(edits: &[Edit], out: &mut Vec<u8>) -> Result<(), NoMemory>
+/// Appends the lines of edits behind the one that tells their version, and nothing where there are none.
+pub(crate) fn append_edits(edits: &[Edit], out: &mut Vec<u8>) -> Result<(), NoMemory>
     ensures appended { OnOk result (out.new.items ≡ out.old.items ++ edits_text edits.now) }
     ensures unchanged { OnErr result (out.new.items ≡ out.old.items) }
 {

@@ -148,7 +148,8 @@ def hold_against_each_other(folder: pathlib.Path, server, authors: list[Author])
     acknowledged = set().union(*(author.told["acknowledged"] for author in authors))
     lost = [edit for edit in kept | acknowledged if not has(states, edit)]
     assert not lost, f"{len(lost)} edits are lost, as {lost[0]}"
-    return f"{entries} entries, {len(states)} edges, {len(kept)} edits kept, {len(acknowledged)} acknowledged, {due.count(chr(10))} lines"
+    caught = sum(len(author.told["caught"]) for author in authors)
+    return f"{entries} entries, {len(states)} edges, {len(kept)} edits kept, {len(acknowledged)} acknowledged, {due.count(chr(10))} lines, {caught} caught up by others"
 
 
 def run(kind: str, seconds: float, seed: int) -> None:

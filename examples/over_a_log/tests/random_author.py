@@ -1,6 +1,7 @@
 """An author that acts at random, and is killed at random: random_author.py ADDRESS FOLDER AUTHOR SIGNS.
 
-Tells on standard output, a line at a time: `kept EDIT` once an edit of its own is on its disk, `acknowledged EDIT` once the log has it. Once
+Tells on standard output, a line at a time: `kept EDIT` once an edit of its own is on its disk, `acknowledged EDIT` once the log has it; at the start
+`caught PLACE` where another author answered what was missed, up to that place of the log. Once
 there is a file `stop` in the folder SIGNS it acts no more, tells `settled` when nothing of its own waits, and once there is a file `end` takes
 what is left and writes its print text to the file `shown` of its folder. What comes from the log comes to it out of order and more than once.
 """
@@ -15,6 +16,7 @@ sys.path[:0] = [str(HERE.parent), str(HERE.parents[2] / "python"), str(HERE.pare
 from folder import Folder, InUse  # noqa: E402
 from logs import Entry, log_at  # noqa: E402
 from member import Member, Taken  # noqa: E402
+from peer import Port  # noqa: E402
 
 from grove import BadLine, Refused  # noqa: E402
 from plain_grove.forms import FORMS  # noqa: E402
@@ -105,15 +107,16 @@ def open_folder(path: str) -> Folder:
             time.sleep(0.01)
 
 
-def act_until(stop: pathlib.Path, member: Member, hand: Hand) -> None:
+def act_until(stop: pathlib.Path, member: Member, hand: Hand, port: Port) -> None:
     while not stop.exists():
         for _ in range(hand.rng.randrange(1, 4)):
             act(member, hand)
         send(member)
         member.take(0.02)
+        port.answer(member.replica, member.place)
 
 
-def settle(end: pathlib.Path, member: Member) -> None:
+def settle(end: pathlib.Path, member: Member, port: Port) -> None:
     """Stays until all authors have sent what they had, and takes that."""
     while member.waiting:
         send(member)
@@ -121,6 +124,7 @@ def settle(end: pathlib.Path, member: Member) -> None:
     print("settled", flush=True)
     while not end.exists():
         member.take(0.1)
+        port.answer(member.replica, member.place)
     while member.take(0.1) is not Taken.NOTHING_LEFT:
         pass
 
@@ -128,10 +132,15 @@ def settle(end: pathlib.Path, member: Member) -> None:
 def main(address: str, folder: str, author: str, signs: str) -> None:
     rng = random.Random()
     member = Member(Disorderly(log_at(address), rng), open_folder(folder), int(author))
+    # Another author may be dead or not listening yet: then all comes from the log.
+    others = [str(other) for other in pathlib.Path(signs).glob("author*") if other != pathlib.Path(folder)]
+    if others and member.catch_up(rng.choice(others)):
+        print(f"caught {member.place}", flush=True)
+    port = Port(folder)
     hand = Hand(rng)
     hand.see(member.replica.canonical())
-    act_until(pathlib.Path(signs, "stop"), member, hand)
-    settle(pathlib.Path(signs, "end"), member)
+    act_until(pathlib.Path(signs, "stop"), member, hand, port)
+    settle(pathlib.Path(signs, "end"), member, port)
     pathlib.Path(folder, "shown").write_text(member.replica.show())
     member.close()
 

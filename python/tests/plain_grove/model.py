@@ -9,6 +9,7 @@ from .actions import Plan, Refusal
 from .forms import LAST_AUTHOR
 from .graphs import Graph
 from .marking import Marking
+from .summaries import lacking, read_summary, summary_of
 from .texts import BadLine, Fault, edit_line, read_constructor, read_name, read_text
 from .undoing import take_and_tell, undoing_edits
 
@@ -51,11 +52,7 @@ class Model:
         return take_and_tell(self.graph, edits)
 
     def apply(self, text):
-        try:
-            edits = read_text(text.encode() if isinstance(text, str) else bytes(memoryview(text)))
-        except BadLine as bad:
-            raise faults.BY_NAME[bad.fault](bad.line) from None
-        self.take(edits)
+        self.take(read_by(read_text, text))
 
     def apply_pieces(self, pieces):
         self.apply(b"".join(pieces))
@@ -114,9 +111,22 @@ class Model:
             raise faults.Syntax(1) from None
         return self.marking().records[found] if self.graph.is_vertex(found) else None
 
+    def summary(self):
+        return summary_of(self.graph)
+
+    def lacking(self, summary):
+        return text_of(lacking(self.graph, read_by(read_summary, summary)))
+
     def greatest(self, author):
         check_author(author)
         return self.graph.greatest.get(author, 0)
+
+
+def read_by(read, text):
+    try:
+        return read(text.encode() if isinstance(text, str) else bytes(memoryview(text)))
+    except BadLine as bad:
+        raise faults.BY_NAME[bad.fault](bad.line) from None
 
 
 def check_author(author):
