@@ -14,6 +14,7 @@ from grove import Replica
 
 ONE_AT_A_TIME = 2_000
 EDITS_A_CALL = 1_000
+VERSION = b"grove 2\n"
 HEADS = (
     "What", "Edits", "Memory, MB", "Bytes an edit", "Bytes a live vertex", "Load, s", "Apply, µs", "Of it the call, µs", "Act, µs", "Undo, µs",
     "Print, s", "Print, MB", "Canonical, s", "Canonical, MB",
@@ -26,10 +27,16 @@ def new_edits(rng: random.Random, branches: int, author: int, count: int) -> lis
     return [f"+{author}.{2 * at + 2} {place} plus left {author}.{2 * at + 1} num:1\n".encode() for at, place in enumerate(places)]
 
 
-def cut(text: bytes, lines_a_call: int) -> list[bytes]:
-    """The text in texts of so many lines each."""
-    lines = text.splitlines(keepends=True)
-    return [b"".join(lines[at : at + lines_a_call]) for at in range(0, len(lines), lines_a_call)]
+def cut(text: bytes, edits_a_call: int) -> list[bytes]:
+    """The text in texts of so many edits each, which tell the version if it does."""
+    version = VERSION if text.startswith(VERSION) else b""
+    lines = text.removeprefix(VERSION).splitlines(keepends=True)
+    return [version + b"".join(lines[at : at + edits_a_call]) for at in range(0, len(lines), edits_a_call)]
+
+
+def joined(texts: list[bytes]) -> bytes:
+    """One text of version two with the edits of these."""
+    return VERSION + b"".join(text.removeprefix(VERSION) for text in texts)
 
 
 def each(take, words: list) -> None:

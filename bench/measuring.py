@@ -2,8 +2,10 @@
 import argparse
 import concurrent.futures
 import multiprocessing
+import os
 import pathlib
 import resource
+import subprocess
 import sys
 import time
 from collections.abc import Callable, Iterable
@@ -13,16 +15,30 @@ sys.path.insert(0, str(TOP / "python"))
 
 SIZES = (10_000, 100_000, 1_000_000)
 REPEATS = 3
+PASSED_OVER = 77
 
 
-def words_of(documentation: str, sizes: Iterable[int] = SIZES, **more: str) -> argparse.Namespace:
+def words_of(documentation: str, sizes: Iterable[int] = SIZES, counts: str = "edits", **more: str) -> argparse.Namespace:
     """The words of the command line: `--sizes`, `--repeats`, and those that are named with their help."""
     parser = argparse.ArgumentParser(description=documentation, formatter_class=argparse.RawDescriptionHelpFormatter)
-    parser.add_argument("--sizes", type=int, nargs="+", default=list(sizes), help="numbers of edits")
+    parser.add_argument("--sizes", type=int, nargs="+", default=list(sizes), help=f"numbers of {counts}")
     parser.add_argument("--repeats", type=int, default=REPEATS, help="runs of which the best counts")
     for name, help in more.items():
         parser.add_argument(f"--{name}", help=help)
     return parser.parse_args()
+
+
+def need(*packages: str) -> None:
+    """Installs those of these Debian packages that are missing, and says so; where that cannot be, ends with the status of what was passed over."""
+    missing = [it for it in packages if subprocess.run(["dpkg", "-s", it], capture_output=True, check=False).returncode]
+    if not missing:
+        return
+    print(f"installing {' '.join(missing)}", file=sys.stderr)
+    environment = {**os.environ, "DEBIAN_FRONTEND": "noninteractive"}
+    for words in (["update"], ["install", "-y", "--no-install-recommends", *missing]):
+        if subprocess.run(["apt-get", "-qq", *words], env=environment, stdout=subprocess.DEVNULL, check=False).returncode:
+            print(f"passed over: {' '.join(missing)} cannot be installed here", file=sys.stderr)
+            raise SystemExit(PASSED_OVER)
 
 
 def seconds(work: Callable, *words) -> float:

@@ -73,9 +73,11 @@ const inOrder = taken(updates, doc);
 answer.in_order = inOrder.time;
 answer.again = seconds(() => updates.forEach((update) => Y.applyUpdate(inOrder.doc, update)));
 
-const reversed = [...updates].reverse();
-let joined;
-answer.join_reversed = seconds(() => (joined = Y.mergeUpdates(reversed)));
-answer.joined = answer.join_reversed + taken([joined], doc).time;
-if (reverse) answer.reverse = taken(reversed, doc).time;
+if (reverse) {
+  const reversed = [...updates].reverse();
+  answer.reverse = taken(reversed, doc).time;
+  let joined;
+  answer.joined = seconds(() => (joined = Y.mergeUpdates(reversed)));
+  answer.joined += taken([joined], doc).time;
+}
 console.log(JSON.stringify(answer));
