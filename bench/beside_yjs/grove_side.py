@@ -36,11 +36,19 @@ def taken(updates: list[bytes], state: str) -> tuple[Replica, float]:
     return replica, time
 
 
+def catching_up_bytes(replica: Replica, updates: list[bytes]) -> int:
+    """The bytes of the summary of who lacks the last updates, and of what is answered."""
+    behind = Replica()
+    behind.apply(joined(updates[:-CATCHING_UP]))
+    summary = behind.summary()
+    return len(summary) + len(replica.lacking(summary))
+
+
 def measure(lines: list[str], reverse: bool) -> dict:
     replica, updates = Replica(), []
     answer = {"edits": len(lines), "author": seconds(author, replica, lines, updates)}
     state = replica.canonical()
-    answer |= {"state_bytes": len(state), "update_bytes": sum(map(len, updates)), "catching_up_bytes": sum(map(len, updates[-CATCHING_UP:]))}
+    answer |= {"state_bytes": len(state), "update_bytes": sum(map(len, updates))}
     pieces = cut(state.encode(), EDITS_A_CALL)
     before = resident()
     whole, answer["whole"] = taken(pieces, state)
@@ -48,6 +56,7 @@ def measure(lines: list[str], reverse: bool) -> dict:
     whole.close()
     in_order, answer["in_order"] = taken(updates, state)
     answer["again"] = seconds(each, in_order.apply, updates)
+    answer["catching_up_bytes"] = catching_up_bytes(replica, updates)
     if reverse:
         reversed_updates = updates[::-1]
         answer["reverse"] = taken(reversed_updates, state)[1]

@@ -24,7 +24,7 @@ ROWS = {
     "joined": ("taking them in reverse, joined to one", "s"),
     "state_bytes": ("the whole state", "B"),
     "update_bytes": ("all updates", "B"),
-    "catching_up_bytes": ("catching up with the last 100 edits", "B"),
+    "catching_up_bytes": ("catching up with the last 100 edits, both ways", "B"),
     "memory_bytes": ("memory of what took the whole state", "B"),
 }
 YJS = ["node", "--expose-gc", "--max-old-space-size=8000", str(HERE / "yjs.js")]
