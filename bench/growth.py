@@ -1,105 +1,89 @@
-"""How a replica grows: growth.py [SIZE..] > growth.tsv.
+"""How a replica grows: what it takes of memory, and of time to load a text, to take edits and act one at a time, and to print.
 
-For each size and kind of program, in a process of its own and the best of three: what it takes of memory and of processor time to load the
-text, to apply edits one at a time, to act, and to print. Times are of the processor, user and system, through the package.
+A tree has live edges alone. Of a history nine tenths of the edges are deleted. Texts are loaded in calls of a thousand edits. Each size is
+measured in processes of its own, of which the best counts; times are of the processor, through the package. With --tsv a file for
+bench/growth.gp is written too.
 """
-import json
 import pathlib
 import random
-import resource
-import subprocess
-import sys
-import time
 
-sys.path.insert(0, str(pathlib.Path(__file__).parents[1] / "python"))
+import programs
+from measuring import best, head, resident, row, seconds, words_of
 
-import programs  # noqa: E402
+from grove import Replica
 
-from grove import Replica  # noqa: E402
-
-SIZES = (10_000, 100_000, 1_000_000)
-REPEATS = 3
 ONE_AT_A_TIME = 2_000
-COLUMNS = (
-    "kind edits text_bytes vertices memory_bytes bytes_an_edit bytes_a_vertex load_seconds apply_microseconds call_microseconds "
-    "act_microseconds show_seconds show_bytes canonical_seconds"
-).split()
+EDITS_A_CALL = 1_000
+VERSION = b"grove 2\n"
+HEADS = (
+    "What", "Edits", "Memory, MB", "Bytes an edit", "Bytes a live vertex", "Load, s", "Apply, µs", "Of it the call, µs", "Act, µs", "Undo, µs",
+    "Print, s", "Print, MB", "Canonical, s", "Canonical, MB",
+)  # fmt: skip
 
 
-def resident() -> int:
-    """The bytes of memory that this process has now."""
-    pages = int(pathlib.Path("/proc/self/statm").read_text().split()[1])
-    return pages * resource.getpagesize()
+def new_edits(rng: random.Random, branches: int, author: int, count: int) -> list[bytes]:
+    """Edits of the author, each of which puts a number beside what stands at a random place."""
+    places = [programs.name(rng.randrange(branches), 1) for _ in range(count)]
+    return [f"+{author}.{2 * at + 2} {place} plus left {author}.{2 * at + 1} num:1\n".encode() for at, place in enumerate(places)]
 
 
-def timed(call, *words):
-    start = time.process_time()
-    answer = call(*words)
-    return time.process_time() - start, answer
+def cut(text: bytes, edits_a_call: int) -> list[bytes]:
+    """The text in texts of so many edits each, which tell the version if it does."""
+    version = VERSION if text.startswith(VERSION) else b""
+    lines = text.removeprefix(VERSION).splitlines(keepends=True)
+    return [version + b"".join(lines[at : at + edits_a_call]) for at in range(0, len(lines), edits_a_call)]
 
 
-def apply_each(replica: Replica, lines: list[bytes]) -> None:
-    for line in lines:
-        replica.apply(line)
+def joined(texts: list[bytes]) -> bytes:
+    """One text of version two with the edits of these."""
+    return VERSION + b"".join(text.removeprefix(VERSION) for text in texts)
 
 
-def new_edits(rng: random.Random, branches: int) -> list[bytes]:
-    """Edits of another author, each of which puts a number beside what stands at a random place."""
-    places = [rng.randrange(branches) for _ in range(ONE_AT_A_TIME)]
-    return [f"+99.{2 * count + 2} {programs.name(at, 1)} plus left 99.{2 * count + 1} num:1\n".encode() for count, at in enumerate(places)]
+def each(take, words: list) -> None:
+    for word in words:
+        take(word)
 
 
-def act_each(replica: Replica, rng: random.Random, branches: int) -> None:
-    """Actions of another author, each of which wraps what stands at a random place."""
-    for _ in range(ONE_AT_A_TIME):
-        replica.act(100, f"wrap {programs.name(rng.randrange(branches - 1), 1)} right plus")
-
-
-def measure(kind: str, edits: int) -> dict:
-    text = programs.text(kind, edits)
+def one_at_a_time(replica: Replica, branches: int) -> dict[str, float]:
+    """Microseconds of an edit, of a call without one, and of an action and its undoing."""
     rng = random.Random(1)
-    branches = (edits if kind == "tree" else max(edits // 10, 3)) // 2
+    wraps = [f"wrap {programs.name(at, 1)} right plus" for at in rng.sample(range(branches - 1), min(ONE_AT_A_TIME, branches - 1))]
+    calls = {
+        "apply": (replica.apply, new_edits(rng, branches, 99, ONE_AT_A_TIME)),
+        "call": (replica.apply, [b""] * ONE_AT_A_TIME),
+        "act": (lambda line: replica.act(100, line), wraps),
+        "undo": (replica.undo, [100] * len(wraps)),
+    }
+    return {name: seconds(each, take, words) / len(words) * 1e6 for name, (take, words) in calls.items()}
+
+
+def measure(kind: str, edits: int) -> dict[str, float]:
+    """Seconds, megabytes, and microseconds of what is done one at a time."""
+    texts = cut(programs.text(kind, edits), EDITS_A_CALL)
     replica = Replica(seed=1)
     before = resident()
-    load, _ = timed(replica.apply, text)
-    memory = resident() - before
-    canonical, _ = timed(replica.canonical)
-    show, shown = timed(replica.show)
-    lines = new_edits(rng, branches)
-    apply, _ = timed(apply_each, replica, lines)
-    call, _ = timed(apply_each, replica, [b""] * ONE_AT_A_TIME)
-    act, _ = timed(act_each, replica, rng, branches)
-    per_call = 1e6 / ONE_AT_A_TIME
-    vertices = edits + 1
-    return dict(
-        zip(
-            COLUMNS,
-            (kind, edits, len(text), vertices, memory, memory / edits, memory / vertices, load, apply * per_call, call * per_call, act * per_call, show, len(shown), canonical),
-            strict=True,
-        )
-    )  # fmt: skip
+    load = seconds(each, replica.apply, texts)
+    of = {"memory": (resident() - before) / 1e6, "load": load}
+    for name, text in (("show", replica.show), ("canonical", replica.canonical)):
+        of |= {name: seconds(text), f"{name}_size": len(text()) / 1e6}
+    return of | one_at_a_time(replica, programs.live(kind, edits) // 2)
 
 
-def best(runs: list[dict]) -> dict:
-    """The least of each measure: whatever else the machine does only adds."""
-    return {column: runs[0][column] if column == "kind" else min(run[column] for run in runs) for column in COLUMNS}
-
-
-def in_own_process(kind: str, edits: int) -> dict:
-    answer = subprocess.run([sys.executable, __file__, "--one", kind, str(edits)], check=True, capture_output=True)
-    return json.loads(answer.stdout)
-
-
-def main(words: list[str]) -> None:
-    if words[:1] == ["--one"]:
-        print(json.dumps(measure(words[1], int(words[2]))))
-        return
-    print(*COLUMNS, sep="\t")
+def main() -> None:
+    words = words_of(__doc__, tsv="a file to write the plot from")
+    lines = []
+    head(*HEADS)
     for kind in programs.KINDS:
-        for edits in map(int, words or SIZES):
-            row = best([in_own_process(kind, edits) for _ in range(REPEATS)])
-            print(*(f"{cell:.6g}" if isinstance(cell, float) else cell for cell in row.values()), sep="\t", flush=True)
+        for edits in words.sizes:
+            of = best(words.repeats, measure, kind, edits)
+            a_million = of["memory"] * 1e6
+            per_call = (of[name] for name in ("apply", "call", "act", "undo"))
+            texts = (of[name] for name in ("show", "show_size", "canonical", "canonical_size"))
+            row(kind, edits, of["memory"], a_million / edits, a_million / (programs.live(kind, edits) + 1), of["load"], *per_call, *texts)
+            lines.append((kind, edits, *(of[name] for name in ("memory", "load", "show", "canonical", "apply", "call", "act", "undo"))))
+    if words.tsv:
+        pathlib.Path(words.tsv).write_text("".join("\t".join(map(str, line)) + "\n" for line in lines))
 
 
 if __name__ == "__main__":
-    main(sys.argv[1:])
+    main()

@@ -1,10 +1,8 @@
-"""How many authors one log carries: log_writers.py [SECONDS] > log_writers.tsv.
+"""How many authors one log carries.
 
 Writers, each a process, append an entry with one edit after the other and wait for each to be acknowledged. Beside them one member follows
 the log and takes every entry. Each row has the entries a second that were acknowledged to all writers, the middle of the times that an
-entry took, and the entries a second that the member took. Best of three by entries a second.
-
-Needs what .ci/over_a_log installs.
+entry took, and the entries a second that the member took. Of the runs that with the most entries counts; seconds are those of the clock.
 """
 import multiprocessing
 import pathlib
@@ -13,8 +11,10 @@ import sys
 import tempfile
 import time
 
-TOP = pathlib.Path(__file__).resolve().parents[1]
-sys.path[:0] = [str(TOP / "python"), str(TOP / "examples" / "over_a_log"), str(TOP / "examples" / "over_a_log" / "tests")]
+from measuring import TOP, head, need, row, words_of
+
+need("redis-server", "postgresql", "python3-redis", "python3-psycopg2")
+sys.path[:0] = [str(TOP / "examples" / "over_a_log"), str(TOP / "examples" / "over_a_log" / "tests")]
 
 from logs import log_at  # noqa: E402
 from servers import PostgresServer, RedisServer  # noqa: E402
@@ -22,7 +22,7 @@ from servers import PostgresServer, RedisServer  # noqa: E402
 from grove import Replica  # noqa: E402
 
 WRITERS = (1, 8, 64)
-REPEATS = 3
+SECONDS = 5
 
 
 class LooseRedisServer(RedisServer):
@@ -32,7 +32,7 @@ class LooseRedisServer(RedisServer):
         return [*super().words()[:-1], "everysec"]
 
 
-SERVERS = {"redis": RedisServer, "redis-everysec": LooseRedisServer, "postgres": PostgresServer}
+SERVERS = {"Redis, each entry synced": RedisServer, "Redis, synced once a second": LooseRedisServer, "PostgreSQL": PostgresServer}
 
 
 def entry(author: int, number: int) -> bytes:
@@ -91,14 +91,13 @@ def run(address: str, writers: int, seconds: float) -> tuple[float, float, float
     return sum(number for number, _ in counts) / seconds, middle * 1000, count / seconds
 
 
-def main(words: list[str]) -> None:
-    seconds = float(words[0]) if words else 5
-    print("log", "writers", "entries_a_second", "milliseconds_an_entry", "taken_a_second", sep="\t")
+def main() -> None:
+    words = words_of(__doc__, WRITERS, "writers", seconds=f"of each run, {SECONDS} where left out")
+    head("Log", "Writers", "Entries a second", "An entry, ms", "Taken a second")
     for kind in SERVERS:
-        for writers in WRITERS:
-            best = max(measure(kind, writers, seconds) for _ in range(REPEATS))
-            print(kind, writers, *(f"{number:.4g}" for number in best), sep="\t", flush=True)
+        for writers in words.sizes:
+            row(kind, writers, *max(measure(kind, writers, float(words.seconds or SECONDS)) for _ in range(words.repeats)))
 
 
 if __name__ == "__main__":
-    main(sys.argv[1:])
+    main()

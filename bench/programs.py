@@ -1,4 +1,4 @@
-"""Programs to measure with: edit texts of a given length, of authors that take turns."""
+"""Programs to measure with: edit texts of a given length, of eight authors that take turns."""
 from collections.abc import Iterator
 
 AUTHORS = 8
@@ -10,7 +10,7 @@ def name(number: int, kind: int) -> str:
 
 
 def tree(edits: int) -> Iterator[str]:
-    """The lines of a sum in which each `plus` has two parts down to numbers: every edge is live, and nothing is marked."""
+    """A sum in which each `plus` has two parts down to numbers: every edge is live, and nothing is marked."""
     branches = max(edits // 2, 1)
     for number in range(edits):
         source = f"{name((number - 1) // 2, 1)} plus {'left' if number % 2 else 'right'}" if number else "0.0 root main"
@@ -19,19 +19,31 @@ def tree(edits: int) -> Iterator[str]:
 
 
 def history(edits: int) -> Iterator[str]:
-    """The lines of a tree of a tenth of the edits, at whose ends numbers were put and deleted again, so that nine tenths of the edges are deleted.
+    """A tree of a tenth of the edits, at whose ends numbers were put and deleted again, so that nine tenths of the edges are deleted.
 
     Each vertex that was taken away heads a tree of its own.
     """
-    kept = max(edits // 10, 3)
+    kept = live("history", edits)
     yield from tree(kept)
     for number in range(kept, edits):
         source = (number - kept) % max(kept // 2, 1)
         yield f"-{name(number, 2)} {name(source, 1)} plus left {name(number, 1)} num:{number % 1000}\n"
 
 
+def chain(edits: int) -> Iterator[str]:
+    """One `fst` under the other, as deep as there are edits."""
+    for number in range(edits):
+        source = f"{name(number - 1, 1)} fst of" if number else "0.0 root main"
+        yield f"+{name(number, 2)} {source} {name(number, 1)} fst\n"
+
+
 KINDS = {"tree": tree, "history": history}
 
 
+def live(kind: str, edits: int) -> int:
+    """How many of the edges are live."""
+    return max(edits // 10, 3) if kind == "history" else edits
+
+
 def text(kind: str, edits: int) -> bytes:
-    return "".join(KINDS[kind](edits)).encode()
+    return "".join({**KINDS, "chain": chain}[kind](edits)).encode()

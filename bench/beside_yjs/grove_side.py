@@ -1,28 +1,20 @@
 """The same edges through Grove: grove_side.py EDITS [reverse]. Answers a JSON object with the keys of yjs.js; times are of the processor, in seconds.
 
-Marks are kept throughout. Authoring is by actions, of which each is planned and answered with its edit.
+Marks are kept throughout. Authoring is by actions, of which each is planned and answered with its edit. A whole state is loaded by texts of a
+thousand edits.
 """
 import json
 import pathlib
-import resource
 import sys
-import time
 
-sys.path[:0] = [str(pathlib.Path(__file__).resolve().parents[2] / "python")]
+sys.path.append(str(pathlib.Path(__file__).resolve().parents[1]))
+
+from growth import EDITS_A_CALL, cut, each, joined  # noqa: E402
+from measuring import resident, seconds  # noqa: E402
 
 from grove import Replica  # noqa: E402
 
 CATCHING_UP = 100
-
-
-def seconds(work, *words) -> float:
-    start = time.process_time()
-    work(*words)
-    return time.process_time() - start
-
-
-def resident() -> int:
-    return int(pathlib.Path("/proc/self/statm").read_text().split()[1]) * resource.getpagesize()
 
 
 def action(line: str) -> str:
@@ -36,28 +28,39 @@ def author(replica: Replica, lines: list[str], updates: list[bytes]) -> None:
         updates.append(replica.act(1, action(line)).edits.encode())
 
 
-def take(replica: Replica, updates: list[bytes]) -> None:
-    for update in updates:
-        replica.apply(update)
+def taken(updates: list[bytes], state: str) -> tuple[Replica, float]:
+    """The seconds that a new replica takes for the updates, which have to make it the same as the state."""
+    replica = Replica()
+    time = seconds(each, replica.apply, updates)
+    assert replica.canonical() == state
+    return replica, time
+
+
+def catching_up_bytes(replica: Replica, updates: list[bytes]) -> int:
+    """The bytes of the summary of who lacks the last updates, and of what is answered."""
+    behind = Replica()
+    behind.apply(joined(updates[:-CATCHING_UP]))
+    summary = behind.summary()
+    return len(summary) + len(replica.lacking(summary))
 
 
 def measure(lines: list[str], reverse: bool) -> dict:
     replica, updates = Replica(), []
     answer = {"edits": len(lines), "author": seconds(author, replica, lines, updates)}
     state = replica.canonical()
-    answer |= {"state_bytes": len(state), "update_bytes": sum(map(len, updates)), "catching_up_bytes": sum(map(len, updates[-CATCHING_UP:]))}
+    answer |= {"state_bytes": len(state), "update_bytes": sum(map(len, updates))}
+    pieces = cut(state.encode(), EDITS_A_CALL)
     before = resident()
-    whole = Replica()
-    answer["whole"] = seconds(whole.apply, state)
+    whole, answer["whole"] = taken(pieces, state)
     answer["memory_bytes"] = resident() - before
-    in_order = Replica()
-    answer["in_order"] = seconds(take, in_order, updates)
-    answer["again"] = seconds(take, in_order, updates)
-    assert whole.canonical() == in_order.canonical() == state
+    whole.close()
+    in_order, answer["in_order"] = taken(updates, state)
+    answer["again"] = seconds(each, in_order.apply, updates)
+    answer["catching_up_bytes"] = catching_up_bytes(replica, updates)
     if reverse:
-        reversed_order = Replica()
-        answer["reverse"] = seconds(take, reversed_order, updates[::-1])
-        assert reversed_order.canonical() == state
+        reversed_updates = updates[::-1]
+        answer["reverse"] = taken(reversed_updates, state)[1]
+        answer["joined"] = taken([joined(reversed_updates)], state)[1]
     return answer
 
 

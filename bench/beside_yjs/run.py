@@ -1,7 +1,7 @@
-"""Grove beside Yjs on the same edges: run.py [SIZE..] writes a table. Needs node and Debian's node-yjs.
+"""Grove beside Yjs on the same edges, by node and Debian's node-yjs.
 
-One author builds a tree, and deletes some of its edges on the way. Each side runs in a process of its own, and of
-three runs the least of each measure counts. Updates are taken in reverse at the smallest size alone.
+One author builds a tree, and deletes some of its edges on the way. Each side runs in a process of its own, and the least of each measure
+counts. In reverse Yjs takes the square of the time, and so it does that at the smallest size alone, once.
 """
 import json
 import os
@@ -11,19 +11,24 @@ import sys
 import tempfile
 
 HERE = pathlib.Path(__file__).resolve().parent
-SIZES = (4_000, 100_000)
-REPEATS = 3
+sys.path.append(str(HERE.parent))
+
+from measuring import cell, head, least, need, row, words_of  # noqa: E402
+
 ROWS = {
     "author": ("authoring one at a time", "s"),
     "whole": ("taking the whole state", "s"),
     "in_order": ("taking updates in order", "s"),
-    "reverse": ("taking updates in reverse", "s"),
     "again": ("taking them a second time", "s"),
+    "reverse": ("taking updates in reverse", "s"),
+    "joined": ("taking them in reverse, joined to one", "s"),
     "state_bytes": ("the whole state", "B"),
     "update_bytes": ("all updates", "B"),
-    "catching_up_bytes": ("catching up with the last 100 edits", "B"),
+    "catching_up_bytes": ("catching up with the last 100 edits, both ways", "B"),
     "memory_bytes": ("memory of what took the whole state", "B"),
 }
+YJS = ["node", "--expose-gc", "--max-old-space-size=8000", str(HERE / "yjs.js")]
+GROVE = [sys.executable, str(HERE / "grove_side.py")]
 
 
 def insertion(number: int, branches: int) -> str:
@@ -49,30 +54,34 @@ def run(words: list[str]) -> dict:
     return json.loads(subprocess.run(words, check=True, capture_output=True, env=environment).stdout)
 
 
-def best(words: list[str]) -> dict:
-    runs = [run(words) for _ in range(REPEATS)]
-    return {key: min(it[key] for it in runs) for key in runs[0]}
+def measure(words: list[str], repeats: int, reverse: bool) -> dict:
+    once = [run([*words, "reverse"])] if reverse else []
+    return {**(once[0] if once else {}), **least([run(words) for _ in range(repeats)])}
 
 
-def cell(number, unit: str) -> str:
+def shown(number: float | None, unit: str) -> str:
     if number is None:
-        return ""
-    return f"{number:.3g} s" if unit == "s" else f"{number / 1000:,.1f} kB" if number < 1e6 else f"{number / 1e6:,.1f} MB"
+        return "not run"
+    return f"{cell(float(number))} s" if unit == "s" else f"{number / 1e6:,.3f} MB"
 
 
-def main(sizes: list[int]) -> None:
-    print("| Edits | What | Grove | Yjs |\n|---|---|---|---|")
-    for size in sizes:
-        with tempfile.NamedTemporaryFile("w", suffix=".edits") as file:
-            file.write("\n".join(edits(size)) + "\n")
-            file.flush()
-            more = [file.name, *["reverse"] * (size == min(sizes))]
-            yjs = best(["node", "--expose-gc", "--max-old-space-size=8000", str(HERE / "yjs.js"), *more])
-            grove = best([sys.executable, str(HERE / "grove_side.py"), *more])
-        for key, (what, unit) in ROWS.items():
-            if key in yjs:
-                print(f"| {size:,} | {what} | {cell(grove[key], unit)} | {cell(yjs[key], unit)} |", flush=True)
+def compare(size: int, repeats: int, reverse: bool) -> None:
+    with tempfile.NamedTemporaryFile("w", suffix=".edits") as file:
+        file.write("\n".join(edits(size)) + "\n")
+        file.flush()
+        grove, yjs = measure([*GROVE, file.name], repeats, True), measure([*YJS, file.name], repeats, reverse)
+    for key, (what, unit) in ROWS.items():
+        other = yjs.get(key)
+        row(size, what, shown(grove[key], unit), shown(other, unit), f"{other / grove[key]:.2g}" if other else "")
+
+
+def main() -> None:
+    words = words_of(__doc__)
+    need("nodejs", "node-yjs")
+    head("Edits", "What", "Grove", "Yjs", "Yjs by Grove")
+    for size in words.sizes:
+        compare(size, words.repeats, size == min(words.sizes))
 
 
 if __name__ == "__main__":
-    main([int(word) for word in sys.argv[1:]] or list(SIZES))
+    main()

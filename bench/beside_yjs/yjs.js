@@ -43,13 +43,15 @@ function authored() {
   return { doc, updates, early, time };
 }
 
-function taken(doc, updates) {
-  return seconds(() => updates.forEach((update) => Y.applyUpdate(doc, update)));
-}
+const text = (doc) => JSON.stringify([...doc.getMap("edges").entries()].sort());
 
-function sameAs(doc, other) {
-  const text = (it) => JSON.stringify([...it.getMap("edges").entries()].sort());
+// The seconds that a new document takes for the updates, which have to make it the same as another.
+function taken(updates, other) {
+  const doc = new Y.Doc();
+  doc.getMap("edges");
+  const time = seconds(() => updates.forEach((update) => Y.applyUpdate(doc, update)));
   if (text(doc) !== text(other)) throw new Error("two documents differ");
+  return { doc, time };
 }
 
 const { doc, updates, early, time } = authored();
@@ -63,20 +65,19 @@ const answer = {
 };
 
 const before = memory();
-const whole = new Y.Doc();
-whole.getMap("edges");
-answer.whole = seconds(() => Y.applyUpdate(whole, state));
+const whole = taken([state], doc);
 answer.memory_bytes = memory() - before;
-sameAs(whole, doc);
+answer.whole = whole.time;
 
-const inOrder = new Y.Doc();
-answer.in_order = taken(inOrder, updates);
-answer.again = taken(inOrder, updates);
-sameAs(inOrder, doc);
+const inOrder = taken(updates, doc);
+answer.in_order = inOrder.time;
+answer.again = seconds(() => updates.forEach((update) => Y.applyUpdate(inOrder.doc, update)));
 
 if (reverse) {
-  const reversed = new Y.Doc();
-  answer.reverse = taken(reversed, [...updates].reverse());
-  sameAs(reversed, doc);
+  const reversed = [...updates].reverse();
+  answer.reverse = taken(reversed, doc).time;
+  let joined;
+  answer.joined = seconds(() => (joined = Y.mergeUpdates(reversed)));
+  answer.joined += taken([joined], doc).time;
 }
 console.log(JSON.stringify(answer));
