@@ -1,5 +1,5 @@
 -- The faults of edges among those of lines.
-use Rattle.std.specs.Prelude.{◌≡◌, ◌⊎◌}
+use Rattle.std.specs.Prelude.{◌≡◌}
 use Rattle.grove_edits.specs.declared.edge.EdgeFault.{EdgeFault}
 use Rattle.grove_edits.specs.declared.edge.EdgeFault.TheVariants as edges
 use Rattle.edit_text.specs.declared.line_fault.LineFault.{LineFault}
@@ -11,5 +11,6 @@ line_fault_of edges.NoPosition = NoPosition
 line_fault_of edges.WrongSort = WrongSort
 
 -- a line has the fault Syntax where it has no form, and else the fault that its edge has
-abbrev pub IsFaultBy : Type 0 → (EdgeFault → Type 0) → LineFault → Type 0
-IsFaultBy HasNoForm EdgeHas fault = (HasNoForm × (fault ≡ Syntax)) ⊎ ((of_edge : EdgeFault) × EdgeHas of_edge × (fault ≡ line_fault_of of_edge))
+pub data IsFaultBy (HasNoForm : Type 0) (EdgeHas : EdgeFault → Type 0) (fault : LineFault) : Type 0 where
+  without_form : HasNoForm → fault ≡ Syntax → IsFaultBy HasNoForm EdgeHas fault
+  with_edge : (of_edge : EdgeFault) → EdgeHas of_edge → fault ≡ line_fault_of of_edge → IsFaultBy HasNoForm EdgeHas fault

@@ -1,5 +1,5 @@
 -- Lines that were not read, and why they are no statements.
-use Rattle.std.proofs.Common.{◌≡◌, ◌≢◌, ℕ, List, ◌∷◌, ◌++◌, codes, decimal, nat_eq, sym, ap, ◌∙◌, inl, inr, lit<}
+use Rattle.std.proofs.Common.{◌≡◌, ◌≢◌, ℕ, List, ◌∷◌, ◌++◌, codes, decimal, nat_eq, sym, ap, ◌∙◌, lit<}
 use Rattle.std.proofs.lemmas.Bool.{false≢true}
 use Rattle.grove_sorts.specs.declared.ident.Ident.{Ident}
 use Rattle.grove_sorts.specs.Ident.{ident_bytes}
@@ -10,6 +10,7 @@ use Rattle.grove_sorts.specs.declared.version.Version.{Version}
 use Rattle.grove_edits.specs.Edge.{EdgeInRange, IsEdgeOf}
 use Rattle.grove_edits.specs.Edit.{edit_edge, edit_kind}
 use Rattle.edit_text.specs.declared.line_fault.LineFault.{LineFault}
+use Rattle.edit_text.specs.FaultOfEdge.{without_form, with_edge}
 use Rattle.edit_text.specs.Line.{spaced, form, HasFault}
 use Rattle.session_script.specs.declared.statement.SendText.{SendText}
 use Rattle.session_script.specs.declared.statement.Statement.{Statement}
@@ -24,14 +25,13 @@ use Rattle.session_script.proofs.Statements.{text_key, number_or_word, author_fi
 -- the fault of the edit is that of the load
 pub load_fault : (version : Version) (text rest : List ℕ) (replica : Ident) (fault : LineFault) → IsReplicaOf version replica → text ≡ ident_bytes replica ++ 32 ∷ rest → HasFault version rest fault
     → HasLoadFault version text fault
-load_fault version text rest replica fault of is (inl h) = inl (
-  (λ r kind edge in_range of_r of_edge same.
-      (let parts = same_ident replica r rest (form kind edge) (sym is ∙ same) in h.0 kind edge in_range of_edge parts.1)),
-  h.1,
-)
-load_fault version text rest replica fault of is (inr h) =
-    let bad = h.1 in
-    inr (h.0, (replica, bad.0, bad.1, bad.2, of, bad.3, is ∙ ap (λ (x : List ℕ). ident_bytes replica ++ 32 ∷ x) bad.4, bad.5), h.2)
+load_fault version text rest replica fault of is (without_form none syntax) =
+    without_form
+    (λ r kind edge in_range of_r of_edge same.
+      let parts = same_ident replica r rest (form kind edge) (sym is ∙ same) in none kind edge in_range of_edge parts.1)
+    syntax
+load_fault version text rest replica fault of is (with_edge of_edge bad has) =
+    with_edge of_edge (replica, bad.0, bad.1, bad.2, of, bad.3, is ∙ ap (λ (x : List ℕ). ident_bytes replica ++ 32 ∷ x) bad.4, bad.5) has
 
 -- what is no load is no other statement either
 no_statement : (version : Version) (line rest : List ℕ) → line ≡ codes "load " ++ rest
@@ -56,15 +56,15 @@ loads_bad version line rest fault is h = record {
 
 -- the fault behind the word is the fault of the line
 pub form_fault : (version : Version) (line rest : List ℕ) (fault : LineFault) → line ≡ codes "load " ++ rest → HasLoadFault version rest fault → HasFormFault version line fault
-form_fault version line rest fault is (inl h) = inl (
-  record {
-    no_statement = no_statement version line rest is h.0;
-    no_load = λ r kind edge in_range of_r of_edge same.
-        (let whole : codes "load " ++ rest ≡ load_line (ident_bytes r) kind edge = sym is ∙ same in h.0 r kind edge in_range of_r of_edge cc);
-  },
-  h.1,
-)
-form_fault version line rest fault is (inr h) = inr (h.0, loads_bad version line rest h.0 is h.1, h.2)
+form_fault version line rest fault is (without_form none syntax) =
+    without_form
+    (record {
+      no_statement = no_statement version line rest is none;
+      no_load = λ r kind edge in_range of_r of_edge same.
+          (let whole : codes "load " ++ rest ≡ load_line (ident_bytes r) kind edge = sym is ∙ same in none r kind edge in_range of_r of_edge cc);
+    })
+    syntax
+form_fault version line rest fault is (with_edge of_edge bad has) = with_edge of_edge (loads_bad version line rest of_edge is bad) has
 
 -- ---- other statements of several words
 

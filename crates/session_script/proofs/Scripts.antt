@@ -7,7 +7,7 @@ use Rattle.text_parts.proofs.Parts.{Lacks-separated, first_part}
 use Rattle.grove_sorts.specs.declared.version.Version.{Version}
 use Rattle.edit_text.specs.declared.line_fault.LineFault.{LineFault}
 use Rattle.edit_text.specs.declared.line_fault.LineFault.TheVariants.{Syntax}
-use Rattle.edit_text.specs.FaultOfEdge.{line_fault_of}
+use Rattle.edit_text.specs.FaultOfEdge.{line_fault_of, without_form, with_edge}
 use Rattle.session_script.specs.declared.script_kind.ScriptKind.{ScriptKind}
 use Rattle.session_script.specs.declared.script_kind.ScriptKind.TheVariants.{Rest, Unended}
 use Rattle.session_script.specs.declared.statement.Statement.{Statement}
@@ -20,14 +20,14 @@ use Rattle.session_script.proofs.Statements.{Lacks-statement, statement_injectiv
 
 -- a line that has no form says nothing
 form_or_says : (version : Version) (line : List ℕ) (fault : LineFault) (s : Statement) → HasFormFault version line fault → Says version line s → ⊥
-form_or_says version line fault s (inl h) says = not_nothing version line s says h.0
-form_or_says version line fault s (inr h) says = no_bad_edge version line s h.0 says h.1
+form_or_says version line fault s (without_form nothing is) says = not_nothing version line s says nothing
+form_or_says version line fault s (with_edge of_edge bad is) says = no_bad_edge version line s of_edge says bad
 
 one_form_fault : (version : Version) (line : List ℕ) (f g : LineFault) → HasFormFault version line f → HasFormFault version line g → f ≡ g
-one_form_fault version line f g (inl a) (inl b) = a.1 ∙ sym b.1
-one_form_fault version line f g (inl a) (inr b) = absurd (bad_edge_or_nothing version line b.0 b.1 a.0)
-one_form_fault version line f g (inr a) (inl b) = absurd (bad_edge_or_nothing version line a.0 a.1 b.0)
-one_form_fault version line f g (inr a) (inr b) = a.2 ∙ ap line_fault_of (one_bad_edge version line a.0 b.0 a.1 b.1) ∙ sym b.2
+one_form_fault version line f g (without_form none is) (without_form also are) = is ∙ sym are
+one_form_fault version line f g (without_form none is) (with_edge b bad are) = absurd (bad_edge_or_nothing version line b bad none)
+one_form_fault version line f g (with_edge a bad is) (without_form none are) = absurd (bad_edge_or_nothing version line a bad none)
+one_form_fault version line f g (with_edge a of_a is) (with_edge b of_b are) = is ∙ ap line_fault_of (one_bad_edge version line a b of_a of_b) ∙ sym are
 
 kinds_injective : (k l : ScriptKind) → Some k ≡ Some l → k ≡ l
 kinds_injective k l e = cc
