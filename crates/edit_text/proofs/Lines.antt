@@ -26,7 +26,7 @@ use Rattle.grove_edits.specs.Edit.{edit_edge, edit_kind}
 use Rattle.grove_edits.proofs.Orders.{vertex_from_fields, edge_from_fields}
 use Rattle.grove_edits.proofs.Unique.{edit_from_fields}
 use Rattle.edit_text.specs.declared.line_fault.LineFault.{LineFault}
-use Rattle.edit_text.specs.FaultOfEdge.{line_fault_of, without_form, with_edge}
+use Rattle.edit_text.specs.FaultOfEdge.{line_fault_of, IsFaultBy, without_form, with_edge}
 use Rattle.edit_text.specs.Line.{spaced, edge_parts, sign, form, Spells, HasEdgeFault, HasNoForm, HasFault}
 use Rattle.edit_text.specs.Text.{line_of}
 
@@ -160,8 +160,10 @@ edit_or_edge_fault version line edit fault spells has =
 
 -- an edit's line has no fault
 pub edit_or_fault : (version : Version) (line : List ℕ) (edit : Edit) (fault : LineFault) → Spells version line edit → HasFault version line fault → ⊥
-edit_or_fault version line edit fault spells (without_form none is) = none edit.kind (edit_edge edit) edit.in_range spells.1 spells.0
-edit_or_fault version line edit fault spells (with_edge of_edge has is) = edit_or_edge_fault version line edit of_edge spells has
+edit_or_fault version line edit fault spells h = by_told h.told where
+  by_told : IsFaultBy (HasNoForm version line) (HasEdgeFault version line) fault → ⊥
+  by_told (without_form none is) = none edit.kind (edit_edge edit) edit.in_range spells.1 spells.0
+  by_told (with_edge of_edge has is) = edit_or_edge_fault version line edit of_edge spells has
 
 some_injective : (f g : EdgeFault) → Some f ≡ Some g → f ≡ g
 some_injective f g e = cc
@@ -177,15 +179,17 @@ no_form_or_edge version line fault none has = none has.0 has.1 has.2 has.3 has.4
 
 -- a line has one first fault
 pub one_fault : (version : Version) (line : List ℕ) (a b : LineFault) → HasFault version line a → HasFault version line b → a ≡ b
-one_fault version line a b (without_form none is) (without_form also are) = is ∙ sym are
-one_fault version line a b (without_form none is) (with_edge g has are) = absurd (no_form_or_edge version line g none has)
-one_fault version line a b (with_edge f has is) (without_form none are) = absurd (no_form_or_edge version line f none has)
-one_fault version line a b (with_edge f of_a is) (with_edge g of_b are) = is ∙ ap line_fault_of (one_edge_fault version line f g of_a of_b) ∙ sym are
+one_fault version line a b of_a of_b = by_told of_a.told of_b.told where
+  by_told : IsFaultBy (HasNoForm version line) (HasEdgeFault version line) a → IsFaultBy (HasNoForm version line) (HasEdgeFault version line) b → a ≡ b
+  by_told (without_form none is) (without_form also are) = is ∙ sym are
+  by_told (without_form none is) (with_edge g has are) = absurd (no_form_or_edge version line g none has)
+  by_told (with_edge f has is) (without_form none are) = absurd (no_form_or_edge version line f none has)
+  by_told (with_edge f has is) (with_edge g also are) = is ∙ ap line_fault_of (one_edge_fault version line f g has also) ∙ sym are
 
 -- a line of an edge with a fault has that fault
 pub has_edge_fault : (version : Version) (line : List ℕ) (kind : EditKind) (edge : Edge) (fault : EdgeFault) → EdgeInRange edge → IsEdgeOf version edge
     → line ≡ form kind edge → edge_fault edge ≡ Some fault → HasFault version line (line_fault_of fault)
-has_edge_fault version line kind edge fault in_range of_version is has = with_edge fault (kind, edge, in_range, of_version, is, has) refl
+has_edge_fault version line kind edge fault in_range of_version is has = record { told = with_edge fault (kind, edge, in_range, of_version, is, has) refl }
 
 -- ---- a line and what stands behind it
 

@@ -54,5 +54,5 @@ abbrev pub HasNoForm : Version → List ℕ → Type 0
 HasNoForm version line = (kind : EditKind) (edge : Edge) → EdgeInRange edge → IsEdgeOf version edge → line ≢ form kind edge
 
 -- the first fault of the line
-abbrev pub HasFault : Version → List ℕ → LineFault → Type 0
-HasFault version line fault = IsFaultBy (HasNoForm version line) (HasEdgeFault version line) fault
+pub record HasFault (version : Version) (line : List ℕ) (fault : LineFault) : Type 0 where
+  pub told : IsFaultBy (HasNoForm version line) (HasEdgeFault version line) fault

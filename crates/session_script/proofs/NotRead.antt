@@ -3,15 +3,12 @@ use Rattle.std.proofs.Common.{◌≡◌, ◌≢◌, ℕ, List, ◌∷◌, ◌++�
 use Rattle.std.proofs.lemmas.Bool.{false≢true}
 use Rattle.grove_sorts.specs.declared.ident.Ident.{Ident}
 use Rattle.grove_sorts.specs.Ident.{ident_bytes}
-use Rattle.grove_edits.specs.declared.edge.Edge.{Edge}
 use Rattle.grove_edits.specs.declared.edge.EdgeFault.{EdgeFault}
-use Rattle.grove_edits.specs.declared.edit.EditKind.{EditKind}
 use Rattle.grove_sorts.specs.declared.version.Version.{Version}
-use Rattle.grove_edits.specs.Edge.{EdgeInRange, IsEdgeOf}
 use Rattle.grove_edits.specs.Edit.{edit_edge, edit_kind}
 use Rattle.edit_text.specs.declared.line_fault.LineFault.{LineFault}
-use Rattle.edit_text.specs.FaultOfEdge.{without_form, with_edge}
-use Rattle.edit_text.specs.Line.{spaced, form, HasFault}
+use Rattle.edit_text.specs.FaultOfEdge.{IsFaultBy, without_form, with_edge}
+use Rattle.edit_text.specs.Line.{spaced, form, HasEdgeFault, HasNoForm, HasFault}
 use Rattle.session_script.specs.declared.statement.SendText.{SendText}
 use Rattle.session_script.specs.declared.statement.Statement.{Statement}
 use Rattle.session_script.specs.declared.statement.Statement.TheVariants.{Replica, Author, Load, Act, Send}
@@ -25,13 +22,15 @@ use Rattle.session_script.proofs.Statements.{text_key, number_or_word, author_fi
 -- the fault of the edit is that of the load
 pub load_fault : (version : Version) (text rest : List ℕ) (replica : Ident) (fault : LineFault) → IsReplicaOf version replica → text ≡ ident_bytes replica ++ 32 ∷ rest → HasFault version rest fault
     → HasLoadFault version text fault
-load_fault version text rest replica fault of is (without_form none syntax) =
-    without_form
-    (λ r kind edge in_range of_r of_edge same.
-      let parts = same_ident replica r rest (form kind edge) (sym is ∙ same) in none kind edge in_range of_edge parts.1)
-    syntax
-load_fault version text rest replica fault of is (with_edge of_edge bad has) =
-    with_edge of_edge (replica, bad.0, bad.1, bad.2, of, bad.3, is ∙ ap (λ (x : List ℕ). ident_bytes replica ++ 32 ∷ x) bad.4, bad.5) has
+load_fault version text rest replica fault of is h = by_told h.told where
+  by_told : IsFaultBy (HasNoForm version rest) (HasEdgeFault version rest) fault → HasLoadFault version text fault
+  by_told (without_form none syntax) =
+      without_form
+      (λ r kind edge in_range of_r of_edge same.
+        let parts = same_ident replica r rest (form kind edge) (sym is ∙ same) in none kind edge in_range of_edge parts.1)
+      syntax
+  by_told (with_edge of_edge bad has) =
+      with_edge of_edge (replica, bad.0, bad.1, bad.2, of, bad.3, is ∙ ap (λ (x : List ℕ). ident_bytes replica ++ 32 ∷ x) bad.4, bad.5) has
 
 -- what is no load is no other statement either
 no_statement : (version : Version) (line rest : List ℕ) → line ≡ codes "load " ++ rest
