@@ -1,4 +1,5 @@
--- The faults of edges among those of lines.
+-- The faults of edges among those of lines, and what a fault of a line says.
+-- The promise of the commands rests on these definitions.
 use Rattle.std.specs.Prelude.{◌≡◌}
 use Rattle.grove_edits.specs.declared.edge.EdgeFault.{EdgeFault}
 use Rattle.grove_edits.specs.declared.edge.EdgeFault.TheVariants as edges
