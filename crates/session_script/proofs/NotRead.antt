@@ -27,7 +27,7 @@ load_fault version text rest replica fault of is h = by_told h.told where
   by_told (without_form none syntax) =
       without_form
       (λ r kind edge in_range of_r of_edge same.
-        let parts = same_ident replica r rest (form kind edge) (sym is ∙ same) in none kind edge in_range of_edge parts.1)
+      let parts = same_ident replica r rest (form kind edge) (sym is ∙ same) in none kind edge in_range of_edge parts.1)
       syntax
   by_told (with_edge of_edge bad has) =
       with_edge of_edge (replica, bad.0, bad.1, bad.2, of, bad.3, is ∙ ap (λ (x : List ℕ). ident_bytes replica ++ 32 ∷ x) bad.4, bad.5) has
