@@ -17,7 +17,6 @@ use Rattle.grove_sorts.specs.declared.version.Version.TheVariants.{One, Two}
 use Rattle.grove_edits.specs.declared.vertex.Vertex.{Vertex}
 use Rattle.grove_edits.specs.declared.edge.Edge.{Edge}
 use Rattle.grove_edits.specs.declared.edge.EdgeFault.{EdgeFault}
-use Rattle.grove_edits.specs.declared.edge.EdgeFault.TheVariants as edges
 use Rattle.grove_edits.specs.declared.edit.Edit.{Edit}
 use Rattle.grove_edits.specs.declared.edit.EditKind.{EditKind}
 use Rattle.grove_edits.specs.declared.edit.EditKind.TheVariants.{Insert, Delete}
@@ -27,9 +26,8 @@ use Rattle.grove_edits.specs.Edit.{edit_edge, edit_kind}
 use Rattle.grove_edits.proofs.Orders.{vertex_from_fields, edge_from_fields}
 use Rattle.grove_edits.proofs.Unique.{edit_from_fields}
 use Rattle.edit_text.specs.declared.line_fault.LineFault.{LineFault}
-use Rattle.edit_text.specs.declared.line_fault.LineFault.TheVariants.{Syntax, BadVertex, NoPosition, WrongSort}
-use Rattle.edit_text.specs.FaultOfEdge.{line_fault_of}
-use Rattle.edit_text.specs.Line.{spaced, edge_parts, sign, form, Spells, HasEdgeFault, HasFault}
+use Rattle.edit_text.specs.FaultOfEdge.{line_fault_of, IsFaultBy, without_form, with_edge}
+use Rattle.edit_text.specs.Line.{spaced, edge_parts, sign, form, Spells, HasEdgeFault, HasNoForm, HasFault}
 use Rattle.edit_text.specs.Text.{line_of}
 
 -- ---- ranges
@@ -162,10 +160,10 @@ edit_or_edge_fault version line edit fault spells has =
 
 -- an edit's line has no fault
 pub edit_or_fault : (version : Version) (line : List ℕ) (edit : Edit) (fault : LineFault) → Spells version line edit → HasFault version line fault → ⊥
-edit_or_fault version line edit Syntax spells has = has edit.kind (edit_edge edit) edit.in_range spells.1 spells.0
-edit_or_fault version line edit BadVertex spells has = edit_or_edge_fault version line edit edges.BadVertex spells has
-edit_or_fault version line edit NoPosition spells has = edit_or_edge_fault version line edit edges.NoPosition spells has
-edit_or_fault version line edit WrongSort spells has = edit_or_edge_fault version line edit edges.WrongSort spells has
+edit_or_fault version line edit fault spells h = by_told h.told where
+  by_told : IsFaultBy (HasNoForm version line) (HasEdgeFault version line) fault → ⊥
+  by_told (without_form none is) = none edit.kind (edit_edge edit) edit.in_range spells.1 spells.0
+  by_told (with_edge of_edge has is) = edit_or_edge_fault version line edit of_edge spells has
 
 some_injective : (f g : EdgeFault) → Some f ≡ Some g → f ≡ g
 some_injective f g e = cc
@@ -176,34 +174,22 @@ one_edge_fault version line f g of_f of_g =
     some_injective f g (sym of_f.5 ∙ ap edge_fault same.1 ∙ of_g.5)
 
 -- a line that has no edge's form has no edge's fault
-syntax_or_edge : (version : Version) (line : List ℕ) (fault : EdgeFault) → HasFault version line Syntax → HasEdgeFault version line fault → ⊥
-syntax_or_edge version line fault none has = none has.0 has.1 has.2 has.3 has.4
+no_form_or_edge : (version : Version) (line : List ℕ) (fault : EdgeFault) → HasNoForm version line → HasEdgeFault version line fault → ⊥
+no_form_or_edge version line fault none has = none has.0 has.1 has.2 has.3 has.4
 
 -- a line has one first fault
 pub one_fault : (version : Version) (line : List ℕ) (a b : LineFault) → HasFault version line a → HasFault version line b → a ≡ b
-one_fault version line Syntax Syntax of_a of_b = refl
-one_fault version line Syntax BadVertex of_a of_b = absurd (syntax_or_edge version line edges.BadVertex of_a of_b)
-one_fault version line Syntax NoPosition of_a of_b = absurd (syntax_or_edge version line edges.NoPosition of_a of_b)
-one_fault version line Syntax WrongSort of_a of_b = absurd (syntax_or_edge version line edges.WrongSort of_a of_b)
-one_fault version line BadVertex Syntax of_a of_b = absurd (syntax_or_edge version line edges.BadVertex of_b of_a)
-one_fault version line NoPosition Syntax of_a of_b = absurd (syntax_or_edge version line edges.NoPosition of_b of_a)
-one_fault version line WrongSort Syntax of_a of_b = absurd (syntax_or_edge version line edges.WrongSort of_b of_a)
-one_fault version line BadVertex BadVertex of_a of_b = refl
-one_fault version line BadVertex NoPosition of_a of_b = ap line_fault_of (one_edge_fault version line edges.BadVertex edges.NoPosition of_a of_b)
-one_fault version line BadVertex WrongSort of_a of_b = ap line_fault_of (one_edge_fault version line edges.BadVertex edges.WrongSort of_a of_b)
-one_fault version line NoPosition BadVertex of_a of_b = ap line_fault_of (one_edge_fault version line edges.NoPosition edges.BadVertex of_a of_b)
-one_fault version line NoPosition NoPosition of_a of_b = refl
-one_fault version line NoPosition WrongSort of_a of_b = ap line_fault_of (one_edge_fault version line edges.NoPosition edges.WrongSort of_a of_b)
-one_fault version line WrongSort BadVertex of_a of_b = ap line_fault_of (one_edge_fault version line edges.WrongSort edges.BadVertex of_a of_b)
-one_fault version line WrongSort NoPosition of_a of_b = ap line_fault_of (one_edge_fault version line edges.WrongSort edges.NoPosition of_a of_b)
-one_fault version line WrongSort WrongSort of_a of_b = refl
+one_fault version line a b of_a of_b = by_told of_a.told of_b.told where
+  by_told : IsFaultBy (HasNoForm version line) (HasEdgeFault version line) a → IsFaultBy (HasNoForm version line) (HasEdgeFault version line) b → a ≡ b
+  by_told (without_form none is) (without_form also are) = is ∙ sym are
+  by_told (without_form none is) (with_edge g has are) = absurd (no_form_or_edge version line g none has)
+  by_told (with_edge f has is) (without_form none are) = absurd (no_form_or_edge version line f none has)
+  by_told (with_edge f has is) (with_edge g also are) = is ∙ ap line_fault_of (one_edge_fault version line f g has also) ∙ sym are
 
 -- a line of an edge with a fault has that fault
 pub has_edge_fault : (version : Version) (line : List ℕ) (kind : EditKind) (edge : Edge) (fault : EdgeFault) → EdgeInRange edge → IsEdgeOf version edge
     → line ≡ form kind edge → edge_fault edge ≡ Some fault → HasFault version line (line_fault_of fault)
-has_edge_fault version line kind edge edges.BadVertex in_range of_version is has = (kind, edge, in_range, of_version, is, has)
-has_edge_fault version line kind edge edges.NoPosition in_range of_version is has = (kind, edge, in_range, of_version, is, has)
-has_edge_fault version line kind edge edges.WrongSort in_range of_version is has = (kind, edge, in_range, of_version, is, has)
+has_edge_fault version line kind edge fault in_range of_version is has = record { told = with_edge fault (kind, edge, in_range, of_version, is, has) refl }
 
 -- ---- a line and what stands behind it
 

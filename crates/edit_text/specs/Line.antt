@@ -7,14 +7,13 @@ use Rattle.grove_sorts.specs.Position.{position_text}
 use Rattle.grove_sorts.specs.declared.version.Version.{Version}
 use Rattle.grove_edits.specs.declared.edge.Edge.{Edge}
 use Rattle.grove_edits.specs.declared.edge.EdgeFault.{EdgeFault}
-use Rattle.grove_edits.specs.declared.edge.EdgeFault.TheVariants as edges
 use Rattle.grove_edits.specs.declared.edit.Edit.{Edit}
 use Rattle.grove_edits.specs.declared.edit.EditKind.{EditKind}
 use Rattle.grove_edits.specs.declared.edit.EditKind.TheVariants.{Insert, Delete}
 use Rattle.grove_edits.specs.Edge.{EdgeInRange, IsEdgeOf, edge_fault}
 use Rattle.grove_edits.specs.Edit.{edit_edge, edit_kind}
 use Rattle.edit_text.specs.declared.line_fault.LineFault.{LineFault}
-use Rattle.edit_text.specs.declared.line_fault.LineFault.TheVariants.{Syntax, BadVertex, NoPosition, WrongSort}
+use Rattle.edit_text.specs.FaultOfEdge.{IsFaultBy}
 
 -- parts with a space between each two
 abbrev pub spaced : List (List ℕ) → List ℕ
@@ -50,9 +49,10 @@ abbrev pub HasEdgeFault : Version → List ℕ → EdgeFault → Type 0
 HasEdgeFault version line fault =
     (kind : EditKind) × (edge : Edge) × EdgeInRange edge × IsEdgeOf version edge × (line ≡ form kind edge) × (edge_fault edge ≡ Some fault)
 
+-- the line has the form of no edge of which the version knows all
+abbrev pub HasNoForm : Version → List ℕ → Type 0
+HasNoForm version line = (kind : EditKind) (edge : Edge) → EdgeInRange edge → IsEdgeOf version edge → line ≢ form kind edge
+
 -- the first fault of the line
-abbrev pub HasFault : Version → List ℕ → LineFault → Type 0
-HasFault version line Syntax = (kind : EditKind) (edge : Edge) → EdgeInRange edge → IsEdgeOf version edge → line ≢ form kind edge
-HasFault version line BadVertex = HasEdgeFault version line edges.BadVertex
-HasFault version line NoPosition = HasEdgeFault version line edges.NoPosition
-HasFault version line WrongSort = HasEdgeFault version line edges.WrongSort
+pub record HasFault (version : Version) (line : List ℕ) (fault : LineFault) : Type 0 where
+  pub told : IsFaultBy (HasNoForm version line) (HasEdgeFault version line) fault

@@ -8,14 +8,13 @@ ghost use Rattle.grove_sorts.specs.Ctor.{ctor_text, InRange as CtorInRange};
 ghost use Rattle.grove_sorts.specs.Spelled.{spelled_ctor};
 ghost use Rattle.grove_sorts.specs.Position.{position_text};
 ghost use Rattle.grove_edits.specs.declared.edge.Edge.{Edge};
-ghost use Rattle.grove_edits.specs.declared.edit.EditKind.{EditKind};
 ghost use Rattle.grove_edits.specs.declared.vertex.Vertex.{Vertex};
 ghost use Rattle.grove_sorts.specs.Version.{IsCtorOf, IsPositionOf};
 ghost use Rattle.grove_edits.specs.Edge.{EdgeInRange, IsEdgeOf};
 ghost use Rattle.grove_edits.specs.SpelledEdge.{spelled_edge};
 ghost use Rattle.grove_edits.specs.SpelledEdit.{spelled_edit};
 ghost use Rattle.grove_edits.specs.Vertex.{VertexInRange};
-ghost use Rattle.edit_text.specs.Line.{Spells, HasFault, form, spaced, edge_parts};
+ghost use Rattle.edit_text.specs.Line.{Spells, HasFault, HasNoForm, form, spaced, edge_parts};
 
 use crate::line_fault::LineFault;
 use grove_edits::{Edit, EditKind, SpelledEdge, SpelledEdit, SpelledVertex};
@@ -52,7 +51,7 @@ pub fn read_spelled_line(version: Version, line: &[u8]) -> Result<SpelledEdit<'_
 fn read_form(version: Version, line: &[u8]) -> Option<(EditKind, SpelledEdge<'_>)>
     ensures found { IfSome result (λ read. line.now ≡ form read.0 (spelled_edge read.1)) }
     ensures of_version { IfSome result (λ read. IsEdgeOf version (spelled_edge read.1)) }
-    ensures none { IfNone result ((kind : EditKind) (edge : Edge) → EdgeInRange edge → IsEdgeOf version edge → line.now ≢ form kind edge) }
+    ensures none { IfNone result (HasNoForm version line.now) }
 {
     match line {
         [b'+', text @ ..] => Some((EditKind::Insert, read_edge(version, text)?)),

@@ -5,7 +5,7 @@ use Rattle.grove_sorts.specs.declared.version.Version.{Version}
 use Rattle.grove_edits.specs.declared.edit.Edit.{Edit}
 use Rattle.grove_edits.specs.Edit.{edit_edge, edit_kind}
 use Rattle.edit_text.specs.declared.line_fault.LineFault.{LineFault}
-use Rattle.edit_text.specs.declared.line_fault.LineFault.TheVariants as lines
+use Rattle.edit_text.specs.declared.line_fault.LineFault.TheVariants.{Syntax}
 use Rattle.edit_text.specs.Line.{form, Spells, HasFault}
 use Rattle.edit_text.specs.Text.{line_of, text_of}
 use Rattle.edit_text.specs.Whole.{header_lines, HasVersion, IsMalformedText}
@@ -70,10 +70,8 @@ first_good version text line after edit is spells (inr (inr left)) =
     ))
 
 of_line_fault : (text : List ℕ) (line : ℕ) (fault : LineFault) → IsMalformedText text line fault → IsFirstFaultOfEdits text line (fault_of_line fault)
-of_line_fault text line lines.Syntax bad = bad
-of_line_fault text line lines.BadVertex bad = bad
-of_line_fault text line lines.NoPosition bad = bad
-of_line_fault text line lines.WrongSort bad = bad
+of_line_fault text line Syntax bad = bad
+of_line_fault text line _ bad = bad
 
 -- and so are the lines of a whole text
 pub whole : (text : List ℕ) (version : Version) (body : List ℕ) → HasVersion text version body → LinesAreJudged version body → HasEditsOrFault text

@@ -58,12 +58,7 @@ impl From<LineFault> for Fault {
     ghost from_gives = { λ line fault. fault ≡ fault_of_line line };
 
     fn from(fault: LineFault) -> Fault {
-        match fault {
-            LineFault::Syntax => Fault::Syntax,
-            LineFault::BadVertex => Fault::BadVertex,
-            LineFault::NoPosition => Fault::NoPosition,
-            LineFault::WrongSort => Fault::WrongSort,
-        }
+        Fault::from(ScriptKind::from(fault))
     }
 }
 

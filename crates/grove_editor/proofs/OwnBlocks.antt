@@ -4,7 +4,7 @@ use Rattle.grove_names.specs.declared.name.Name.{Name}
 use Rattle.grove_edits.specs.declared.edge.Edge.{Edge}
 use Rattle.grove_edits.specs.declared.edit.Edit.{Edit}
 use Rattle.grove_edits.specs.declared.action.Action.{Action}
-use Rattle.grove_edits.specs.declared.action.Action.TheVariants.{Construct, Wrap, Become, Delete, Cut, Relocate, Restore}
+use Rattle.grove_edits.specs.declared.action.Action.TheVariants.{Cut}
 use Rattle.grove_edits.specs.declared.answer.Answer.{Answer}
 use Rattle.grove_edits.specs.Edit.{edit_edge}
 use Rattle.grove_edits.specs.Graph.{graph}
@@ -28,13 +28,8 @@ same_cut : (lists : GraphLists) (edge : Name) → edges_cut lists lists.present 
 same_cut lists edge = else_same (edges_named edge lists.present)
 
 same_plan : (lists : GraphLists) (author : ℕ) (action : Action) → plan lists [] author action ≡ plan lists lists.present author action
-same_plan lists author (Construct place ctor) = refl
-same_plan lists author (Wrap place ctor) = refl
-same_plan lists author (Become place ctor) = refl
-same_plan lists author (Delete place) = refl
 same_plan lists author (Cut edge) = simp else_same
-same_plan lists author (Relocate edge place) = refl
-same_plan lists author (Restore vertex place) = refl
+same_plan lists author _ = refl
 
 pub own_block : (edits : List Edit) (author : ℕ) (action : Action) → plan (lists_of edits) [] author action ≡ plan (lists_of edits) (map edit_edge edits) author action
 own_block edits author action = same_plan (lists_of edits) author action

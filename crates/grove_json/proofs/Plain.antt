@@ -180,25 +180,7 @@ ctor_plain : (c : Ctor) → IsPlain (ctor_text c)
 ctor_plain (ctor.Var x) = plain_append (codes "var:") (ident_bytes x) refl (ident_plain x)
 ctor_plain (ctor.PVar x) = plain_append (codes "pvar:") (ident_bytes x) refl (ident_plain x)
 ctor_plain (ctor.Num n) = plain_append (codes "num:") (decimal n) refl (decimal_plain n)
-ctor_plain ctor.Root = refl
-ctor_plain ctor.Lam = refl
-ctor_plain ctor.Ap = refl
-ctor_plain ctor.Plus = refl
-ctor_plain ctor.LitTrue = refl
-ctor_plain ctor.LitFalse = refl
-ctor_plain ctor.Choose = refl
-ctor_plain ctor.Pair = refl
-ctor_plain ctor.Fst = refl
-ctor_plain ctor.Snd = refl
-ctor_plain ctor.TNum = refl
-ctor_plain ctor.TBool = refl
-ctor_plain ctor.TArrow = refl
-ctor_plain ctor.TProd = refl
-ctor_plain ctor.Let = refl
-ctor_plain ctor.Inl = refl
-ctor_plain ctor.Inr = refl
-ctor_plain ctor.Case = refl
-ctor_plain ctor.TSum = refl
+ctor_plain _ = refl
 
 sign_plain : (f : Former) → IsPlain (sign f)
 sign_plain Arrow = refl

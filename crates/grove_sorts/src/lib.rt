@@ -31,4 +31,4 @@ pub use table::{
 };
 pub use text_parts::NoMemory;
 pub use version::{Version, longest_identifier};
-pub use write::{write_ctor, write_ident, write_position, write_sort};
+pub use write::{keyword, position_word, write_ctor, write_ident, write_position, write_sort};

@@ -63,8 +63,8 @@ pub fn write_sort(sort: Sort, out: &mut Vec<u8>) -> Result<(), NoMemory>
     Ok(write_short(sort_word(sort), out)?)
 }
 
-// The word that a constructor's text begins with.
-pub(crate) fn keyword(ctor: &Ctor) -> &'static [u8]
+/// The word that a constructor's text begins with: all of it, where the constructor is plain.
+pub fn keyword(ctor: &Ctor) -> &'static [u8]
     ensures { result.now ≡ keyword ctor.now }
 {
     match ctor {
@@ -75,8 +75,8 @@ pub(crate) fn keyword(ctor: &Ctor) -> &'static [u8]
     }
 }
 
-// The word of a position.
-pub(crate) fn position_word(position: Position) -> &'static [u8]
+/// The word of a position.
+pub fn position_word(position: Position) -> &'static [u8]
     ensures { result.now ≡ position_text position }
 {
     match position {

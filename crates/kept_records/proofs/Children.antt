@@ -20,9 +20,9 @@ use Rattle.graph_words.specs.Class.{class, class_by, is_cycle_root}
 use Rattle.grove_edits.proofs.Vertices.{same_vertex_itself, same_vertex_exact}
 use Rattle.grove_terms.specs.Forest.{Forest, none, multi_ref, cycle_ref, tree, child_edges, edges_from, edges_under, AreChildren, StandsUnder}
 use Rattle.grove_edits.proofs.Orders.{one_edge}
+use Rattle.grove_edits.proofs.WellFormed.{place_fits}
 use Rattle.grove_terms.proofs.InLive.{IsFrom, stands_among, under_lead}
 use Rattle.kept_records.specs.Kept.{IsTreeIn}
-use Rattle.kept_records.proofs.Sorts.{wanted_sort}
 
 -- ---- what is true of all edges
 
@@ -170,7 +170,7 @@ among_from live e s (q ∷ qs) held is = by_test (position_number q.0 == positio
 
 -- a well-formed live edge is one of those under its source
 pub held_under : (live : List Edge) (e : Edge) → holds_edge e live ≡ true → IsWellFormed e → holds_edge e (edges_under live e.source) ≡ true
-held_under live e held well = among_from live e (sort_of_ctor e.target.ctor) (positions e.source.ctor) held (wanted_sort e well)
+held_under live e held well = among_from live e (sort_of_ctor e.target.ctor) (positions e.source.ctor) held (place_fits e well)
 
 -- ---- the children of a vertex of a graph with well-formed edges
 
@@ -187,7 +187,7 @@ module _ (live : List Edge) (well : AllByRecursion IsWellFormed live) where
     record {
       held = all.0.held;
       source = all.0.source;
-      sorted = ap (λ (u : Vertex). sort_at u.ctor e.position) (sym all.0.source) ∙ wanted_sort e (all_held IsWellFormed live well e all.0.held);
+      sorted = ap (λ (u : Vertex). sort_at u.ctor e.position) (sym all.0.source) ∙ place_fits e (all_held IsWellFormed live well e all.0.held);
     },
     all_of v es all.1,
   )

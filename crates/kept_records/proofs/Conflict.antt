@@ -20,6 +20,7 @@ use Rattle.grove_edits.specs.Graph.{Graph, graph, is_same_edge}
 use Rattle.grove_edits.specs.Vertex.{is_same_vertex, stands_in}
 use Rattle.grove_edits.proofs.Orders.{same_edge_laws}
 use Rattle.grove_edits.proofs.Vertices.{same_vertex_exact, same_vertex_itself}
+use Rattle.grove_edits.proofs.WellFormed.{place_fits}
 use Rattle.graph_words.specs.declared.class.Class.TheVariants.{Inner}
 use Rattle.graph_words.specs.Live.{holds_edge, children_of, parents_of}
 use Rattle.graph_words.specs.Class.{class}
@@ -40,7 +41,7 @@ use Rattle.kept_records.specs.Renewal.{HasToBeJudged, IsLeft, MakesUnder, names,
 use Rattle.kept_records.specs.Short.{SourceAloneSees, MakesFrom, MakesTarget, within, IsShortWalk, TypeStays}
 use Rattle.kept_records.specs.Conflict.{PositionAloneSees, MakesInConflict, outer, left, judged, IsConflictWalk}
 use Rattle.grove_sorts.proofs.Truths.{not_both, not_true}
-use Rattle.kept_records.proofs.Sorts.{IsJudged, above_expression, wanted_sort}
+use Rattle.kept_records.proofs.Sorts.{IsJudged, above_expression}
 use Rattle.kept_records.proofs.Children.{sole_parent, tree_inner, tree_stands, HasTree, has_tree, held_under, IsTreeOf, under_are_of, children_are_of, all_held}
 use Rattle.kept_records.proofs.Standing.{stands_under, child_stands, HasPlace, has_place}
 use Rattle.kept_records.proofs.Scratch.{kept_of_any, demand_kept, top_alone, source_vertex, target_vertex, kept_there}
@@ -87,7 +88,7 @@ has_child live v p several = first (children_of v p live) several (children_lead
 
 count_children : (live : List Edge) → AllByRecursion IsWellFormed live → (v : Vertex) (p : Position) (f : Forest) → child_edges f ≡ edges_under live v → HasChild live v p → count_at f p ≡ length (children_of v p live)
 count_children live well v p f edges some =
-    let wanted = wanted_sort some.child (all_held IsWellFormed live well some.child some.held) in
+    let wanted = place_fits some.child (all_held IsWellFormed live well some.child some.held) in
     let r = in_row (positions v.ctor) p (sort_of_ctor some.child.target.ctor)
     (ap (λ (x : Vertex). sort_at x.ctor p) (sym some.source) ∙ ap (sort_at some.child.source.ctor) (sym some.position) ∙ wanted) in
     count_at_position live v f edges r.index (p, r.sort) r.behind r.there

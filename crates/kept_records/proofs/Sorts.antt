@@ -1,49 +1,16 @@
 -- Children have the sorts that their positions want.
 use Rattle.std.proofs.Common.{◌≡◌, ◌⊎◌, inl, inr, Bool, true, false, cond, List, [], ◌∷◌, refl, subst}
-use Rattle.std.specs.Prelude.{◌==◌, if◌then◌else◌, Option, Some, None, is_none, IsTrue}
+use Rattle.std.specs.Prelude.{◌==◌, Some}
 use Rattle.std.specs.List.{AllByRecursion}
-use Rattle.std.proofs.lemmas.Bool.{false≢true}
 use Rattle.grove_sorts.specs.declared.position.Position.{Position}
 use Rattle.grove_sorts.specs.declared.position.Position.TheVariants.{Annot}
 use Rattle.grove_sorts.specs.declared.sort.Sort.{Sort}
-use Rattle.grove_sorts.specs.declared.sort.Sort.TheVariants.{Top, Exp, Pat, Typ as TypeSort}
+use Rattle.grove_sorts.specs.declared.sort.Sort.TheVariants.{Top, Exp, Typ as TypeSort}
 use Rattle.grove_sorts.specs.declared.ctor.Ctor.{Ctor}
 use Rattle.grove_sorts.specs.declared.ctor.Ctor.TheVariants.{Root, Lam, PVar, TNum, TBool, TArrow, TProd, TSum}
 use Rattle.marking.proofs.ByRows.{no_top_in}
 use Rattle.grove_sorts.specs.Position.{position_number}
 use Rattle.grove_sorts.specs.Ctor.{positions, sort_in, sort_at, sort_of_ctor}
-use Rattle.grove_edits.specs.declared.edge.Edge.{Edge}
-use Rattle.grove_edits.specs.declared.edge.EdgeFault.TheVariants.{BadVertex, NoPosition, WrongSort}
-use Rattle.grove_edits.specs.Edge.{IsWellFormed, has_good_vertices, has_position, has_sort, is_sort}
-
-has_sort_by : (good place sort : Bool) → IsTrue (is_none (if good then (if place then (if sort then None else Some WrongSort) else Some NoPosition) else Some BadVertex)) → sort ≡ true
-has_sort_by true true true h = refl
-has_sort_by true true false h = absurd (false≢true h)
-has_sort_by true false sort h = absurd (false≢true h)
-has_sort_by false place sort h = absurd (false≢true h)
-
-is_sort_exact : (o : Option Sort) (s : Sort) → is_sort o s ≡ true → o ≡ Some s
-is_sort_exact None s h = absurd cc
-is_sort_exact (Some Top) Top h = refl
-is_sort_exact (Some Top) Exp h = absurd cc
-is_sort_exact (Some Top) Pat h = absurd cc
-is_sort_exact (Some Top) TypeSort h = absurd cc
-is_sort_exact (Some Exp) Top h = absurd cc
-is_sort_exact (Some Exp) Exp h = refl
-is_sort_exact (Some Exp) Pat h = absurd cc
-is_sort_exact (Some Exp) TypeSort h = absurd cc
-is_sort_exact (Some Pat) Top h = absurd cc
-is_sort_exact (Some Pat) Exp h = absurd cc
-is_sort_exact (Some Pat) Pat h = refl
-is_sort_exact (Some Pat) TypeSort h = absurd cc
-is_sort_exact (Some TypeSort) Top h = absurd cc
-is_sort_exact (Some TypeSort) Exp h = absurd cc
-is_sort_exact (Some TypeSort) Pat h = absurd cc
-is_sort_exact (Some TypeSort) TypeSort h = refl
-
--- the position of a well-formed edge wants the sort of its target
-pub wanted_sort : (e : Edge) → IsWellFormed e → sort_at e.source.ctor e.position ≡ Some (sort_of_ctor e.target.ctor)
-wanted_sort e well = is_sort_exact (sort_at e.source.ctor e.position) (sort_of_ctor e.target.ctor) (has_sort_by (has_good_vertices e) (has_position e) (has_sort e) well)
 
 -- ---- the sorts in the table
 

@@ -65,14 +65,12 @@ replicas_good (a ∷ b ∷ c ∷ d ∷ rest) named = absurd cc
 loads_are_items : (session : Session) (loads : List Item) → length session.replicas ≡ 3 → AllByRecursion IsLoad loads → AllByRecursion (IsItem session) loads
 loads_are_items session [] few h = tt
 loads_are_items session (item.Load replica edit ∷ loads) few h = (omega (arith, h.0.0), loads_are_items session loads few h.1)
-loads_are_items session (item.Block block ∷ loads) few h = absurd h.0
-loads_are_items session (item.Show ∷ loads) few h = absurd h.0
+loads_are_items session (_ ∷ loads) few h = absurd h.0
 
 loads_of_one : (loads : List Item) → AllByRecursion IsLoad loads → AllByRecursion (IsItemOf One) loads
 loads_of_one [] h = tt
 loads_of_one (item.Load replica edit ∷ loads) h = (h.0.1, loads_of_one loads h.1)
-loads_of_one (item.Block block ∷ loads) h = absurd h.0
-loads_of_one (item.Show ∷ loads) h = absurd h.0
+loads_of_one (_ ∷ loads) h = absurd h.0
 
 loads_count : (f : Item → ℕ) (loads : List Item) → ((i : Item) → IsLoad i → f i ≡ 0) → AllByRecursion IsLoad loads → sum_by f loads ≡ 0
 loads_count f [] none h = refl
@@ -80,18 +78,15 @@ loads_count f (i ∷ loads) none h = omega (arith, sum_by-cons f i loads, none i
 
 no_block : (i : Item) → IsLoad i → ◌≡◌ {A = ℕ} (cond (is_block i) 1 0) 0
 no_block (item.Load replica edit) h = refl
-no_block (item.Block block) h = absurd h
-no_block item.Show h = refl
+no_block _ h = absurd h
 
 no_show : (i : Item) → IsLoad i → ◌≡◌ {A = ℕ} (cond (is_show i) 1 0) 0
 no_show (item.Load replica edit) h = refl
-no_show (item.Block block) h = refl
-no_show item.Show h = absurd h
+no_show _ h = absurd h
 
 no_send : (i : Item) → IsLoad i → send_count i ≡ 0
 no_send (item.Load replica edit) h = refl
-no_send (item.Block block) h = absurd h
-no_send item.Show h = refl
+no_send _ h = absurd h
 
 abbrev made : List Ident → List Item → Session
 made replicas items = record { version = One; replicas = replicas; authors = declared; items = items }

@@ -15,12 +15,12 @@ use Rattle.grove_sorts.specs.Version.{IsCtorOf}
 use Rattle.grove_sorts.proofs.Truths.{both_true, not_true, and_true}
 use Rattle.grove_edits.specs.declared.edge.Edge.{Edge}
 use Rattle.grove_edits.specs.declared.edge.EdgeFault.{EdgeFault}
-use Rattle.grove_edits.specs.declared.edge.EdgeFault.TheVariants.{BadVertex, NoPosition, WrongSort}
 use Rattle.grove_edits.specs.declared.edit.Edit.{Edit}
 use Rattle.grove_edits.specs.declared.edit.EditKind.{EditKind}
 use Rattle.grove_edits.specs.Edge.{is_sort, edge_fault}
 use Rattle.grove_edits.specs.Edit.{edit_edge, edit_kind}
 use Rattle.grove_edits.specs.Vertex.{is_root, is_vertex}
+use Rattle.grove_edits.proofs.WellFormed.{no_fault}
 use Rattle.edit_text.specs.Line.{form}
 use Rattle.session_gen.specs.Group.{vertex_in, edge_in, fits}
 
@@ -43,13 +43,6 @@ is_some_sort : (found : Option Sort) (sort : Sort) → is_sort found sort ≡ tr
 is_some_sort (Some s) sort h = refl
 is_some_sort None sort h = absurd (false≢true h)
 
-no_fault : (vertices position sort : Bool) → vertices ≡ true → position ≡ true → sort ≡ true
-    → (if vertices then (if position then (if sort then None else Some WrongSort) else Some NoPosition) else Some BadVertex) ≡ None
-no_fault true true true a b c = refl
-no_fault true true false a b c = absurd cc
-no_fault true false sort a b c = absurd cc
-no_fault false position sort a b c = absurd cc
-
 -- an edge of a group has no fault where its ends fit
 pub edge_good : (group number source target : ℕ) (k l : Ctor) (p : Position) → 1 ≤ source → 1 ≤ target → IsTrue (fits k p l) → edge_fault (edge_in group number source k p target l) ≡ None
 edge_good group number source target k l p some_source some_target h =
@@ -59,7 +52,7 @@ edge_good group number source target k l p some_source some_target h =
     let of_target = vertex_good group target l some_target (not_true (is_root l) roots.1) in
     let vertices = and_true (nat_lt 0 (1 + group % 3) && nat_lt 0 (20 * group + (10 + number)) && is_vertex (vertex_in group source k)) (is_vertex (vertex_in group target l))
     (and_true (nat_lt 0 (1 + group % 3) && nat_lt 0 (20 * group + (10 + number))) (is_vertex (vertex_in group source k)) (named_well group (10 + number) (omega arith)) of_source) of_target in
-    no_fault _ (is_some (sort_at k p)) (is_sort (sort_at k p) (sort_of_ctor l)) vertices (is_some_sort (sort_at k p) (sort_of_ctor l) parts.1) parts.1
+    no_fault (edge_in group number source k p target l) vertices (is_some_sort (sort_at k p) (sort_of_ctor l) parts.1) parts.1
 
 -- where an edge has no fault there is an edit of it
 pub is_edit : (r : Result Edit EdgeFault) (edge : Edge) → IfErr r (λ fault. edge_fault edge ≡ Some fault) → edge_fault edge ≡ None → IsOk r

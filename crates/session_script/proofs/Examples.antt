@@ -99,11 +99,11 @@ module _ (a : Ident) (named : ident_bytes a ≡ codes "a") where
     begin = record { in_range = (tt, (tt, tt)); of_version = (tt, (of_one, tt)); good = (refl, (refl, tt)) };
     parts = ap (λ (name : List ℕ). lines (codes "session" ∷ (codes "replica " ++ name) ∷ []) ++ (codes "replica a" ++ 10 ∷ [])) (sym named);
     one_line = Lacks-word;
-    has_fault = record {
+    has_fault = inr (record {
       statement = Replica a;
       says = record { in_range = tt; of_version = of_one; text = ap (λ (name : List ℕ). codes "replica " ++ name) (sym named) };
       has_fault = again a;
-    };
+    });
     number = refl;
   }
 

@@ -30,7 +30,7 @@ items_in_two : (items : List Item) → AllByRecursion (IsItemOf Two) items
 items_in_two [] = tt
 items_in_two (item.Load replica edit ∷ items) = (all_in_two (edit_edge edit), items_in_two items)
 items_in_two (item.Block block ∷ items) = (lines_in_two block.lines, items_in_two items)
-items_in_two (item.Show ∷ items) = (tt, items_in_two items)
+items_in_two (_ ∷ items) = (tt, items_in_two items)
 
 abbrev in_two : sessions.Session → sessions.Session
 in_two session = record session { version = Two }
@@ -46,9 +46,8 @@ lines_kept session (line.Send send ∷ lines) h = (h.0, lines_kept session lines
 
 items_kept : (session : sessions.Session) (items : List Item) → AllByRecursion (IsItem session) items → AllByRecursion (IsItem (in_two session)) items
 items_kept session [] h = tt
-items_kept session (item.Load replica edit ∷ items) h = (h.0, items_kept session items h.1)
 items_kept session (item.Block block ∷ items) h = (lines_kept session block.lines h.0, items_kept session items h.1)
-items_kept session (item.Show ∷ items) h = (tt, items_kept session items h.1)
+items_kept session (_ ∷ items) h = (h.0, items_kept session items h.1)
 
 session_in_two : (session : sessions.Session) → IsSession session → IsSession (in_two session)
 session_in_two session is = record {

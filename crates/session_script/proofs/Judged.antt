@@ -4,17 +4,16 @@ use Rattle.std.specs.List.{list_all}
 use Rattle.text_parts.specs.Separated.{Lacks}
 use Rattle.grove_sorts.specs.declared.version.Version.{Version}
 use Rattle.edit_text.specs.declared.line_fault.LineFault.{LineFault}
-use Rattle.edit_text.specs.declared.line_fault.LineFault.TheVariants as lines
 use Rattle.session_script.specs.declared.script_kind.ScriptKind.{ScriptKind}
-use Rattle.session_script.specs.declared.script_kind.ScriptKind.TheVariants.{Syntax, BadVertex, NoPosition, WrongSort, OutOfPlace, UnknownReplica, RepeatedReplica, UnknownAuthor, RepeatedAuthor, TooMany, Rest, Unended}
+use Rattle.session_script.specs.declared.script_kind.ScriptKind.TheVariants.{OutOfPlace, UnknownReplica, RepeatedReplica, UnknownAuthor, RepeatedAuthor, TooMany, Rest, Unended}
 use Rattle.session_script.specs.declared.statement.Statement.{Statement}
-use Rattle.session_script.specs.Statement.{statement_text, InRange, Says}
-use Rattle.session_script.specs.Form.{HasFormFault}
+use Rattle.session_script.specs.Statement.{statement_text, InRange, Says, HasFormFault}
 use Rattle.session_script.specs.Judged.{HasSessionOrFault, AreJudged}
 use Rattle.session_script.specs.Order.{version_of, named_replicas, statement_fault, is_ended}
-use Rattle.session_script.specs.Script.{ended_line, script_text, BeginSession, HasLineFault, HasBadLine, IsBad}
+use Rattle.session_script.specs.Script.{ended_line, script_text, BeginSession, kind_of_line, HasLineFault, HasBadLine, IsBad}
 use Rattle.session_script.specs.View.{version_after, view, place_at, declared_at, repeats_replica_at, unknown_author_at, repeats_author_at, too_many_at}
 use Rattle.session_script.proofs.Kept.{all_push}
+use Rattle.session_script.proofs.Scripts.{bad_by_form}
 use Rattle.session_script.proofs.SoFar.{GoOn-push, AreKnown-push, script_text-push, one_of}
 use Rattle.session_script.proofs.Views.{fault_is, version_push}
 use Rattle.session_script.proofs.Whole.{spells_one}
@@ -38,10 +37,12 @@ module _ (version : Version) (text line after : List ℕ) (parts : text ≡ line
 
   -- the first line has no form
   pub first_bad : (fault : LineFault) → HasFormFault version line fault → AreJudged version text
-  first_bad lines.Syntax has before begin is = inr (length before + 1, Syntax, bad_here before Syntax begin (subst (λ (v : Version). HasFormFault v line lines.Syntax) (sym is) has))
-  first_bad lines.BadVertex has before begin is = inr (length before + 1, BadVertex, bad_here before BadVertex begin (subst (λ (v : Version). HasFormFault v line lines.BadVertex) (sym is) has))
-  first_bad lines.NoPosition has before begin is = inr (length before + 1, NoPosition, bad_here before NoPosition begin (subst (λ (v : Version). HasFormFault v line lines.NoPosition) (sym is) has))
-  first_bad lines.WrongSort has before begin is = inr (length before + 1, WrongSort, bad_here before WrongSort begin (subst (λ (v : Version). HasFormFault v line lines.WrongSort) (sym is) has))
+  first_bad fault has before begin is = inr (
+    length before + 1,
+    kind_of_line fault,
+    bad_by_form (script_text before ++ text) (length before + 1) fault
+        (bad_here before (kind_of_line fault) begin (inl (fault, subst (λ (v : Version). HasFormFault v line fault) (sym is) has, refl))),
+  )
 
   -- it says what has a fault behind those before
   wrong_here : (before : List Statement) (s : Statement) (kind : ScriptKind) → BeginSession before → Says (version_of before) line s → statement_fault before s ≡ Some kind
@@ -50,12 +51,12 @@ module _ (version : Version) (text line after : List ℕ) (parts : text ≡ line
       let v = view before in
       one_of (λ (k : ScriptKind). statement_fault before s ≡ Some k → IsBad (script_text before ++ text) (length before + 1) k)
       (place_at v s) (list_all (declared_at v) (named_replicas s)) (repeats_replica_at v s) (unknown_author_at v s) (repeats_author_at v s) (too_many_at v s) kind
-      (λ is. bad_here before OutOfPlace begin (record { statement = s; says = says; has_fault = is }))
-      (λ is. bad_here before UnknownReplica begin (record { statement = s; says = says; has_fault = is }))
-      (λ is. bad_here before RepeatedReplica begin (record { statement = s; says = says; has_fault = is }))
-      (λ is. bad_here before UnknownAuthor begin (record { statement = s; says = says; has_fault = is }))
-      (λ is. bad_here before RepeatedAuthor begin (record { statement = s; says = says; has_fault = is }))
-      (λ is. bad_here before TooMany begin (record { statement = s; says = says; has_fault = is }))
+      (λ is. bad_here before OutOfPlace begin (inr (record { statement = s; says = says; has_fault = is })))
+      (λ is. bad_here before UnknownReplica begin (inr (record { statement = s; says = says; has_fault = is })))
+      (λ is. bad_here before RepeatedReplica begin (inr (record { statement = s; says = says; has_fault = is })))
+      (λ is. bad_here before UnknownAuthor begin (inr (record { statement = s; says = says; has_fault = is })))
+      (λ is. bad_here before RepeatedAuthor begin (inr (record { statement = s; says = says; has_fault = is })))
+      (λ is. bad_here before TooMany begin (inr (record { statement = s; says = says; has_fault = is })))
       (sym (fault_is before s) ∙ has) has
 
   -- it says something, and those behind it are judged

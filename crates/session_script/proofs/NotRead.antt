@@ -3,22 +3,18 @@ use Rattle.std.proofs.Common.{◌≡◌, ◌≢◌, ℕ, List, ◌∷◌, ◌++�
 use Rattle.std.proofs.lemmas.Bool.{false≢true}
 use Rattle.grove_sorts.specs.declared.ident.Ident.{Ident}
 use Rattle.grove_sorts.specs.Ident.{ident_bytes}
-use Rattle.grove_edits.specs.declared.edge.Edge.{Edge}
 use Rattle.grove_edits.specs.declared.edge.EdgeFault.{EdgeFault}
-use Rattle.grove_edits.specs.declared.edge.EdgeFault.TheVariants as edges
-use Rattle.grove_edits.specs.declared.edit.EditKind.{EditKind}
 use Rattle.grove_sorts.specs.declared.version.Version.{Version}
-use Rattle.grove_edits.specs.Edge.{EdgeInRange, IsEdgeOf}
 use Rattle.grove_edits.specs.Edit.{edit_edge, edit_kind}
 use Rattle.edit_text.specs.declared.line_fault.LineFault.{LineFault}
-use Rattle.edit_text.specs.declared.line_fault.LineFault.TheVariants.{Syntax, BadVertex, NoPosition, WrongSort}
-use Rattle.edit_text.specs.Line.{spaced, form, HasFault}
+use Rattle.edit_text.specs.FaultOfEdge.{IsFaultBy, without_form, with_edge}
+use Rattle.edit_text.specs.Line.{spaced, form, HasEdgeFault, HasNoForm, HasFault}
 use Rattle.session_script.specs.declared.statement.SendText.{SendText}
 use Rattle.session_script.specs.declared.statement.Statement.{Statement}
 use Rattle.session_script.specs.declared.statement.Statement.TheVariants.{Replica, Author, Load, Act, Send}
 use Rattle.session_script.specs.Action.{action_parts, IsAuthor}
-use Rattle.session_script.specs.Statement.{load_line, statement_text, InRange, IsReplicaOf, IsStatementOf, LoadsBadEdge}
-use Rattle.session_script.specs.Form.{HasFormFault, IsOther, HasLoadFault, LoadsBad, send_rest}
+use Rattle.session_script.specs.Statement.{load_line, statement_text, InRange, IsReplicaOf, IsStatementOf, LoadsBadEdge, HasFormFault}
+use Rattle.session_script.specs.Form.{IsOther, LoadsNothing, HasLoadFault, LoadsBad, send_rest}
 use Rattle.session_script.proofs.Statements.{text_key, number_or_word, author_fits, same_ident, same_number}
 
 -- ---- loads
@@ -26,16 +22,19 @@ use Rattle.session_script.proofs.Statements.{text_key, number_or_word, author_fi
 -- the fault of the edit is that of the load
 pub load_fault : (version : Version) (text rest : List ℕ) (replica : Ident) (fault : LineFault) → IsReplicaOf version replica → text ≡ ident_bytes replica ++ 32 ∷ rest → HasFault version rest fault
     → HasLoadFault version text fault
-load_fault version text rest replica Syntax of is h = λ r kind edge in_range of_r of_edge same.
-    let parts = same_ident replica r rest (form kind edge) (sym is ∙ same) in h kind edge in_range of_edge parts.1
-load_fault version text rest replica BadVertex of is h = (replica, h.0, h.1, h.2, of, h.3, is ∙ ap (λ (x : List ℕ). ident_bytes replica ++ 32 ∷ x) h.4, h.5)
-load_fault version text rest replica NoPosition of is h = (replica, h.0, h.1, h.2, of, h.3, is ∙ ap (λ (x : List ℕ). ident_bytes replica ++ 32 ∷ x) h.4, h.5)
-load_fault version text rest replica WrongSort of is h = (replica, h.0, h.1, h.2, of, h.3, is ∙ ap (λ (x : List ℕ). ident_bytes replica ++ 32 ∷ x) h.4, h.5)
+load_fault version text rest replica fault of is h = by_told h.told where
+  by_told : IsFaultBy (HasNoForm version rest) (HasEdgeFault version rest) fault → HasLoadFault version text fault
+  by_told (without_form none syntax) =
+      without_form
+      (λ r kind edge in_range of_r of_edge same.
+      let parts = same_ident replica r rest (form kind edge) (sym is ∙ same) in none kind edge in_range of_edge parts.1)
+      syntax
+  by_told (with_edge of_edge bad has) =
+      with_edge of_edge (replica, bad.0, bad.1, bad.2, of, bad.3, is ∙ ap (λ (x : List ℕ). ident_bytes replica ++ 32 ∷ x) bad.4, bad.5) has
 
 -- what is no load is no other statement either
 no_statement : (version : Version) (line rest : List ℕ) → line ≡ codes "load " ++ rest
-    → ((replica : Ident) (kind : EditKind) (edge : Edge) → EdgeInRange edge → IsReplicaOf version replica → IsEdgeOf version edge → rest ≢ ident_bytes replica ++ 32 ∷ form kind edge)
-    → (s : Statement) → InRange s → IsStatementOf version s → line ≢ statement_text s
+    → LoadsNothing version rest → (s : Statement) → InRange s → IsStatementOf version s → line ≢ statement_text s
 no_statement version line rest is none (Load r edit) in_range of same =
     let whole : codes "load " ++ rest ≡ load_line (ident_bytes r) (edit_kind edit) (edit_edge edit) = sym is ∙ same in
     none r (edit_kind edit) (edit_edge edit) edit.in_range of.0 of.1 cc
@@ -56,14 +55,15 @@ loads_bad version line rest fault is h = record {
 
 -- the fault behind the word is the fault of the line
 pub form_fault : (version : Version) (line rest : List ℕ) (fault : LineFault) → line ≡ codes "load " ++ rest → HasLoadFault version rest fault → HasFormFault version line fault
-form_fault version line rest Syntax is h = record {
-  no_statement = no_statement version line rest is h;
-  no_load = λ r kind edge in_range of_r of_edge same.
-      (let whole : codes "load " ++ rest ≡ load_line (ident_bytes r) kind edge = sym is ∙ same in h r kind edge in_range of_r of_edge cc);
-}
-form_fault version line rest BadVertex is h = loads_bad version line rest edges.BadVertex is h
-form_fault version line rest NoPosition is h = loads_bad version line rest edges.NoPosition is h
-form_fault version line rest WrongSort is h = loads_bad version line rest edges.WrongSort is h
+form_fault version line rest fault is (without_form none syntax) =
+    without_form
+    (record {
+      no_statement = no_statement version line rest is none;
+      no_load = λ r kind edge in_range of_r of_edge same.
+          (let whole : codes "load " ++ rest ≡ load_line (ident_bytes r) kind edge = sym is ∙ same in none r kind edge in_range of_r of_edge cc);
+    })
+    syntax
+form_fault version line rest fault is (with_edge of_edge bad has) = with_edge of_edge (loads_bad version line rest of_edge is bad) has
 
 -- ---- other statements of several words
 

@@ -4,57 +4,47 @@ use Rattle.std.specs.List.{AllByRecursion}
 use Rattle.std.proofs.lemmas.Bool.{false≢true}
 use Rattle.text_parts.specs.Separated.{Lacks}
 use Rattle.text_parts.proofs.Parts.{Lacks-separated, first_part}
-use Rattle.grove_edits.specs.declared.edge.EdgeFault.{EdgeFault}
-use Rattle.grove_edits.specs.declared.edge.EdgeFault.TheVariants as edges
+use Rattle.grove_sorts.specs.declared.version.Version.{Version}
+use Rattle.edit_text.specs.declared.line_fault.LineFault.{LineFault}
+use Rattle.edit_text.specs.declared.line_fault.LineFault.TheVariants.{Syntax}
+use Rattle.edit_text.specs.FaultOfEdge.{line_fault_of, without_form, with_edge}
 use Rattle.session_script.specs.declared.script_kind.ScriptKind.{ScriptKind}
-use Rattle.session_script.specs.declared.script_kind.ScriptKind.TheVariants.{Syntax, BadVertex, NoPosition, WrongSort, Rest, Unended}
+use Rattle.session_script.specs.declared.script_kind.ScriptKind.TheVariants.{Rest, Unended}
 use Rattle.session_script.specs.declared.statement.Statement.{Statement}
-use Rattle.session_script.specs.Statement.{statement_text, InRange, IsStatementOf, Says, LoadsBadEdge, SaysNothing}
+use Rattle.session_script.specs.Statement.{statement_text, InRange, IsStatementOf, Says, HasFormFault}
 use Rattle.session_script.specs.Order.{version_of, statement_fault, GoOn, is_ended}
-use Rattle.session_script.specs.Script.{ended_line, script_text, AreKnown, BeginSession, SaysWrong, HasLineFault, HasBadLine, IsBad}
+use Rattle.session_script.specs.Script.{ended_line, script_text, AreKnown, BeginSession, kind_of_line, HasLineFault, HasBadLine, IsBad}
 use Rattle.session_script.proofs.Statements.{Lacks-statement, statement_injective, one_statement, not_nothing, no_bad_edge, bad_edge_or_nothing, one_bad_edge}
 
 -- ---- one fault for each line
 
--- the kind of a load's fault
-abbrev kind_of_edge : EdgeFault → ScriptKind
-kind_of_edge edges.BadVertex = BadVertex
-kind_of_edge edges.NoPosition = NoPosition
-kind_of_edge edges.WrongSort = WrongSort
+-- a line that has no form says nothing
+form_or_says : (version : Version) (line : List ℕ) (fault : LineFault) (s : Statement) → HasFormFault version line fault → Says version line s → ⊥
+form_or_says version line fault s (without_form nothing is) says = not_nothing version line s says nothing
+form_or_says version line fault s (with_edge of_edge bad is) says = no_bad_edge version line s of_edge says bad
 
--- a line with a fault says nothing, or loads an edit of a bad edge, or says what has a fault
-abbrev Ways : List Statement → List ℕ → ScriptKind → Type 0
-Ways before line kind =
-    (SaysNothing (version_of before) line × (kind ≡ Syntax)) ⊎ (((fault : EdgeFault) × LoadsBadEdge (version_of before) line fault × (kind ≡ kind_of_edge fault)) ⊎ SaysWrong before line kind)
-
-ways : (before : List Statement) (line : List ℕ) (kind : ScriptKind) → HasLineFault before line kind → Ways before line kind
-ways before line Syntax h = inl (h, refl)
-ways before line BadVertex h = inr (inl (edges.BadVertex, h, refl))
-ways before line NoPosition h = inr (inl (edges.NoPosition, h, refl))
-ways before line WrongSort h = inr (inl (edges.WrongSort, h, refl))
-ways before line kind h = inr (inr h)
+one_form_fault : (version : Version) (line : List ℕ) (f g : LineFault) → HasFormFault version line f → HasFormFault version line g → f ≡ g
+one_form_fault version line f g (without_form none is) (without_form also are) = is ∙ sym are
+one_form_fault version line f g (without_form none is) (with_edge b bad are) = absurd (bad_edge_or_nothing version line b bad none)
+one_form_fault version line f g (with_edge a bad is) (without_form none are) = absurd (bad_edge_or_nothing version line a bad none)
+one_form_fault version line f g (with_edge a of_a is) (with_edge b of_b are) = is ∙ ap line_fault_of (one_bad_edge version line a b of_a of_b) ∙ sym are
 
 kinds_injective : (k l : ScriptKind) → Some k ≡ Some l → k ≡ l
 kinds_injective k l e = cc
 
-wrong_and : (before : List Statement) (line : List ℕ) (k l : ScriptKind) → SaysWrong before line k → Ways before line l → k ≡ l
-wrong_and before line k l a (inl b) = absurd (not_nothing (version_of before) line a.statement a.says b.0)
-wrong_and before line k l a (inr (inl b)) = absurd (no_bad_edge (version_of before) line a.statement b.0 a.says b.1)
-wrong_and before line k l a (inr (inr b)) =
+-- a line has one first fault behind the statements before
+pub one_line_fault : (before : List Statement) (line : List ℕ) (k l : ScriptKind) → HasLineFault before line k → HasLineFault before line l → k ≡ l
+one_line_fault before line k l (inl a) (inl b) = a.2 ∙ ap kind_of_line (one_form_fault (version_of before) line a.0 b.0 a.1 b.1) ∙ sym b.2
+one_line_fault before line k l (inl a) (inr b) = absurd (form_or_says (version_of before) line a.0 b.statement a.1 b.says)
+one_line_fault before line k l (inr a) (inl b) = absurd (form_or_says (version_of before) line b.0 a.statement b.1 a.says)
+one_line_fault before line k l (inr a) (inr b) =
     let same = one_statement (version_of before) (version_of before) line a.statement b.statement a.says b.says in
     kinds_injective k l (sym a.has_fault ∙ ap (statement_fault before) same ∙ b.has_fault)
 
-one_way : (before : List Statement) (line : List ℕ) (k l : ScriptKind) → Ways before line k → Ways before line l → k ≡ l
-one_way before line k l (inl a) (inl b) = a.1 ∙ sym b.1
-one_way before line k l (inl a) (inr (inl b)) = absurd (bad_edge_or_nothing (version_of before) line b.0 b.1 a.0)
-one_way before line k l (inr (inl a)) (inl b) = absurd (bad_edge_or_nothing (version_of before) line a.0 a.1 b.0)
-one_way before line k l (inr (inl a)) (inr (inl b)) = a.2 ∙ ap kind_of_edge (one_bad_edge (version_of before) line a.0 b.0 a.1 b.1) ∙ sym b.2
-one_way before line k l (inr (inr a)) b = wrong_and before line k l a b
-one_way before line k l a (inr (inr b)) = sym (wrong_and before line l k b a)
-
--- a line has one first fault behind the statements before
-pub one_line_fault : (before : List Statement) (line : List ℕ) (k l : ScriptKind) → HasLineFault before line k → HasLineFault before line l → k ≡ l
-one_line_fault before line k l a b = one_way before line k l (ways before line k a) (ways before line l b)
+-- a line that has no form makes a text bad
+pub bad_by_form : (text : List ℕ) (line : ℕ) (fault : LineFault) → HasBadLine text line (kind_of_line fault) → IsBad text line (kind_of_line fault)
+bad_by_form text line Syntax h = h
+bad_by_form text line _ h = h
 
 -- ---- where the statements of a text end
 
@@ -73,16 +63,15 @@ none_or_some : (o : Option ScriptKind) (kind : ScriptKind) → o ≡ None → o 
 none_or_some o kind none some = cc
 
 -- what a statement that has no fault says has none
-no_fault : (before : List Statement) (line : List ℕ) (a : Statement) (kind : ScriptKind) → Says (version_of before) line a → statement_fault before a ≡ None → Ways before line kind → ⊥
-no_fault before line a kind says good (inl b) = not_nothing (version_of before) line a says b.0
-no_fault before line a kind says good (inr (inl b)) = no_bad_edge (version_of before) line a b.0 says b.1
-no_fault before line a kind says good (inr (inr b)) =
+no_fault : (before : List Statement) (line : List ℕ) (a : Statement) (kind : ScriptKind) → Says (version_of before) line a → statement_fault before a ≡ None → HasLineFault before line kind → ⊥
+no_fault before line a kind says good (inl b) = form_or_says (version_of before) line b.0 a b.1 says
+no_fault before line a kind says good (inr b) =
     none_or_some (statement_fault before b.statement) kind (ap (statement_fault before) (one_statement (version_of before) (version_of before) line b.statement a b.says says) ∙ good) b.has_fault
 
 Stops-bad : (before : List Statement) (bad after : List ℕ) (kind : ScriptKind) → Lacks 10 bad → HasLineFault before bad kind → Stops before (bad ++ 10 ∷ after)
 Stops-bad before bad after kind one_line has a rest in_range known good same =
     let parts = first_part 10 (statement_text a) bad rest after (Lacks-statement a in_range) one_line (sym (line_then a rest) ∙ same) in
-    no_fault before bad a kind (record { in_range = in_range; of_version = known; text = sym parts.0 }) good (ways before bad kind has)
+    no_fault before bad a kind (record { in_range = in_range; of_version = known; text = sym parts.0 }) good has
 
 -- texts that begin with the lines of statements, and are one, have one statement and one rest
 same_lines : (a b : Statement) (x y : List ℕ) → InRange a → InRange b → ended_line a ++ x ≡ ended_line b ++ y → (a ≡ b) × (x ≡ y)

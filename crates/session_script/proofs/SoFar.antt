@@ -1,13 +1,12 @@
 -- Reading a session line by line.
-use Rattle.std.proofs.Common.{◌≡◌, ◌≢◌, ℕ, ◌+◌, ◌≤◌, Bool, true, false, List, [], ◌∷◌, ◌++◌, Some, None, length, map, refl, sym, ap, subst, ◌∙◌, append_assoc, append-nil, length-append, arith}
+use Rattle.std.proofs.Common.{◌≡◌, ◌≢◌, ℕ, ◌+◌, ◌≤◌, Bool, true, false, List, [], ◌∷◌, ◌++◌, Some, None, length, map, refl, sym, ap, subst, ◌∙◌, inl, inr, append_assoc, append-nil, length-append, arith}
 use Rattle.std.specs.List.{list_all, flat_map}
 use Rattle.std.proofs.lemmas.List.{map-append}
 use Rattle.std.proofs.lemmas.Grind.{flat_map-append}
 use Rattle.text_parts.specs.Separated.{Lacks}
 use Rattle.edit_text.specs.declared.line_fault.LineFault.{LineFault}
-use Rattle.edit_text.specs.declared.line_fault.LineFault.TheVariants as lines
 use Rattle.session_script.specs.declared.script_kind.ScriptKind.{ScriptKind}
-use Rattle.session_script.specs.declared.script_kind.ScriptKind.TheVariants.{Syntax, BadVertex, NoPosition, WrongSort, OutOfPlace, UnknownReplica, RepeatedReplica, UnknownAuthor, RepeatedAuthor, TooMany, Rest, Unended}
+use Rattle.session_script.specs.declared.script_kind.ScriptKind.TheVariants.{OutOfPlace, UnknownReplica, RepeatedReplica, UnknownAuthor, RepeatedAuthor, TooMany, Rest, Unended}
 use Rattle.grove_sorts.specs.declared.ident.Ident.{Ident}
 use Rattle.grove_sorts.specs.declared.version.Version.{Version}
 use Rattle.session_script.specs.declared.author.Declared.{Declared}
@@ -17,14 +16,14 @@ use Rattle.session_script.specs.declared.phase.Phase.TheVariants as phases
 use Rattle.session_script.specs.declared.reading.Reading.{Reading}
 use Rattle.session_script.specs.declared.session.Session as sessions
 use Rattle.session_script.specs.declared.statement.Statement.{Statement}
-use Rattle.session_script.specs.Statement.{statement_text, InRange, IsStatementOf, Says}
-use Rattle.session_script.specs.Form.{HasFormFault, kind_of_line}
+use Rattle.session_script.specs.Statement.{statement_text, InRange, IsStatementOf, Says, HasFormFault}
 use Rattle.session_script.specs.Order.{version_of, named_replicas, statement_fault, GoOn}
-use Rattle.session_script.specs.Script.{ended_line, script_text, AreKnown, BeginSession, SaysWrong, HasLineFault, HasBadLine, IsBad}
+use Rattle.session_script.specs.Script.{ended_line, script_text, AreKnown, BeginSession, SaysWrong, kind_of_line, HasLineFault, HasBadLine, IsBad}
 use Rattle.session_script.specs.Session.{author_numbers, Spells}
 use Rattle.session_script.specs.View.{View, version_after, view_at, seen, start, view, items_at, place_at, declared_at, repeats_replica_at, unknown_author_at, repeats_author_at, too_many_at, fault_at}
 use Rattle.session_script.specs.Reading.{view_of, AuthorsAfter, ItemsAfter, LinesAfter}
 use Rattle.session_script.proofs.Kept.{all_push, fine_at, HasLines, lines_of_nothing, lines_more, IsWithin, nothing_is_within, within_more, IsKnown, nothing_is_known, known_more, whole_session}
+use Rattle.session_script.proofs.Scripts.{bad_by_form}
 use Rattle.session_script.proofs.Told.{ended_lines}
 use Rattle.session_script.proofs.Views.{after-append, first_fault, fault_is, ended_is, version_push}
 
@@ -151,14 +150,9 @@ bad_line text rest bytes more line reading kind h parts one_line has = record {
 -- a line without a form
 pub bad_form : (text rest bytes more : List ℕ) (line : ℕ) (reading : Reading) (fault : LineFault) → SoFar text rest line reading → rest ≡ bytes ++ 10 ∷ more → Lacks 10 bytes
     → HasFormFault reading.version bytes fault → IsBad text line (kind_of_line fault)
-bad_form text rest bytes more line reading lines.Syntax h parts one_line has =
-    bad_line text rest bytes more line reading Syntax h parts one_line (subst (λ (v : Version). HasFormFault v bytes lines.Syntax) (sym h.version) has)
-bad_form text rest bytes more line reading lines.BadVertex h parts one_line has =
-    bad_line text rest bytes more line reading BadVertex h parts one_line (subst (λ (v : Version). HasFormFault v bytes lines.BadVertex) (sym h.version) has)
-bad_form text rest bytes more line reading lines.NoPosition h parts one_line has =
-    bad_line text rest bytes more line reading NoPosition h parts one_line (subst (λ (v : Version). HasFormFault v bytes lines.NoPosition) (sym h.version) has)
-bad_form text rest bytes more line reading lines.WrongSort h parts one_line has =
-    bad_line text rest bytes more line reading WrongSort h parts one_line (subst (λ (v : Version). HasFormFault v bytes lines.WrongSort) (sym h.version) has)
+bad_form text rest bytes more line reading fault h parts one_line has =
+    bad_by_form text line fault
+    (bad_line text rest bytes more line reading (kind_of_line fault) h parts one_line (inl (fault, subst (λ (v : Version). HasFormFault v bytes fault) (sym h.version) has, refl)))
 
 some_injective : (k l : ScriptKind) → Some k ≡ Some l → k ≡ l
 some_injective k l e = cc
@@ -188,12 +182,12 @@ pub bad_statement : (text rest bytes more : List ℕ) (line : ℕ) (reading : Re
 bad_statement text rest bytes more line reading s kind has =
     let v = view_of reading in
     one_of (MakesBad text rest bytes more line reading s) (place_at v s) (list_all (declared_at v) (named_replicas s)) (repeats_replica_at v s) (unknown_author_at v s) (repeats_author_at v s) (too_many_at v s) kind
-    (λ h parts one_line says is. bad_line text rest bytes more line reading OutOfPlace h parts one_line (wrong text rest bytes more line reading s OutOfPlace h says is))
-    (λ h parts one_line says is. bad_line text rest bytes more line reading UnknownReplica h parts one_line (wrong text rest bytes more line reading s UnknownReplica h says is))
-    (λ h parts one_line says is. bad_line text rest bytes more line reading RepeatedReplica h parts one_line (wrong text rest bytes more line reading s RepeatedReplica h says is))
-    (λ h parts one_line says is. bad_line text rest bytes more line reading UnknownAuthor h parts one_line (wrong text rest bytes more line reading s UnknownAuthor h says is))
-    (λ h parts one_line says is. bad_line text rest bytes more line reading RepeatedAuthor h parts one_line (wrong text rest bytes more line reading s RepeatedAuthor h says is))
-    (λ h parts one_line says is. bad_line text rest bytes more line reading TooMany h parts one_line (wrong text rest bytes more line reading s TooMany h says is))
+    (λ h parts one_line says is. bad_line text rest bytes more line reading OutOfPlace h parts one_line (inr (wrong text rest bytes more line reading s OutOfPlace h says is)))
+    (λ h parts one_line says is. bad_line text rest bytes more line reading UnknownReplica h parts one_line (inr (wrong text rest bytes more line reading s UnknownReplica h says is)))
+    (λ h parts one_line says is. bad_line text rest bytes more line reading RepeatedReplica h parts one_line (inr (wrong text rest bytes more line reading s RepeatedReplica h says is)))
+    (λ h parts one_line says is. bad_line text rest bytes more line reading UnknownAuthor h parts one_line (inr (wrong text rest bytes more line reading s UnknownAuthor h says is)))
+    (λ h parts one_line says is. bad_line text rest bytes more line reading RepeatedAuthor h parts one_line (inr (wrong text rest bytes more line reading s RepeatedAuthor h says is)))
+    (λ h parts one_line says is. bad_line text rest bytes more line reading TooMany h parts one_line (inr (wrong text rest bytes more line reading s TooMany h says is)))
     has
 
 -- ---- the end

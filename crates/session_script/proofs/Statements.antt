@@ -36,7 +36,7 @@ use Rattle.grove_edits.specs.declared.action.Action.{Action}
 use Rattle.grove_edits.specs.declared.action.Action.TheVariants.{Construct, Wrap, Become, Delete, Cut, Relocate, Restore}
 use Rattle.session_script.specs.declared.statement.SendText.{SendText}
 use Rattle.session_script.specs.declared.statement.Statement.{Statement}
-use Rattle.session_script.specs.declared.statement.Statement.TheVariants.{Session, Replica, Author, Load, Block, End, Act, Send, Show}
+use Rattle.session_script.specs.declared.statement.Statement.TheVariants.{Session, Replica, Author, Load, Act, Send}
 use Rattle.session_script.specs.Action.{action_parts, action_line, IsAuthor, ActionInRange, IsActionOf}
 use Rattle.session_script.specs.Statement.{head_line, direction, repetition, send_terms, load_line, send_line, statement_text, InRange, IsStatementOf, Says, LoadsBadEdge, SaysNothing}
 
@@ -184,6 +184,10 @@ head_line_injective One Two e = absurd cc
 head_line_injective Two One e = absurd cc
 head_line_injective Two Two e = refl
 
+-- one line has one key
+one_key : (a b : Statement) → statement_text a ≡ statement_text b → nat_eq (text_key (statement_text a)) (text_key (statement_text a)) ≡ nat_eq (text_key (statement_text a)) (text_key (statement_text b))
+one_key a b e = ap (λ text. nat_eq (text_key (statement_text a)) (text_key text)) e
+
 -- a statement is its line
 pub statement_injective : (a b : Statement) → InRange a → InRange b → statement_text a ≡ statement_text b → a ≡ b
 statement_injective (Session v) (Session w) i j e = ap Session (head_line_injective v w e)
@@ -194,16 +198,13 @@ statement_injective (Author m r) (Author n s) i j e =
 statement_injective (Load r a) (Load s b) i j e =
     let parts = load_injective r s (edit_kind a) (edit_kind b) (edit_edge a) (edit_edge b) a.in_range b.in_range e in
     ap (λ q. Load q a) parts.0 ∙ ap (Load s) (edit_from_fields a b parts.1 parts.2)
-statement_injective Block Block i j e = refl
-statement_injective End End i j e = refl
 statement_injective (Act m a) (Act n b) i j e =
     let parts = same_number m n (spaced (action_parts a)) (spaced (action_parts b)) (author_fits m i.0) (author_fits n j.0) e in
     ap (λ k. Act k a) parts.0 ∙ ap (Act n) (action_injective a b i.1 j.1 parts.1)
 statement_injective (Send a) (Send b) i j e = ap Send (send_injective a b i j cc)
-statement_injective Show Show i j e = refl
 statement_injective (Act m a) b i j e = absurd (number_or_word m (32 ∷ spaced (action_parts a)) (statement_text b) i.0 e (lit< tt))
 statement_injective a (Act n b) i j e = absurd (number_or_word n (32 ∷ spaced (action_parts b)) (statement_text a) j.0 (sym e) (lit< tt))
-statement_injective _ b i j e = absurd (false≢true (ap (λ text. nat_eq (text_key text) (text_key (statement_text b))) e))
+statement_injective a b i j e = let key = one_key a b e in cc
 
 -- a line says one thing, in whichever versions
 pub one_statement : (v w : Version) (line : List ℕ) (a b : Statement) → Says v line a → Says w line b → a ≡ b
@@ -215,21 +216,16 @@ pub action_in_two : (a : Action) → IsActionOf Two a
 action_in_two (Construct p k) = (refl, refl)
 action_in_two (Wrap p k) = (refl, refl)
 action_in_two (Become p k) = (refl, refl)
-action_in_two (Delete p) = refl
 action_in_two (Cut m) = tt
-action_in_two (Relocate m p) = refl
-action_in_two (Restore m p) = refl
+action_in_two _ = refl
 
 statement_in_two : (a : Statement) → IsStatementOf Two a
-statement_in_two (Session v) = tt
 statement_in_two (Replica r) = identifier_spelled r
 statement_in_two (Author n r) = identifier_spelled r
 statement_in_two (Load r edit) = (identifier_spelled r, all_in_two (edit_edge edit))
-statement_in_two Block = tt
-statement_in_two End = tt
 statement_in_two (Act n a) = action_in_two a
 statement_in_two (Send send) = (identifier_spelled send.from, identifier_spelled send.to)
-statement_in_two Show = tt
+statement_in_two _ = tt
 
 pub kept_in_two : (line : List ℕ) (statement : Statement) → Says One line statement → Says Two line statement
 kept_in_two line statement says = record { in_range = says.in_range; of_version = statement_in_two statement; text = says.text }
@@ -356,8 +352,6 @@ Lacks-statement (Author n r) i =
 Lacks-statement (Load r edit) i =
     Lacks-part (codes "load") _ (Lacks-above (codes "load") refl)
     (Lacks-part (ident_bytes r) (form (edit_kind edit) (edit_edge edit)) (Lacks-ident r) (Lacks-form (edit_kind edit) (edit_edge edit) edit.in_range))
-Lacks-statement Block i = Lacks-above (codes "block") refl
-Lacks-statement End i = Lacks-above (codes "end") refl
 Lacks-statement (Act n a) i = Lacks-part (decimal n) (spaced (action_parts a)) (Lacks-number n (author_fits n i.0)) (Lacks-action a i.1)
 Lacks-statement (Send send) i = Lacks-send send i
-Lacks-statement Show i = Lacks-above (codes "show") refl
+Lacks-statement a i = Lacks-above (statement_text a) refl

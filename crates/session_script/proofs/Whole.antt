@@ -12,7 +12,7 @@ use Rattle.session_script.specs.declared.line.Line.{Line}
 use Rattle.session_script.specs.declared.line.Line.TheVariants as line
 use Rattle.session_script.specs.declared.session.Session as sessions
 use Rattle.session_script.specs.declared.statement.Statement.{Statement}
-use Rattle.session_script.specs.declared.statement.Statement.TheVariants.{Author, Load, End, Act, Send, Show}
+use Rattle.session_script.specs.declared.statement.Statement.TheVariants.{Author, Load, End, Act, Send}
 use Rattle.session_script.specs.Statement.{statement_text, InRange, IsStatementOf}
 use Rattle.session_script.specs.Order.{version_of, is_same_ident, GoOn}
 use Rattle.session_script.specs.Script.{AreKnown, IsWhole}
@@ -51,8 +51,7 @@ items_after (Load replica edit) v old lines fine =
     (old ++ item.Load found.0 edit ∷ [], (found.0, found.1, refl))
 items_after End v old lines fine =
     let block : blocks.Block = record { lines = lines } in (old ++ item.Block block ∷ [], (block, refl, refl))
-items_after Show v old lines fine = (old ++ item.Show ∷ [], refl)
-items_after _ v old lines fine = (old, refl)
+items_after _ v old lines fine = (_, refl)
 
 lines_after : (s : Statement) (v : View) (old : List Line) → Fine v s → (new : List Line) × LinesAfter v.replicas old s new
 lines_after (Act author action) v old fine = (old ++ line.Author author action ∷ [], refl)

@@ -8,22 +8,12 @@ use Rattle.grove_edits.specs.declared.edge.EdgeFault.{EdgeFault}
 use Rattle.grove_edits.specs.declared.edit.EditKind.{EditKind}
 use Rattle.grove_edits.specs.Edge.{EdgeInRange, IsEdgeOf, edge_fault}
 use Rattle.edit_text.specs.Line.{spaced, form}
-use Rattle.grove_edits.specs.declared.edge.EdgeFault.TheVariants as edges
 use Rattle.edit_text.specs.declared.line_fault.LineFault.{LineFault}
-use Rattle.edit_text.specs.declared.line_fault.LineFault.TheVariants.{Syntax, BadVertex, NoPosition, WrongSort}
-use Rattle.session_script.specs.declared.script_kind.ScriptKind.{ScriptKind}
-use Rattle.session_script.specs.declared.script_kind.ScriptKind.TheVariants as kinds
+use Rattle.edit_text.specs.FaultOfEdge.{IsFaultBy}
 use Rattle.session_script.specs.declared.statement.SendText.{SendText}
 use Rattle.session_script.specs.declared.statement.Statement.{Statement}
 use Rattle.session_script.specs.declared.statement.Statement.TheVariants.{Session, Replica, Author, Block, End, Act, Send, Show}
-use Rattle.session_script.specs.Statement.{send_terms, IsReplicaOf, LoadsBadEdge, SaysNothing}
-
--- it says nothing, or it loads an edit of an edge that is not well formed
-abbrev pub HasFormFault : Version → List ℕ → LineFault → Type 0
-HasFormFault version line Syntax = SaysNothing version line
-HasFormFault version line BadVertex = LoadsBadEdge version line edges.BadVertex
-HasFormFault version line NoPosition = LoadsBadEdge version line edges.NoPosition
-HasFormFault version line WrongSort = LoadsBadEdge version line edges.WrongSort
+use Rattle.session_script.specs.Statement.{send_terms, IsReplicaOf}
 
 -- a statement of one word
 abbrev pub IsOneWord : Statement → Type 0
@@ -47,12 +37,13 @@ LoadsBad version text fault =
     (replica : Ident) × (kind : EditKind) × (edge : Edge) × EdgeInRange edge × IsReplicaOf version replica × IsEdgeOf version edge
     × (text ≡ ident_bytes replica ++ 32 ∷ form kind edge) × (edge_fault edge ≡ Some fault)
 
-abbrev pub HasLoadFault : Version → List ℕ → LineFault → Type 0
-HasLoadFault version text Syntax =
+-- and here it loads no edit of any edge
+abbrev pub LoadsNothing : Version → List ℕ → Type 0
+LoadsNothing version text =
     (replica : Ident) (kind : EditKind) (edge : Edge) → EdgeInRange edge → IsReplicaOf version replica → IsEdgeOf version edge → text ≢ ident_bytes replica ++ 32 ∷ form kind edge
-HasLoadFault version text BadVertex = LoadsBad version text edges.BadVertex
-HasLoadFault version text NoPosition = LoadsBad version text edges.NoPosition
-HasLoadFault version text WrongSort = LoadsBad version text edges.WrongSort
+
+abbrev pub HasLoadFault : Version → List ℕ → LineFault → Type 0
+HasLoadFault version text fault = IsFaultBy (LoadsNothing version text) (LoadsBad version text) fault
 
 -- the text of a `send` line behind both names
 abbrev pub terms_rest : ℕ → ℕ → Bool → Bool → ℕ → List ℕ
@@ -61,10 +52,3 @@ terms_rest skip take reverse twice cut = spaced (send_terms skip take reverse tw
 -- and behind its first word
 abbrev pub send_rest : SendText → List ℕ
 send_rest send = ident_bytes send.from ++ 32 ∷ (ident_bytes send.to ++ 32 ∷ terms_rest send.skip send.take send.reverse send.twice send.cut)
-
--- the faults of lines among those of sessions
-abbrev pub kind_of_line : LineFault → ScriptKind
-kind_of_line Syntax = kinds.Syntax
-kind_of_line BadVertex = kinds.BadVertex
-kind_of_line NoPosition = kinds.NoPosition
-kind_of_line WrongSort = kinds.WrongSort

@@ -1,15 +1,16 @@
 -- Where a text that is no session's goes wrong.
 -- The promise of the commands rests on these definitions.
-use Rattle.std.specs.Prelude.{◌≡◌, ◌≢◌, ℕ, ◌+◌, true, false, List, [], ◌∷◌, ◌++◌, length, Some}
+use Rattle.std.specs.Prelude.{◌≡◌, ◌≢◌, ◌⊎◌, ℕ, ◌+◌, true, false, List, [], ◌∷◌, ◌++◌, length, Some}
 use Rattle.std.specs.List.{flat_map, AllByRecursion}
 use Rattle.text_parts.specs.Separated.{Lacks}
-use Rattle.grove_edits.specs.declared.edge.EdgeFault.TheVariants as edges
+use Rattle.edit_text.specs.declared.line_fault.LineFault.{LineFault}
+use Rattle.edit_text.specs.declared.line_fault.LineFault.TheVariants as lines
 use Rattle.session_script.specs.declared.script_kind.ScriptFault.{ScriptFault}
 use Rattle.session_script.specs.declared.script_kind.ScriptFault.TheVariants as faults
 use Rattle.session_script.specs.declared.script_kind.ScriptKind.{ScriptKind}
 use Rattle.session_script.specs.declared.script_kind.ScriptKind.TheVariants.{Syntax, BadVertex, NoPosition, WrongSort, Rest, Unended}
 use Rattle.session_script.specs.declared.statement.Statement.{Statement}
-use Rattle.session_script.specs.Statement.{statement_text, InRange, IsStatementOf, Says, LoadsBadEdge, SaysNothing}
+use Rattle.session_script.specs.Statement.{statement_text, InRange, IsStatementOf, Says, HasFormFault}
 use Rattle.session_script.specs.Order.{version_of, statement_fault, GoOn, is_ended}
 
 abbrev pub ended_line : Statement → List ℕ
@@ -36,14 +37,17 @@ pub record SaysWrong (before : List Statement) (line : List ℕ) (kind : ScriptK
   pub says : Says (version_of before) line statement
   pub has_fault : statement_fault before statement ≡ Some kind
 
+-- the faults of lines among those of sessions
+abbrev pub kind_of_line : LineFault → ScriptKind
+kind_of_line lines.Syntax = Syntax
+kind_of_line lines.BadVertex = BadVertex
+kind_of_line lines.NoPosition = NoPosition
+kind_of_line lines.WrongSort = WrongSort
+
 -- a line has this first fault behind the statements before: first whether it has a form, then whether the edit that it loads is
 -- well formed, and then what it says
 abbrev pub HasLineFault : List Statement → List ℕ → ScriptKind → Type 0
-HasLineFault before line Syntax = SaysNothing (version_of before) line
-HasLineFault before line BadVertex = LoadsBadEdge (version_of before) line edges.BadVertex
-HasLineFault before line NoPosition = LoadsBadEdge (version_of before) line edges.NoPosition
-HasLineFault before line WrongSort = LoadsBadEdge (version_of before) line edges.WrongSort
-HasLineFault before line kind = SaysWrong before line kind
+HasLineFault before line kind = ((fault : LineFault) × HasFormFault (version_of before) line fault × (kind ≡ kind_of_line fault)) ⊎ SaysWrong before line kind
 
 -- behind the lines of statements that begin a session, an LF ends a line that has a fault there
 pub record HasBadLine (text : List ℕ) (line : ℕ) (kind : ScriptKind) : Type 0 where

@@ -11,6 +11,8 @@ use Rattle.grove_edits.specs.declared.edge.EdgeFault.{EdgeFault}
 use Rattle.grove_edits.specs.declared.edit.EditKind.{EditKind}
 use Rattle.grove_edits.specs.Edge.{EdgeInRange, IsEdgeOf, edge_fault}
 use Rattle.grove_edits.specs.Edit.{edit_edge, edit_kind}
+use Rattle.edit_text.specs.declared.line_fault.LineFault.{LineFault}
+use Rattle.edit_text.specs.FaultOfEdge.{IsFaultBy}
 use Rattle.edit_text.specs.Line.{spaced, form}
 use Rattle.session_script.specs.declared.statement.Statement.{Statement}
 use Rattle.session_script.specs.declared.statement.Statement.TheVariants.{Session, Replica, Author, Load, Block, End, Act, Send, Show}
@@ -96,3 +98,7 @@ pub record LoadsBadEdge (version : Version) (line : List ℕ) (fault : EdgeFault
 pub record SaysNothing (version : Version) (line : List ℕ) : Type 0 where
   pub no_statement : (statement : Statement) → InRange statement → IsStatementOf version statement → line ≢ statement_text statement
   pub no_load : (replica : Ident) (kind : EditKind) (edge : Edge) → EdgeInRange edge → IsReplicaOf version replica → IsEdgeOf version edge → line ≢ load_line (ident_bytes replica) kind edge
+
+-- a line has no form: it says nothing, or it loads an edit of an edge that is not well formed
+abbrev pub HasFormFault : Version → List ℕ → LineFault → Type 0
+HasFormFault version line fault = IsFaultBy (SaysNothing version line) (LoadsBadEdge version line) fault

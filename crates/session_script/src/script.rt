@@ -1,5 +1,4 @@
-ghost use Rattle.std.specs.Prelude.{◌≡◌, IfOk, IfErr};
-ghost use Rattle.session_script.specs.Form.{kind_of_line};
+ghost use Rattle.std.specs.Prelude.{IfOk, IfErr};
 ghost use Rattle.session_script.specs.Script.{HasScriptFault};
 ghost use Rattle.session_script.specs.Session.{Spells};
 
@@ -8,7 +7,6 @@ use crate::script_kind::{ScriptFault, ScriptKind};
 use crate::session::Session;
 use crate::statement_reading::read_statement;
 use crate::taking::take;
-use edit_text::LineFault;
 use std::alloc::Global;
 use text_parts::split_at_first;
 
@@ -24,7 +22,7 @@ pub fn read_session(alloc: Global, text: &[u8]) -> Result<Session, ScriptFault>
         let statement = match read_statement(reading.version, bytes) {
             Ok(statement) => statement,
             Err(fault) => {
-                let kind = kind_of(fault);
+                let kind = ScriptKind::from(fault);
                 return Err(ScriptFault::Bad { line, kind });
             }
         };
@@ -59,15 +57,4 @@ pub fn read_session(alloc: Global, text: &[u8]) -> Result<Session, ScriptFault>
         authors,
         items,
     })
-}
-
-fn kind_of(fault: LineFault) -> ScriptKind
-    ensures { result ≡ kind_of_line fault }
-{
-    match fault {
-        LineFault::Syntax => ScriptKind::Syntax,
-        LineFault::BadVertex => ScriptKind::BadVertex,
-        LineFault::NoPosition => ScriptKind::NoPosition,
-        LineFault::WrongSort => ScriptKind::WrongSort,
-    }
 }

@@ -6,8 +6,8 @@ ghost use Rattle.grove_edits.specs.Edge.{IsEdgeOf};
 ghost use Rattle.grove_edits.specs.Edit.{edit_edge, edit_kind};
 ghost use Rattle.session_script.specs.declared.statement.SendText.{SendText};
 ghost use Rattle.session_script.specs.declared.statement.Statement.{Statement};
-ghost use Rattle.session_script.specs.Statement.{direction, repetition, statement_text, InRange, IsReplicaOf, IsStatementOf, Says};
-ghost use Rattle.session_script.specs.Form.{HasFormFault, IsOneWord, IsOther, HasLoadFault, send_rest, terms_rest};
+ghost use Rattle.session_script.specs.Statement.{direction, repetition, statement_text, HasFormFault, InRange, IsReplicaOf, IsStatementOf, Says};
+ghost use Rattle.session_script.specs.Form.{IsOneWord, IsOther, HasLoadFault, send_rest, terms_rest};
 
 use crate::action_text::read_action;
 use crate::parts::{after_word, take_author, take_ident, take_number, whole_ident};

@@ -1,5 +1,5 @@
 -- Which names the lines of a vertex bind.
-use Rattle.std.proofs.Common.{◌≡◌, ℕ, zero, suc, ◌+◌, ◌*◌, ◌/◌, Bool, true, false, List, [], ◌∷◌, ◌++◌, length, Option, None, Some, refl, sym, ap, subst, ◌∙◌, append_assoc, arith, if◌then◌else◌}
+use Rattle.std.proofs.Common.{◌≡◌, ℕ, zero, suc, ◌+◌, ◌*◌, ◌/◌, Bool, true, false, List, [], ◌∷◌, ◌++◌, length, replicate, Option, None, Some, refl, sym, ap, subst, ◌∙◌, append_assoc, arith, if◌then◌else◌}
 use Rattle.std.specs.Prelude.{slice_get}
 use Rattle.std.proofs.lemmas.List.{length-append}
 use Rattle.grove_sorts.specs.declared.ident.Ident.{Ident}
@@ -123,28 +123,15 @@ Fit find scope names [] (t ∷ ts) = ⊥
 Fit find scope names (p ∷ ps) [] = ⊥
 Fit find scope names (p ∷ ps) (t ∷ ts) = Opens find names t (scope p.0) × Fit find scope names ps ts
 
+-- places that bind nothing have the names of the form
+plain_fits : (find : ℕ → Option Ident) (names : Names) (ps : List (Position × Sort)) → Fit find (λ q. names) names ps (replicate (length ps) Plain)
+plain_fits find names [] = tt
+plain_fits find names (p ∷ ps) = (refl, plain_fits find names ps)
+
 pub form_fits : (find : ℕ → Option Ident) (c : Ctor) (f : Forest) (line : ℕ) (names : Names) → AreNamed find f (positions c) (line + 1)
     → Fit find (λ q. names_at c f line q names) names (positions c) (form_places c (λ p. first_variable (line_at c f line p)) (first_variable line))
-form_fits find ctor.Root f line names k = (refl, tt)
-form_fits find (ctor.Var name) f line names k = tt
 form_fits find ctor.Lam f line names k = (refl, (refl, (ap (λ x. with_name x (first_variable (line_at ctor.Lam f line Annot)) names) k.0, tt)))
-form_fits find ctor.Ap f line names k = (refl, (refl, tt))
-form_fits find (ctor.Num n) f line names k = tt
-form_fits find ctor.Plus f line names k = (refl, (refl, tt))
-form_fits find ctor.LitTrue f line names k = tt
-form_fits find ctor.LitFalse f line names k = tt
-form_fits find ctor.Choose f line names k = (refl, (refl, (refl, tt)))
-form_fits find ctor.Pair f line names k = (refl, (refl, tt))
-form_fits find ctor.Fst f line names k = (refl, tt)
-form_fits find ctor.Snd f line names k = (refl, tt)
-form_fits find (ctor.PVar name) f line names k = tt
-form_fits find ctor.TNum f line names k = tt
-form_fits find ctor.TBool f line names k = tt
-form_fits find ctor.TArrow f line names k = (refl, (refl, tt))
-form_fits find ctor.TProd f line names k = (refl, (refl, tt))
 form_fits find ctor.Let f line names k = (refl, (refl, (ap (λ x. with_name x (first_variable (line_at ctor.Let f line Def)) names) k.0, tt)))
-form_fits find ctor.Inl f line names k = (refl, tt)
-form_fits find ctor.Inr f line names k = (refl, tt)
 form_fits find ctor.Case f line names k =
     (refl, (refl, (ap (λ x. with_name x (second_variable line) names) k.1.0, (refl, (ap (λ x. with_name x (third_variable line) names) k.1.1.1.0, tt)))))
-form_fits find ctor.TSum f line names k = (refl, (refl, tt))
+form_fits find c f line names k = plain_fits find names (positions c)

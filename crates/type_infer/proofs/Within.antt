@@ -1,5 +1,5 @@
 -- The variables of names are those of the list.
-use Rattle.std.proofs.Common.{◌≡◌, ℕ, zero, suc, ◌+◌, ◌<◌, Bool, true, false, List, [], ◌∷◌, ◌++◌, reverse, replicate, Option, None, Some, IfSome, sym, subst, arith, if◌then◌else◌}
+use Rattle.std.proofs.Common.{◌≡◌, ℕ, zero, suc, ◌+◌, ◌<◌, Bool, true, false, List, [], ◌∷◌, ◌++◌, length, reverse, replicate, Option, None, Some, IfSome, sym, subst, arith, if◌then◌else◌}
 use Rattle.std.specs.Prelude.{◌==◌}
 use Rattle.std.specs.Cmp.Lexicographic.{pointwise}
 use Rattle.std.specs.List.{AllByRecursion}
@@ -47,25 +47,7 @@ plain_within variables zero = tt
 plain_within variables (suc n) = (tt, plain_within variables n)
 
 pub form_within : (variables : ℕ) (c : Ctor) (at : Places) (x : ℕ) → x + 2 < variables → ArePlacesOf variables at → ArePlacesWithin variables (form_places c (at_position (positions c) (place_list at)) x)
-form_within variables ctor.Root at x h within = (tt, tt)
-form_within variables (ctor.Var name) at x h within = tt
 form_within variables ctor.Lam at x h within = (tt, (tt, (within.second, tt)))
-form_within variables ctor.Ap at x h within = (tt, (tt, tt))
-form_within variables (ctor.Num n) at x h within = tt
-form_within variables ctor.Plus at x h within = (tt, (tt, tt))
-form_within variables ctor.LitTrue at x h within = tt
-form_within variables ctor.LitFalse at x h within = tt
-form_within variables ctor.Choose at x h within = (tt, (tt, (tt, tt)))
-form_within variables ctor.Pair at x h within = (tt, (tt, tt))
-form_within variables ctor.Fst at x h within = (tt, tt)
-form_within variables ctor.Snd at x h within = (tt, tt)
-form_within variables (ctor.PVar name) at x h within = tt
-form_within variables ctor.TNum at x h within = tt
-form_within variables ctor.TBool at x h within = tt
-form_within variables ctor.TArrow at x h within = (tt, (tt, tt))
-form_within variables ctor.TProd at x h within = (tt, (tt, tt))
 form_within variables ctor.Let at x h within = (tt, (tt, (within.second, tt)))
-form_within variables ctor.Inl at x h within = (tt, tt)
-form_within variables ctor.Inr at x h within = (tt, tt)
 form_within variables ctor.Case at x h within = (tt, (tt, (omega (arith, h), (tt, (h, tt)))))
-form_within variables ctor.TSum at x h within = (tt, (tt, tt))
+form_within variables c at x h within = plain_within variables (length (positions c))

@@ -1,7 +1,7 @@
 -- What well-formed edges have, and what makes an edge well formed.
 use Rattle.std.proofs.Common.{◌≡◌, ◌<◌, Bool, true, false, cond, List, [], ◌∷◌, refl, sym, ap, subst, ◌∙◌, inl, inr, ◌⊎◌, arith, lt-ltb}
 use borrow.Author.Tests.{ltb-true}
-use Rattle.std.specs.Prelude.{◌&&◌, ◌||◌, ◌==◌, nat_lt, Option, None, Some, is_none, is_some}
+use Rattle.std.specs.Prelude.{◌&&◌, ◌||◌, ◌==◌, nat_lt, Some, is_none, is_some}
 use Rattle.std.specs.List.{list_any}
 use Rattle.grove_sorts.specs.declared.sort.Sort.{Sort}
 use Rattle.grove_sorts.specs.declared.sort.Sort.TheVariants.{Top, Exp, Pat, Typ}
@@ -12,28 +12,15 @@ use Rattle.grove_sorts.specs.Position.{position_number}
 use Rattle.grove_sorts.specs.Ctor.{sort_at, sort_in, positions, sort_of_ctor}
 use Rattle.grove_edits.specs.declared.vertex.Vertex.{Vertex}
 use Rattle.grove_edits.specs.declared.edge.Edge.{Edge}
-use Rattle.grove_edits.specs.declared.edge.EdgeFault.TheVariants.{BadVertex, NoPosition, WrongSort}
 use Rattle.grove_edits.specs.Vertex.{is_vertex, is_root, VertexInRange}
 use Rattle.grove_edits.specs.Edge.{is_sort, has_good_vertices, has_position, has_sort, IsWellFormed, EdgeInRange}
 use Rattle.grove_edits.specs.Graph.{Graph}
 use Rattle.graph_words.specs.Whole.{IsVertexOf}
-use Rattle.grove_edits.proofs.WellFormed.{one_sort}
+use Rattle.grove_edits.proofs.WellFormed.{good_vertices, place_fits, no_fault}
 use Rattle.user_actions.specs.Good.{AreWellFormed, AreInRange}
 use Rattle.grove_sorts.proofs.Truths.{both_true, and_true}
 
 -- ---- the sort at a position
-
-some_sort_from : (o : Option Sort) (found : Sort) → is_sort o found ≡ true → o ≡ Some found
-some_sort_from None found h = absurd (none_is_not found h) where
-  none_is_not : (s : Sort) → is_sort None s ≡ true → ⊥
-  none_is_not Top h = cc
-  none_is_not Exp h = cc
-  none_is_not Pat h = cc
-  none_is_not Typ h = cc
-some_sort_from (Some wanted) found h = ap Some (sym (one_sort wanted found h))
-
-pub sort_from_test : (o : Option Sort) (found : Sort) → is_sort o found ≡ true → o ≡ Some found
-sort_from_test o found h = some_sort_from o found h
 
 sort_itself : (s : Sort) → is_sort (Some s) s ≡ true
 sort_itself Top = refl
@@ -74,28 +61,17 @@ pub record HasParts (e : Edge) : Type 0 where
   pub sort : sort_at e.source.ctor e.position ≡ Some (sort_of_ctor e.target.ctor)
 
 pub parts_of : (e : Edge) → IsWellFormed e → HasParts e
-parts_of e well = by_good (has_good_vertices e) refl well where
-  by_sort : has_good_vertices e ≡ true → (b : Bool) → has_sort e ≡ b → is_none (cond b None (Some WrongSort)) ≡ true → HasParts e
-  by_sort good true sorted h =
-      let p1 = both_true (nat_lt 0 e.name.author && nat_lt 0 e.name.counter && is_vertex e.source) (is_vertex e.target) good in
-      let p2 = both_true (nat_lt 0 e.name.author && nat_lt 0 e.name.counter) (is_vertex e.source) p1.0 in
-      let p3 = both_true (nat_lt 0 e.name.author) (nat_lt 0 e.name.counter) p2.0 in
-      record {
-        author = ltb-true 0 e.name.author p3.0;
-        counter = ltb-true 0 e.name.counter p3.1;
-        source = p2.1;
-        target = p1.1;
-        sort = sort_from_test (sort_at e.source.ctor e.position) (sort_of_ctor e.target.ctor) sorted;
-      }
-  by_sort good false sorted h = absurd cc
-
-  by_position : has_good_vertices e ≡ true → (b : Bool) → has_position e ≡ b → is_none (cond b (cond (has_sort e) None (Some WrongSort)) (Some NoPosition)) ≡ true → HasParts e
-  by_position good true is h = by_sort good (has_sort e) refl h
-  by_position good false is h = absurd cc
-
-  by_good : (b : Bool) → has_good_vertices e ≡ b → is_none (cond b (cond (has_position e) (cond (has_sort e) None (Some WrongSort)) (Some NoPosition)) (Some BadVertex)) ≡ true → HasParts e
-  by_good true good h = by_position good (has_position e) refl h
-  by_good false good h = absurd cc
+parts_of e well =
+    let p1 = both_true (nat_lt 0 e.name.author && nat_lt 0 e.name.counter && is_vertex e.source) (is_vertex e.target) (good_vertices e well) in
+    let p2 = both_true (nat_lt 0 e.name.author && nat_lt 0 e.name.counter) (is_vertex e.source) p1.0 in
+    let p3 = both_true (nat_lt 0 e.name.author) (nat_lt 0 e.name.counter) p2.0 in
+    record {
+      author = ltb-true 0 e.name.author p3.0;
+      counter = ltb-true 0 e.name.counter p3.1;
+      source = p2.1;
+      target = p1.1;
+      sort = place_fits e well;
+    }
 
 pub well_formed_from : (e : Edge) → HasParts e → IsWellFormed e
 well_formed_from e parts =
@@ -104,9 +80,7 @@ well_formed_from e parts =
     let good : has_good_vertices e ≡ true = and_true (nat_lt 0 e.name.author && nat_lt 0 e.name.counter && is_vertex e.source) (is_vertex e.target) p2 parts.target in
     let position : has_position e ≡ true = ap is_some parts.sort in
     let sort : has_sort e ≡ true = ap (λ o. is_sort o (sort_of_ctor e.target.ctor)) parts.sort ∙ sort_itself (sort_of_ctor e.target.ctor) in
-    ap (λ b. is_none (cond b (cond (has_position e) (cond (has_sort e) None (Some WrongSort)) (Some NoPosition)) (Some BadVertex))) good
-    ∙ ap (λ b. is_none (cond b (cond (has_sort e) None (Some WrongSort)) (Some NoPosition))) position
-    ∙ ap (λ b. is_none (cond b None (Some WrongSort))) sort
+    ap is_none (no_fault e good position sort)
 
 -- ---- the vertices of a graph
 

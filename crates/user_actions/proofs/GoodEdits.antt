@@ -19,7 +19,7 @@ use Rattle.grove_edits.specs.Graph.{Graph}
 use Rattle.graph_words.specs.Live.{holds_edge}
 use Rattle.grove_sorts.specs.Position.{is_same_position}
 use Rattle.grove_edits.proofs.Vertices.{same_vertex_exact}
-use Rattle.grove_edits.proofs.WellFormed.{edit_made, edge_made}
+use Rattle.grove_edits.proofs.WellFormed.{edit_made, edge_made, one_answer}
 use Rattle.graph_words.proofs.Ordered.{holds-filter}
 use Rattle.grove_edits.specs.declared.action.Place.{Place}
 use Rattle.grove_edits.specs.declared.action.Action.{Action}
@@ -35,7 +35,7 @@ use Rattle.user_actions.specs.Checks.{edges_cut, else_edges, wrapping_position}
 use Rattle.user_actions.specs.Actions.{name_count, edits_of}
 use Rattle.user_actions.specs.Good.{AreWellFormed, AreInRange, AreOpening, HasLiteralInRange}
 use Rattle.grove_sorts.proofs.Truths.{both_true}
-use Rattle.user_actions.proofs.GoodEdges.{parts_of, well_formed_from, vertex_good, vertex_in_range, no_root_at, sort_from_test}
+use Rattle.user_actions.proofs.GoodEdges.{parts_of, well_formed_from, vertex_good, vertex_in_range, no_root_at}
 use Rattle.user_actions.proofs.PlainGraphs.{AllEdits}
 use Rattle.user_actions.proofs.EditLists.{all_append, all_deletions, all_put_below, all_carry_over, edge_with, held_first}
 use Rattle.user_actions.proofs.NoFault.{NoFault, only_stands, vertex_named_is}
@@ -153,7 +153,7 @@ module _ (g : Graph) (lists : GraphLists) (of : AreListsOf g lists) (well : AreW
       let listed : sort_at e.target.ctor is.entry.0 ≡ Some is.entry.1 = entry_found e.target.ctor is.entry (positions e.target.ctor) is.listed (places_found e.target.ctor) in
       let moved : sort_at e.target.ctor is.entry.0 ≡ Some (sort_of_ctor c.target.ctor) = ap (λ (w : Vertex). sort_at w.ctor is.entry.0) (sym source) ∙ ap (sort_at c.source.ctor) (sym position) ∙ own in
       let same : Some is.entry.1 ≡ Some (sort_of_ctor c.target.ctor) = sym listed ∙ moved in
-      (is.live_edge, ap (sort_at ctor) position ∙ sort_from_test (sort_at ctor is.entry.0) is.entry.1 is.sorted ∙ same)
+      (is.live_edge, ap (sort_at ctor) position ∙ one_answer (sort_at ctor is.entry.0) is.entry.1 is.sorted ∙ same)
 
   good_become : (place : Place) (ctor : Ctor) (has : HasPlace lists place) (e : Edge) → has.sort ≡ sort_of_ctor ctor → literal ctor < 2 ^ 64 → edges_at lists has.vertex place ≡ e ∷ []
       → greatest_counter lists author + (2 + length (carried ctor e lists.live)) ≤ last_counter

@@ -18,6 +18,7 @@ use Rattle.graph_words.specs.Live.{IsInEdgeOrder, holds_edge, children_of}
 use Rattle.grove_edits.specs.Vertex.{is_same_vertex}
 use Rattle.grove_sorts.specs.Position.{is_same_position}
 use Rattle.grove_edits.proofs.Vertices.{same_vertex_exact}
+use Rattle.grove_edits.proofs.WellFormed.{one_answer}
 use Rattle.graph_words.specs.Whole.{AreLive}
 use Rattle.graph_words.proofs.Ordered.{holds-filter, in_order-filter, same_lists}
 use Rattle.grove_edits.specs.declared.act_fault.ActFault.{ActFault}
@@ -31,7 +32,7 @@ use Rattle.graph_words.specs.Named.{AreNamed}
 use Rattle.graph_words.specs.States.{is_live}
 use Rattle.graph_words.proofs.Truths.{live_from_test}
 use Rattle.user_actions.specs.NamedEdges.{is_live_in}
-use Rattle.user_actions.proofs.GoodEdges.{parts_of, sort_from_test}
+use Rattle.user_actions.proofs.GoodEdges.{parts_of}
 use Rattle.user_actions.proofs.OnePlace.{entry_found, carried_is}
 use Rattle.grove_sorts.proofs.Truths.{both_true, and_true, same_tests}
 use Rattle.user_actions.proofs.Truths.{same_name_exact, same_name_itself}
@@ -119,7 +120,7 @@ carried_stands g live well are ctor e c held =
     let listed : sort_at e.target.ctor is.entry.0 ≡ Some is.entry.1 = entry_found e.target.ctor is.entry (positions e.target.ctor) is.listed (places_found e.target.ctor) in
     let moved : sort_at e.target.ctor is.entry.0 ≡ Some (sort_of_ctor c.target.ctor) = ap (λ (w : Vertex). sort_at w.ctor is.entry.0) (sym source) ∙ ap (sort_at c.source.ctor) (sym position) ∙ own in
     let same : Some is.entry.1 ≡ Some (sort_of_ctor c.target.ctor) = sym listed ∙ moved in
-    (good, ap (sort_at ctor) position ∙ sort_from_test (sort_at ctor is.entry.0) is.entry.1 is.sorted ∙ same)
+    (good, ap (sort_at ctor) position ∙ one_answer (sort_at ctor is.entry.0) is.entry.1 is.sorted ∙ same)
 
 -- ---- the edges that a cut deletes
 

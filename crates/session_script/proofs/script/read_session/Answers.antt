@@ -1,7 +1,8 @@
-use Rattle.std.proofs.Common.{◌≡◌, true, false, None, Some, length, refl, sym, rules}
+use Rattle.std.proofs.Common.{◌≡◌, true, false, None, Some, length, refl, sym, subst, rules}
 use Rattle.session_script.specs.Reading.{view_of}
+use Rattle.session_script.specs.Script.{IsBad}
 use Rattle.session_script.specs.View.{items_at, fault_at}
-use Rattle.session_script.proofs.SoFar.{nothing_yet, one_more, bad_statement, bad_end, spelled_end, empty_list}
+use Rattle.session_script.proofs.SoFar.{nothing_yet, one_more, bad_form, bad_statement, bad_end, spelled_end, empty_list}
 use Rattle.session_script.proofs.script.read_session.Goals as goal
 
 pub loop-bytes-init : goal.loop-bytes-init
@@ -9,6 +10,12 @@ loop-bytes-init c = record {
   so_far = nothing_yet c.args.text.now c.new-reading.result c.new-reading.ensures.view c.new-reading.ensures.authors c.new-reading.ensures.items c.new-reading.ensures.lines;
   ordered = c.new-reading.ensures.ordered;
 }
+
+pub returns-in-Err-clause-fault : goal.returns-in-Err-clause-fault
+returns-in-Err-clause-fault c =
+    subst (IsBad c.args.text.now c.loop-bytes.line) (sym c.from-kind.ensures)
+    (bad_form c.args.text.now c.loop-bytes.rest.now c.in-Some.bytes.now c.in-Some.after.now c.loop-bytes.line c.loop-bytes.reading c.in-Err.fault
+    c.loop-bytes.invariant.so_far c.in-Some.ensures.parts c.in-Some.ensures.first c.in-Err.ensures.form_fault)
 
 pub returns-in-Some-first_fault-clause-fault : goal.returns-in-Some-first_fault-clause-fault
 returns-in-Some-first_fault-clause-fault c =
