@@ -12,40 +12,41 @@ use crate::parted_report::PartedReport;
 use crate::reporting::report_trees;
 use crate::walk::Walk;
 use graph_table::GraphTable;
+use grove_decompose::Seen;
 use seeded_hash::HashSeed;
 use std::alloc::Global;
 use std::thread::{Threads, join};
 use text_parts::NoMemory;
 
-/// A report, with what is kept from one of its trees to the next.
+/// A report, with the vertices that its trees were seen to have under others.
 #[derive(Drop)]
-pub(crate) struct Reporting<'g, R> {
-    pub(crate) walk: Walk<'g>,
+pub(crate) struct Reporting<R> {
+    pub(crate) seen: Seen,
     pub(crate) report: R,
 }
 
 /// Goes on with a report by the trees of some vertices that head one each, in so many parts side by side. Types and contexts of a part are
 /// found by hashes under the seed.
-pub(crate) fn report_in_parts<'g, R: PartedReport + Drop + Send, T: Threads + Sync>(
+pub(crate) fn report_in_parts<R: PartedReport + Drop + Send, T: Threads + Sync>(
     rt: &T,
     alloc: Global,
-    table: &'g GraphTable,
+    table: &GraphTable,
     seed: HashSeed,
     heads: &[u32],
     parts: usize,
-    before: Reporting<'g, R>,
-) -> Result<Reporting<'g, R>, NoMemory>
+    before: Reporting<R>,
+) -> Result<Reporting<R>, NoMemory>
     requires whole { AreLive (graph table.now.edits) (live table.now) }
     requires heads { AllByRecursion (IsHead table.now) heads.now }
-    requires seen { OnlyInner table.now before.walk.seen }
-    ensures reported { IfOk result (λ after. AreReported R.takes (live table.now) (vertices_of table.now heads.now) before.entry.report after.report) }
-    ensures seen { IfOk result (λ after. OnlyInner table.now after.walk.seen) }
+    requires seen { OnlyInner table.now before.seen }
+    ensures reported { IfOk result (λ after. AreReported R.takes (live table.now) (vertices_of table.now heads.now) before.report after.report) }
+    ensures seen { IfOk result (λ after. OnlyInner table.now after.seen) }
 {
     if parts < 2 || heads.len() < 2 {
-        return report_part(alloc, table, heads, before);
+        return report_part(alloc, table, seed, heads, before);
     }
     let apart = Reporting {
-        walk: Walk::new(alloc, table, seed)?,
+        seen: Seen::none_of(alloc, table)?,
         report: R::blank(alloc),
     };
     let (front, back) = heads.split_at(heads.len() / 2);
@@ -53,13 +54,13 @@ pub(crate) fn report_in_parts<'g, R: PartedReport + Drop + Send, T: Threads + Sy
     let others = parts - fewer;
     let (back, front) = join(
         rt,
-        move || -> Result<Reporting<'_, R>, NoMemory>
-            requires { AreLive (graph table.now.edits) (live table.now) × AllByRecursion (IsHead table.now) back.now × OnlyInner table.now apart.walk.seen }
-            ensures { IfOk result (λ after. AreReported R.takes (live table.entry.now) (vertices_of table.entry.now back.entry.now) apart.entry.report after.report) }
+        move || -> Result<Reporting<R>, NoMemory>
+            requires { AreLive (graph table.now.edits) (live table.now) × AllByRecursion (IsHead table.now) back.now × OnlyInner table.now apart.seen }
+            ensures { IfOk result (λ after. AreReported R.takes (live table.entry.now) (vertices_of table.entry.now back.entry.now) apart.report after.report) }
         { report_in_parts(rt, alloc, table, seed, back, others, apart) },
-        move || -> Result<Reporting<'_, R>, NoMemory>
-            requires { AreLive (graph table.now.edits) (live table.now) × AllByRecursion (IsHead table.now) front.now × OnlyInner table.now before.walk.seen }
-            ensures { IfOk result (λ after. AreReported R.takes (live table.entry.now) (vertices_of table.entry.now front.entry.now) before.entry.report after.report × OnlyInner table.entry.now after.walk.seen) }
+        move || -> Result<Reporting<R>, NoMemory>
+            requires { AreLive (graph table.now.edits) (live table.now) × AllByRecursion (IsHead table.now) front.now × OnlyInner table.now before.seen }
+            ensures { IfOk result (λ after. AreReported R.takes (live table.entry.now) (vertices_of table.entry.now front.entry.now) before.report after.report × OnlyInner table.entry.now after.seen) }
         { report_in_parts(rt, alloc, table, seed, front, fewer, before) },
     );
     let mut front = front?;
@@ -69,25 +70,22 @@ pub(crate) fn report_in_parts<'g, R: PartedReport + Drop + Send, T: Threads + Sy
 }
 
 // Goes on with a report by the trees of some vertices that head one each.
-fn report_part<'g, R: PartedReport + Drop>(
+fn report_part<R: PartedReport + Drop>(
     alloc: Global,
-    table: &'g GraphTable,
+    table: &GraphTable,
+    seed: HashSeed,
     heads: &[u32],
-    before: Reporting<'g, R>,
-) -> Result<Reporting<'g, R>, NoMemory>
+    before: Reporting<R>,
+) -> Result<Reporting<R>, NoMemory>
     requires whole { AreLive (graph table.now.edits) (live table.now) }
     requires heads { AllByRecursion (IsHead table.now) heads.now }
-    requires seen { OnlyInner table.now before.walk.seen }
-    ensures reported { IfOk result (λ after. AreReported R.takes (live table.now) (vertices_of table.now heads.now) before.entry.report after.report) }
-    ensures seen { IfOk result (λ after. OnlyInner table.now after.walk.seen) }
+    requires seen { OnlyInner table.now before.seen }
+    ensures reported { IfOk result (λ after. AreReported R.takes (live table.now) (vertices_of table.now heads.now) before.report after.report) }
+    ensures seen { IfOk result (λ after. OnlyInner table.now after.seen) }
 {
-    let mut reporting = before;
-    report_trees(
-        alloc,
-        table,
-        heads,
-        &mut reporting.walk,
-        &mut reporting.report,
-    )?;
-    Ok(reporting)
+    let Reporting { seen, mut report } = before;
+    let mut walk = Walk::after(alloc, seen, seed)?;
+    report_trees(alloc, table, heads, &mut walk, &mut report)?;
+    let seen = walk.into_seen();
+    Ok(Reporting { seen, report })
 }

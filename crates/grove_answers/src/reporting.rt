@@ -14,7 +14,7 @@ use crate::report::Report;
 use crate::walk::Walk;
 use edit_table::EditTable;
 use graph_table::GraphTable;
-use grove_decompose::cycle_heads;
+use grove_decompose::{Seen, cycle_heads};
 use grove_printer::Section;
 use seeded_hash::HashSeed;
 use std::alloc::Global;
@@ -67,7 +67,7 @@ fn report_program_in_parts<R: PartedReport + Drop + Send, T: Threads + Sync>(
     let heads = &program.heads;
     let seed = program.seed;
     let reporting = Reporting {
-        walk: Walk::new(alloc, table, seed)?,
+        seen: Seen::none_of(alloc, table)?,
         report,
     };
     let reporting = report_section_in_parts(
@@ -90,7 +90,7 @@ fn report_program_in_parts<R: PartedReport + Drop + Send, T: Threads + Sync>(
         parts,
         reporting,
     )?;
-    let cycles = cycle_heads(alloc, table, &reporting.walk.seen)?;
+    let cycles = cycle_heads(alloc, table, &reporting.seen)?;
     let reporting = report_section_in_parts(
         rt,
         alloc,
@@ -105,25 +105,33 @@ fn report_program_in_parts<R: PartedReport + Drop + Send, T: Threads + Sync>(
 }
 
 // Goes on with a report by the trees of some vertices that head one each, under a heading.
-fn report_section_in_parts<'g, R: PartedReport + Drop + Send, T: Threads + Sync>(
+fn report_section_in_parts<R: PartedReport + Drop + Send, T: Threads + Sync>(
     rt: &T,
     alloc: Global,
     section: Section,
-    table: &'g GraphTable,
+    table: &GraphTable,
     seed: HashSeed,
     heads: &[u32],
     parts: usize,
-    before: Reporting<'g, R>,
-) -> Result<Reporting<'g, R>, NoMemory>
+    before: Reporting<R>,
+) -> Result<Reporting<R>, NoMemory>
     requires whole { AreLive (graph table.now.edits) (live table.now) }
     requires heads { AllByRecursion (IsHead table.now) heads.now }
-    requires seen { OnlyInner table.now before.walk.seen }
-    ensures reported { IfOk result (λ after. AreReported (TakesSection R.begins R.takes section) (live table.now) (vertices_of table.now heads.now) before.entry.report after.report) }
-    ensures seen { IfOk result (λ after. OnlyInner table.now after.walk.seen) }
+    requires seen { OnlyInner table.now before.seen }
+    ensures reported { IfOk result (λ after. AreReported (TakesSection R.begins R.takes section) (live table.now) (vertices_of table.now heads.now) before.report after.report) }
+    ensures seen { IfOk result (λ after. OnlyInner table.now after.seen) }
 {
-    let mut reporting = before;
-    reporting.report.begin(section, heads.len())?;
-    report_in_parts(rt, alloc, table, seed, heads, parts, reporting)
+    let Reporting { seen, mut report } = before;
+    report.begin(section, heads.len())?;
+    report_in_parts(
+        rt,
+        alloc,
+        table,
+        seed,
+        heads,
+        parts,
+        Reporting { seen, report },
+    )
 }
 
 // Reports all trees of a program.

@@ -113,11 +113,11 @@ fn answer_in_parts<R: Threads + Sync>(
         Question::Merge => merge_text(alloc, text),
         Question::Show => {
             let table = read_edit_table(alloc, text, seed)?;
-            Ok(print_text_in_parts(rt, alloc, table, seed, parts)?)
+            Ok(show_in_parts(rt, alloc, seed, table, parts)?)
         }
         Question::Check => {
             let table = read_edit_table(alloc, text, seed)?;
-            Ok(check_text_in_parts(rt, alloc, table, seed, parts)?)
+            Ok(check_in_parts(rt, alloc, seed, table, parts)?)
         }
     }
 }
@@ -218,6 +218,32 @@ fn check(alloc: Global, seed: HashSeed, table: EditTable) -> Result<Vec<u8>, NoM
     ensures { IfOk result (λ text. IsCheckText (graph table.edits) text.items) }
 {
     Ok(check_text(alloc, table, seed)?)
+}
+
+fn show_in_parts<R: Threads + Sync>(
+    rt: &R,
+    alloc: Global,
+    seed: HashSeed,
+    table: EditTable,
+    parts: usize,
+) -> Result<Vec<u8>, NoMemory>
+    requires { Ascends table.edits }
+    ensures { IfOk result (λ text. IsPrintText (graph table.edits) text.items) }
+{
+    Ok(print_text_in_parts(rt, alloc, table, seed, parts)?)
+}
+
+fn check_in_parts<R: Threads + Sync>(
+    rt: &R,
+    alloc: Global,
+    seed: HashSeed,
+    table: EditTable,
+    parts: usize,
+) -> Result<Vec<u8>, NoMemory>
+    requires { Ascends table.edits }
+    ensures { IfOk result (λ text. IsCheckText (graph table.edits) text.items) }
+{
+    Ok(check_text_in_parts(rt, alloc, table, seed, parts)?)
 }
 
 // No edit is kept: the lines are sorted where they stand.
