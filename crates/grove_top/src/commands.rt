@@ -13,7 +13,7 @@ ghost use Rattle.grove_top.specs.Words.{most_loads};
 ghost use Rattle.grove_top.specs.Due.{IsAnswerTo, IsAnswered, IsReported, IsSummarized, top_rules};
 
 use crate::command::{Command, Question};
-use edit_merge::merge_lines;
+use edit_merge::{merge_lines, merge_lines_in_parts};
 use edit_table::EditTable;
 use edit_text::{TextFault, split_version, write_version};
 use grove_answers::{check_text, check_text_in_parts, print_text, print_text_in_parts};
@@ -110,7 +110,7 @@ fn answer_in_parts<R: Threads + Sync>(
 {
     let parts = part_count(rt, text.len());
     match question {
-        Question::Merge => merge_text(alloc, text),
+        Question::Merge => merge_text_in_parts(rt, alloc, text, parts),
         Question::Show => {
             let table = read_edit_table(alloc, text, seed)?;
             Ok(show_in_parts(rt, alloc, seed, table, parts)?)
@@ -254,6 +254,23 @@ fn merge_text(alloc: Global, text: &[u8]) -> Result<Vec<u8>, TextFault>
 {
     let (version, lines) = split_version(text);
     match merge_lines(alloc, version, lines) {
+        Ok(merged) => Ok(with_version(alloc, version, merged)?),
+        Err(fault) => Err(fault_of_text(version, fault)),
+    }
+}
+
+fn merge_text_in_parts<R: Threads + Sync>(
+    rt: &R,
+    alloc: Global,
+    text: &[u8],
+    parts: usize,
+) -> Result<Vec<u8>, TextFault>
+    requires { length text.now ≤ most_bytes }
+    ensures answered { IfOk result (λ merged. IsAnswered Merge text.now merged.items) }
+    ensures fault { IfErr result (HasWholeFault text.now) }
+{
+    let (version, lines) = split_version(text);
+    match merge_lines_in_parts(rt, alloc, version, lines, parts) {
         Ok(merged) => Ok(with_version(alloc, version, merged)?),
         Err(fault) => Err(fault_of_text(version, fault)),
     }
