@@ -2,6 +2,7 @@ pub mod Canonical
 pub mod Copied
 pub mod EditLines
 pub mod Groups
+pub mod InParts
 pub mod Moved
 pub mod NamedLines
 pub mod OneEdge

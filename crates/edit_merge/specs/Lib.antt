@@ -1,3 +1,4 @@
 pub mod EditLine
+pub mod InParts
 pub mod Merged
 pub mod Named

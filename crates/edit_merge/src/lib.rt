@@ -4,10 +4,12 @@
 #![tactic(auto)]
 
 mod edit_line;
+mod joined_names;
 mod merge;
 mod named_line;
 mod naming;
+mod naming_in_parts;
 mod writing;
 
-pub use merge::merge_lines;
+pub use merge::{merge_lines, merge_lines_in_parts};
 pub use text_parts::NoMemory;

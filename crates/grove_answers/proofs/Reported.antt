@@ -94,3 +94,18 @@ module _ {R : Type 0} (begins : R → Section → ℕ → R → Type 0) (takes :
     multi = multi.taken;
     cycle = cycle.taken;
   }
+
+module _ {R : Type 0} (blank : R → Type 0) (takes : R → List (List Node) → List (List MarkedNode) → R → Type 0) (live : List Edge) where
+  -- trees that were taken in, and those of a part that began blank
+  pub reported_joined : ((r s t : R) (a b : List (List Node)) (m n : List (List MarkedNode)) → takes r a m s → takes s b n t → takes r (a ++ b) (m ++ n) t)
+      → (all vs ws : List Vertex) (before between begun part after : R) → all ≡ vs ++ ws → AreReported takes live vs before between → blank begun → AreReported takes live ws begun part
+      → ((none : R) (trees : List (List Node)) (marked : List (List MarkedNode)) → blank none → takes none trees marked part → takes between trees marked after) → AreReported takes live all before after
+  reported_joined more all vs ws before between begun part after is_all first is_blank then joined =
+      subst (λ (us : List Vertex). AreReported takes live us before after) (sym is_all)
+      (record {
+        trees = first.trees ++ then.trees;
+        marked = first.marked ++ then.marked;
+        are_trees = trees-append live vs ws first.trees then.trees first.are_trees then.are_trees;
+        are_marked = marked-append first.trees then.trees first.marked then.marked first.are_marked then.are_marked;
+        taken = more before between after first.trees then.trees first.marked then.marked first.taken (joined begun then.trees then.marked is_blank then.taken);
+      })

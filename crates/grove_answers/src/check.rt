@@ -1,4 +1,4 @@
-ghost use Rattle.std.specs.Prelude.{◌≡◌, ℕ, ◌+◌, ◌++◌, IfOk, OnOk, refl};
+ghost use Rattle.std.specs.Prelude.{◌≡◌, ℕ, ◌+◌, ◌++◌, [], IfOk, OnOk, refl};
 ghost use Rattle.std.proofs.Common.{◌∙◌};
 ghost use Rattle.grove_edits.specs.Graph.{graph, Ascends};
 ghost use Rattle.plain_typing.specs.Typed.{AreTyped};
@@ -7,13 +7,15 @@ ghost use Rattle.grove_answers.specs.Texts.{IsCheckText, roots_line};
 ghost use Rattle.grove_answers.specs.Laws.{lines_none, lines_more, typed_none, typed_more};
 
 use crate::marks::marks_in;
+use crate::parted_report::PartedReport;
 use crate::report::Report;
-use crate::reporting::report_graph;
+use crate::reporting::{report_graph, report_graph_in_parts};
 use edit_table::EditTable;
 use grove_printer::{Section, print_marked_lines_of};
 use marking::MarkedTree;
 use seeded_hash::HashSeed;
 use std::alloc::Global;
+use std::thread::Threads;
 use text_parts::{NoMemory, write_number};
 use type_core::TypeTable;
 
@@ -29,6 +31,33 @@ pub fn check_text(alloc: Global, table: EditTable, seed: HashSeed) -> Result<Vec
         typed: 0,
     };
     report_graph(alloc, table, seed, &mut checked)?;
+    with_roots(checked)
+}
+
+/// The same text, its trees checked in so many parts side by side.
+pub fn check_text_in_parts<T: Threads + Sync>(
+    rt: &T,
+    alloc: Global,
+    table: EditTable,
+    seed: HashSeed,
+    parts: usize,
+) -> Result<Vec<u8>, NoMemory>
+    requires { Ascends table.edits }
+    ensures { IfOk result (λ text. IsCheckText (graph table.edits) text.items) }
+{
+    let checked = Checked {
+        text: Vec::new(alloc),
+        roots: 0,
+        typed: 0,
+    };
+    let checked = report_graph_in_parts(rt, alloc, table, seed, parts, checked)?;
+    with_roots(checked)
+}
+
+// The marked lines, and behind them how many trees there are and how many are typed.
+fn with_roots(checked: Checked) -> Result<Vec<u8>, NoMemory>
+    ensures { IfOk result (λ text. text.items ≡ checked.text.items ++ roots_line checked.roots checked.typed) }
+{
     let Checked {
         mut text,
         roots,
@@ -74,6 +103,25 @@ impl Report for Checked {
         if marks_in(marked.added()) == 0 {
             self.typed = self.typed.checked_add(1).ok_or(NoMemory)?;
         }
+        Ok(())
+    }
+}
+
+impl PartedReport for Checked {
+    ghost is_blank = { λ checked. (checked.text.items ≡ []) × (checked.roots ≡ 0) × (checked.typed ≡ 0) };
+
+    fn blank(alloc: Global) -> Checked {
+        Checked {
+            text: Vec::new(alloc),
+            roots: 0,
+            typed: 0,
+        }
+    }
+
+    // Lists are begun where their parts are joined, so a part counts no roots.
+    fn join(&mut self, part: &Checked) -> Result<(), NoMemory> {
+        self.text.extend_from_slice(&part.text)?;
+        self.typed = self.typed.checked_add(part.typed).ok_or(NoMemory)?;
         Ok(())
     }
 }

@@ -1,4 +1,4 @@
-ghost use Rattle.std.specs.Prelude.{◌≡◌, OnOk};
+ghost use Rattle.std.specs.Prelude.{◌≡◌, IfOk, OnOk};
 ghost use Rattle.std.specs.List.{AllByRecursion};
 ghost use Rattle.grove_edits.specs.Graph.{graph, Ascends};
 ghost use Rattle.graph_words.specs.Whole.{AreLive};
@@ -7,15 +7,18 @@ ghost use Rattle.grove_decompose.specs.Trees.{OnlyInner, vertices_of};
 ghost use Rattle.grove_answers.specs.Program.{IsHead, IsProgram};
 ghost use Rattle.grove_answers.specs.Reports.{AreReported, TakesSection, IsReported};
 
+use crate::parted_report::PartedReport;
+use crate::parts::{Reporting, report_in_parts};
 use crate::program::Program;
 use crate::report::Report;
 use crate::walk::Walk;
 use edit_table::EditTable;
 use graph_table::GraphTable;
-use grove_decompose::cycle_heads;
+use grove_decompose::{Seen, cycle_heads};
 use grove_printer::Section;
 use seeded_hash::HashSeed;
 use std::alloc::Global;
+use std::thread::Threads;
 use text_parts::NoMemory;
 
 /// Reports all trees of the graph of a table whose edits ascend, in the order of the print text. What it looks up it finds by hashes under
@@ -31,6 +34,104 @@ pub fn report_graph<R: Report>(
 {
     let program = Program::of(alloc, table, seed)?;
     report_program(alloc, &program, report)
+}
+
+/// The same, with the trees of each list in so many parts side by side. It hands the report on.
+pub(crate) fn report_graph_in_parts<R: PartedReport + Drop + Send, T: Threads + Sync>(
+    rt: &T,
+    alloc: Global,
+    table: EditTable,
+    seed: HashSeed,
+    parts: usize,
+    report: R,
+) -> Result<R, NoMemory>
+    requires { Ascends table.edits }
+    ensures { IfOk result (λ after. IsReported R.begins R.takes (graph table.edits) report after) }
+{
+    let program = Program::of(alloc, table, seed)?;
+    report_program_in_parts(rt, alloc, &program, parts, report)
+}
+
+// Reports all trees of a program, those of each list in so many parts side by side.
+fn report_program_in_parts<R: PartedReport + Drop + Send, T: Threads + Sync>(
+    rt: &T,
+    alloc: Global,
+    program: &Program,
+    parts: usize,
+    report: R,
+) -> Result<R, NoMemory>
+    requires { IsProgram program.now }
+    ensures { IfOk result (λ after. IsReported R.begins R.takes (graph program.now.table.edits) report after) }
+{
+    let table = &program.table;
+    let heads = &program.heads;
+    let seed = program.seed;
+    let reporting = Reporting {
+        seen: Seen::none_of(alloc, table)?,
+        report,
+    };
+    let reporting = report_section_in_parts(
+        rt,
+        alloc,
+        Section::NoParent,
+        table,
+        seed,
+        &heads.none,
+        parts,
+        reporting,
+    )?;
+    let reporting = report_section_in_parts(
+        rt,
+        alloc,
+        Section::Multi,
+        table,
+        seed,
+        &heads.multi,
+        parts,
+        reporting,
+    )?;
+    let cycles = cycle_heads(alloc, table, &reporting.seen)?;
+    let reporting = report_section_in_parts(
+        rt,
+        alloc,
+        Section::Cycle,
+        table,
+        seed,
+        &cycles,
+        parts,
+        reporting,
+    )?;
+    Ok(reporting.report)
+}
+
+// Goes on with a report by the trees of some vertices that head one each, under a heading.
+fn report_section_in_parts<R: PartedReport + Drop + Send, T: Threads + Sync>(
+    rt: &T,
+    alloc: Global,
+    section: Section,
+    table: &GraphTable,
+    seed: HashSeed,
+    heads: &[u32],
+    parts: usize,
+    before: Reporting<R>,
+) -> Result<Reporting<R>, NoMemory>
+    requires whole { AreLive (graph table.now.edits) (live table.now) }
+    requires heads { AllByRecursion (IsHead table.now) heads.now }
+    requires seen { OnlyInner table.now before.seen }
+    ensures reported { IfOk result (λ after. AreReported (TakesSection R.begins R.takes section) (live table.now) (vertices_of table.now heads.now) before.report after.report) }
+    ensures seen { IfOk result (λ after. OnlyInner table.now after.seen) }
+{
+    let Reporting { seen, mut report } = before;
+    report.begin(section, heads.len())?;
+    report_in_parts(
+        rt,
+        alloc,
+        table,
+        seed,
+        heads,
+        parts,
+        Reporting { seen, report },
+    )
 }
 
 // Reports all trees of a program.
@@ -84,7 +185,7 @@ fn report_section<'g, R: Report>(
     report_trees(alloc, table, heads, walk, report)
 }
 
-fn report_trees<'g, R: Report>(
+pub(crate) fn report_trees<'g, R: Report>(
     alloc: Global,
     table: &'g GraphTable,
     heads: &[u32],

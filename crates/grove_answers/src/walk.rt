@@ -37,12 +37,26 @@ impl<'g> Walk<'g> {
     ) -> Result<Walk<'g>, NoMemory>
         ensures { IfOk result (λ walk. OnlyInner table.now walk.seen) }
     {
+        Walk::after(alloc, Seen::none_of(alloc, table)?, seed)
+    }
+
+    /// Before a further tree, where some were seen, and without the types and contexts of those.
+    pub(crate) fn after(alloc: Global, seen: Seen, seed: HashSeed) -> Result<Walk<'g>, NoMemory>
+        ensures { IfOk result (λ walk. walk.seen ≡ seen) }
+    {
         Ok(Walk {
-            seen: Seen::none_of(alloc, table)?,
+            seen,
             types: TypeTable::with_seed(alloc, seed)?,
             contexts: CtxTable::with_seed(alloc, seed)?,
             room: OpenFrames::new(alloc),
         })
+    }
+
+    /// What was seen.
+    pub(crate) fn into_seen(self) -> Seen
+        ensures { result ≡ self.entry.seen }
+    {
+        self.seen
     }
 
     /// The tree of a vertex that heads one.
