@@ -28,7 +28,7 @@ pub fn relay_in_runs<R: Threads + Wait + Sync, M: Machine<Command = Piece>>(
     ensures replays { IfOk result (λ ran. Replays M.after M.effect M.reply machine ran.1 ran.0) }
 {
     let cuts = cut_all(alloc, lists)?;
-    run_relay(rt, alloc, machine, &cuts, room)
+    Ok(run_relay(rt, alloc, machine, &cuts, room)?)
 }
 
 fn cut_all<'t>(alloc: Global, lists: &'t [SharedEdits]) -> Result<Vec<Items<Stretch<'t>>>, NoMemory>
