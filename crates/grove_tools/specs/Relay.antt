@@ -1,7 +1,6 @@
 -- What `relay` makes of a text.
 use Rattle.std.specs.Prelude.{◌≡◌, ℕ, ◌+◌, ◌%◌, ◌==◌, List, [], ◌∷◌, ◌++◌, length, codes, decimal, slice_get, None, Some, if◌then◌else◌}
 use Rattle.grove_edits.specs.declared.answer.Answer.{Answer}
-use Rattle.grove_edits.specs.declared.command.Command.{Command}
 use Rattle.grove_edits.specs.declared.edit.Edit.{Edit}
 use Rattle.grove_edits.specs.Graph.{graph}
 use Rattle.grove_sorts.specs.declared.version.Version.{Version}
@@ -9,9 +8,9 @@ use Rattle.edit_text.specs.Whole.{IsTextOf}
 use Rattle.grove_answers.specs.Texts.{IsCanonicalText}
 use Rattle.shared_replica.specs.declared.journal.Entry.{Entry}
 use Rattle.shared_replica.specs.Solos.{Replays}
-use Rattle.replica_core.specs.Content.{Content, no_edits}
-use Rattle.replica_core.specs.Step.{after, effect, reply}
-use Rattle.live_relay.specs.Flow.{AreEntriesOf}
+use Rattle.edit_runs.specs.declared.piece.Piece.{Piece}
+use Rattle.edit_runs.specs.Gathering.{after, effect, reply}
+use Rattle.edit_runs.specs.Runs.{AreEntriesInRuns}
 use Rattle.grove_tools.specs.declared.outcome.Handed.{Handed}
 
 -- of edits that are dealt to so many senders in turn, those of one, counted from 0: the first edit here has this number, from 0
@@ -34,16 +33,17 @@ abbrev pub sender_lines : ℕ → List (List Edit) → List ℕ
 sender_lines number [] = []
 sender_lines number (list ∷ lists) = sender_line number list ++ sender_lines (number + 1) lists
 
--- A journal is handed out, of a replica that began empty: it has the edits of each list once and in order, and no other entries. What is
--- written is how many edits each list has, and the canonical text of the replica. No disk is handed out.
+-- A journal is handed out, of a machine that began empty and gathers what it takes: it hands on the edits of each list once and in order,
+-- in runs, and has no other entries. What is written is how many edits each list has, and the canonical text of what was gathered. No disk
+-- is handed out.
 pub record HasFlowed (lists : List (List Edit)) (handed : Handed) (answer : List ℕ) : Type 0 where
-  pub journal : List (Entry Content Command (List Edit) Answer)
+  pub journal : List (Entry (List Edit) Piece (List Edit) Answer)
   pub is_handed : handed.relayed ≡ Some journal
-  pub entries : AreEntriesOf lists journal
-  pub replica : Content
-  pub replays : Replays after effect reply no_edits journal replica
+  pub entries : AreEntriesInRuns lists journal
+  pub gathered : List Edit
+  pub replays : Replays after effect reply [] journal gathered
   pub canonical : List ℕ
-  pub is_canonical : IsCanonicalText (graph replica.edits) canonical
+  pub is_canonical : IsCanonicalText (graph gathered) canonical
   pub written : answer ≡ sender_lines 1 lists ++ canonical
   pub no_disk : handed.kept ≡ None
 

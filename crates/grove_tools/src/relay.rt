@@ -3,34 +3,31 @@ ghost use Rattle.grove_edits.specs.declared.edit.Edit.{Edit};
 ghost use Rattle.grove_edits.specs.Graph.{graph};
 ghost use Rattle.grove_answers.specs.Texts.{IsCanonicalText};
 ghost use Rattle.shared_replica.specs.Solos.{Replays};
-ghost use Rattle.replica_core.specs.Content.{no_edits};
-ghost use Rattle.replica_core.specs.Step.{after, effect, reply};
-ghost use Rattle.live_relay.specs.Flow.{AreEntriesOf};
+ghost use Rattle.edit_runs.specs.Gathering.{after, effect, reply};
+ghost use Rattle.edit_runs.specs.Runs.{AreEntriesInRuns};
 ghost use Rattle.grove_calls.specs.Due.{IsRefusal, most_bytes};
 ghost use Rattle.grove_tools.specs.declared.tool.Tool.TheVariants.{Relay};
 ghost use Rattle.grove_tools.specs.Due.{tool_rules};
 ghost use Rattle.grove_tools.specs.Relay.{AreDealt, AreDealtOf, HasFlowed, IsRelayed, dealt_to, sender_line, sender_lines};
 
 use crate::outcome::Handed;
+use edit_runs::{Gathering, relay_in_runs};
 use grove_calls::{Formed, Refusal, read_edits};
 use grove_edits::{Edit, EditList};
-use live_relay::run_relay;
-use replica_core::Replica;
-use seeded_hash::HashSeed;
+use shared_edits::SharedEdits;
 use shared_replica::Journal;
 use std::alloc::Global;
 use std::sync::Wait;
 use std::thread::Threads;
 use text_parts::{NoMemory, write_number};
 
-/// How many edits the queue of the relay has room for.
+/// How many runs of edits the queue of the relay has room for.
 const ROOM: usize = 64;
 
-/// Lets the edits of a text flow from so many senders to a replica.
+/// Lets the edits of a text flow from so many senders to a machine that gathers them.
 pub(crate) fn form_relay<R: Threads + Wait + Sync>(
     rt: &R,
     alloc: Global,
-    seed: HashSeed,
     senders: u32,
     text: &[u8],
 ) -> Result<Formed<Handed>, Refusal>
@@ -40,11 +37,11 @@ pub(crate) fn form_relay<R: Threads + Wait + Sync>(
     ensures refused { IfErr result (IsRefusal tool_rules (Relay senders) text.now) }
 {
     let lists = read_and_deal(alloc, senders, text)?;
-    Ok(flow(rt, alloc, seed, &lists)?)
+    Ok(flow(rt, alloc, &lists)?)
 }
 
 // The edits of a text, dealt to so many senders.
-fn read_and_deal(alloc: Global, senders: u32, text: &[u8]) -> Result<Vec<EditList>, Refusal>
+fn read_and_deal(alloc: Global, senders: u32, text: &[u8]) -> Result<Vec<SharedEdits>, Refusal>
     requires senders { 1 ≤ senders }
     requires short { length text.now ≤ most_bytes }
     ensures dealt { IfOk result (λ lists. AreDealtOf senders text.now lists.items) }
@@ -54,32 +51,31 @@ fn read_and_deal(alloc: Global, senders: u32, text: &[u8]) -> Result<Vec<EditLis
     Ok(deal(alloc, senders, &edits)?)
 }
 
-// What is formed once the lists flowed to an empty replica.
+// What is formed once the lists flowed to an empty machine.
 fn flow<R: Threads + Wait + Sync>(
     rt: &R,
     alloc: Global,
-    seed: HashSeed,
-    lists: &[EditList],
+    lists: &[SharedEdits],
 ) -> Result<Formed<Handed>, NoMemory>
     requires { (1 ≤ length lists.now) × (length lists.now ≤ 8) }
     ensures { IfOk result (λ formed. HasFlowed lists.now formed.handed formed.text.items) }
 {
-    let (replica, journal) = relayed(rt, alloc, seed, lists)?;
-    formed(alloc, lists, &replica, journal)
+    let (gathered, journal) = relayed(rt, alloc, lists)?;
+    formed(alloc, lists, &gathered, journal)
 }
 
-// What is formed of a replica to which the lists flowed, and of its journal.
+// What is formed of a machine to which the lists flowed, and of its journal.
 fn formed(
     alloc: Global,
-    lists: &[EditList],
-    replica: &Replica,
-    journal: Journal<Replica>,
+    lists: &[SharedEdits],
+    gathered: &Gathering,
+    journal: Journal<Gathering>,
 ) -> Result<Formed<Handed>, NoMemory>
-    requires entries { AreEntriesOf lists.now journal }
-    requires replays { Replays after effect reply no_edits journal replica.now }
+    requires entries { AreEntriesInRuns lists.now journal }
+    requires replays { Replays after effect reply [] journal gathered.now }
     ensures { IfOk result (λ formed. HasFlowed lists.now formed.handed formed.text.items) }
 {
-    let text = written(alloc, lists, replica)?;
+    let text = written(alloc, lists, gathered)?;
     Ok(Formed {
         text,
         handed: Handed {
@@ -90,7 +86,7 @@ fn formed(
 }
 
 // The edits of each sender: they are dealt in turn.
-fn deal(alloc: Global, senders: u32, edits: &EditList) -> Result<Vec<EditList>, NoMemory>
+fn deal(alloc: Global, senders: u32, edits: &EditList) -> Result<Vec<SharedEdits>, NoMemory>
     requires { 1 ≤ senders }
     ensures { IfOk result (λ lists. AreDealt senders edits.now lists.items) }
 {
@@ -101,7 +97,12 @@ fn deal(alloc: Global, senders: u32, edits: &EditList) -> Result<Vec<EditList>, 
     Ok(lists)
 }
 
-fn edits_of(alloc: Global, senders: u32, sender: u32, edits: &[Edit]) -> Result<EditList, NoMemory>
+fn edits_of(
+    alloc: Global,
+    senders: u32,
+    sender: u32,
+    edits: &[Edit],
+) -> Result<SharedEdits, NoMemory>
     requires { 1 ≤ senders }
     ensures { IfOk result (λ list. list ≡ dealt_to senders sender 0 edits.now) }
 {
@@ -112,34 +113,32 @@ fn edits_of(alloc: Global, senders: u32, sender: u32, edits: &[Edit]) -> Result<
             list.push(*edit)?;
         }
     }
-    Ok(list)
+    SharedEdits::new(alloc, list)
 }
 
-// An empty replica to which the lists flowed, and its journal.
+// An empty machine to which the lists flowed, and its journal.
 fn relayed<R: Threads + Wait + Sync>(
     rt: &R,
     alloc: Global,
-    seed: HashSeed,
-    lists: &[EditList],
-) -> Result<(Replica, Journal<Replica>), NoMemory>
+    lists: &[SharedEdits],
+) -> Result<(Gathering, Journal<Gathering>), NoMemory>
     requires { (1 ≤ length lists.now) × (length lists.now ≤ 8) }
-    ensures entries { IfOk result (λ ran. AreEntriesOf lists.now ran.1) }
-    ensures replays { IfOk result (λ ran. Replays after effect reply no_edits ran.1 ran.0) }
+    ensures entries { IfOk result (λ ran. AreEntriesInRuns lists.now ran.1) }
+    ensures replays { IfOk result (λ ran. Replays after effect reply [] ran.1 ran.0) }
 {
-    let replica = Replica::with_seed(alloc, seed)?;
-    Ok(run_relay(rt, alloc, replica, lists, ROOM)?)
+    relay_in_runs(rt, alloc, Gathering::new(alloc), lists, ROOM)
 }
 
-// How many edits each sender has, and the canonical text of the replica.
-fn written(alloc: Global, lists: &[EditList], replica: &Replica) -> Result<Vec<u8>, NoMemory>
-    ensures { IfOk result (λ text. (canonical : List ℕ) × IsCanonicalText (graph replica.now.edits) canonical × (text.items ≡ sender_lines 1 lists.now ++ canonical)) }
+// How many edits each sender has, and the canonical text of the machine.
+fn written(alloc: Global, lists: &[SharedEdits], gathered: &Gathering) -> Result<Vec<u8>, NoMemory>
+    ensures { IfOk result (λ text. (canonical : List ℕ) × IsCanonicalText (graph gathered.now) canonical × (text.items ≡ sender_lines 1 lists.now ++ canonical)) }
 {
     let mut text = sender_text(alloc, lists)?;
-    replica.canonical(alloc, &mut text)?;
+    gathered.canonical(alloc, &mut text)?;
     Ok(text)
 }
 
-fn sender_text(alloc: Global, lists: &[EditList]) -> Result<Vec<u8>, NoMemory>
+fn sender_text(alloc: Global, lists: &[SharedEdits]) -> Result<Vec<u8>, NoMemory>
     ensures { IfOk result (λ text. text.items ≡ sender_lines 1 lists.now) }
 {
     let mut text = Vec::new(alloc);
@@ -149,7 +148,7 @@ fn sender_text(alloc: Global, lists: &[EditList]) -> Result<Vec<u8>, NoMemory>
     Ok(text)
 }
 
-fn append_sender(number: u64, list: &EditList, out: &mut Vec<u8>) -> Result<(), NoMemory>
+fn append_sender(number: u64, list: &SharedEdits, out: &mut Vec<u8>) -> Result<(), NoMemory>
     ensures { OnOk result (out.new.items ≡ out.old.items ++ sender_line number list.now) }
 {
     out.extend_from_slice(b"sender ")?;

@@ -42,7 +42,7 @@ impl<'r, R: Threads + Wait + Sync> Form for ToolForm<'r, R> {
 
     fn form(&self, alloc: Global, text: &[u8]) -> Result<Formed<Handed>, Refusal> {
         match self.tool {
-            Tool::Relay { senders } => form_relay(self.rt, alloc, self.seed, senders, text),
+            Tool::Relay { senders } => form_relay(self.rt, alloc, senders, text),
             Tool::Infer => form_infer(alloc, self.seed, text),
             Tool::Keep => form_keep(alloc, text),
             Tool::Undo { author } => form_undo(alloc, self.seed, author, text),

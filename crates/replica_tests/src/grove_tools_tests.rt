@@ -94,7 +94,7 @@ fn told<R: Threads + Wait + Sync>(
 fn edits_are_dealt_and_flow(rt: HostRuntime) -> Result<(), Fail> {
     let mut text = Vec::new(rt.alloc());
     let told = told(&rt, rt.alloc(), &["relay", "2"], DELETED_WINS, 0, &mut text)?;
-    assert_eq!(rt; told, (ToolStatus::Done, Some(4), None));
+    assert_eq!(rt; told, (ToolStatus::Done, Some(2), None));
     assert_eq!(rt;
         text.as_slice(),
         b"sender 1 edits 2\nsender 2 edits 2\n-1.2 0.0 root main 1.1 num:7\n".as_slice()

@@ -3,10 +3,10 @@ ghost use Rattle.grove_edits.specs.declared.answer.Answer.TheVariants.{Done};
 ghost use Rattle.live_relay.specs.Seats.{after_send};
 
 use graph_words::Steps;
-use grove_edits::{Actor, Answer, Command, Edge, Edit, EditList, Vertex};
+use grove_edits::{Actor, Answer, Command, Edge, Edit, Vertex};
 use grove_names::Name;
 use grove_sorts::{Ctor, Position};
-use live_relay::{NoMemory, Receiver, Relay, Sender, run_relay};
+use live_relay::{Items, NoMemory, Receiver, Relay, Sender, run_relay};
 use shared_replica::{Journal, Machine, NoMemory as NoRoom};
 use std::alloc::Global;
 use std::sync::Wait;
@@ -68,8 +68,8 @@ fn insertion(author: u32, counter: u64) -> Result<Edit, Fail> {
 }
 
 // So many edits of an author.
-fn edits(alloc: Global, author: u32, many: u64) -> Result<EditList, Fail> {
-    let mut edits = EditList::new(alloc);
+fn edits(alloc: Global, author: u32, many: u64) -> Result<Items<Edit>, Fail> {
+    let mut edits = Items::new(alloc);
     for before in 0..many {
         edits.push(insertion(author, before + 1)?)?;
     }
@@ -77,7 +77,12 @@ fn edits(alloc: Global, author: u32, many: u64) -> Result<EditList, Fail> {
 }
 
 // One try to send an edit.
-fn try_one<R: Wait>(rt: &R, relay: &Relay, sender: &mut Sender, edit: Edit) -> Result<(), Edit>
+fn try_one<R: Wait>(
+    rt: &R,
+    relay: &Relay<Edit>,
+    sender: &mut Sender<Edit>,
+    edit: Edit,
+) -> Result<(), Edit>
     requires { sender.old.relay ≡ relay.now }
     ensures { (sender.new.relay ≡ sender.old.relay) × (sender.new.number ≡ sender.old.number) }
 {
@@ -85,7 +90,11 @@ fn try_one<R: Wait>(rt: &R, relay: &Relay, sender: &mut Sender, edit: Edit) -> R
 }
 
 // One try to take an edit.
-fn take_one<R: Wait>(rt: &R, relay: &Relay, receiver: &mut Receiver) -> Option<(u32, Edit)>
+fn take_one<R: Wait>(
+    rt: &R,
+    relay: &Relay<Edit>,
+    receiver: &mut Receiver<Edit>,
+) -> Option<(u32, Edit)>
     requires { receiver.old.relay ≡ relay.now }
     ensures { receiver.new.relay ≡ receiver.old.relay }
 {
@@ -96,9 +105,9 @@ fn take_one<R: Wait>(rt: &R, relay: &Relay, receiver: &mut Receiver) -> Option<(
 // first is taken.
 fn gives_back<R: Wait>(
     rt: &R,
-    relay: &Relay,
-    sender: &mut Sender,
-    receiver: &mut Receiver,
+    relay: &Relay<Edit>,
+    sender: &mut Sender<Edit>,
+    receiver: &mut Receiver<Edit>,
     first: &Edit,
     second: &Edit,
 ) -> bool
@@ -156,11 +165,11 @@ fn is_over<R: Clock>(rt: &R, begun: Instant) -> bool {
 // Sends all edits, each again until there is room or the time is over.
 fn send_all<R: Wait + Clock>(
     rt: &R,
-    relay: &Relay,
+    relay: &Relay<Edit>,
     begun: Instant,
-    mut sender: Sender,
+    mut sender: Sender<Edit>,
     edits: &[Edit],
-) -> Sender
+) -> Sender<Edit>
     requires { sender.relay ≡ relay.now }
     ensures { (result.relay ≡ relay.now) × (result.number ≡ sender.number) }
 {
@@ -181,12 +190,12 @@ fn send_all<R: Wait + Clock>(
 // Takes until so many edits of each sender came or the time is over, and tells whether they were these, in order.
 fn take_all<R: Wait + Clock>(
     rt: &R,
-    relay: &Relay,
+    relay: &Relay<Edit>,
     begun: Instant,
-    mut receiver: Receiver,
+    mut receiver: Receiver<Edit>,
     first: &[Edit],
     second: &[Edit],
-) -> (Receiver, bool)
+) -> (Receiver<Edit>, bool)
     requires { receiver.relay ≡ relay.now }
     ensures { result.0.relay ≡ relay.now }
 {
@@ -226,21 +235,21 @@ fn arrives<R: Threads + Wait + Clock + Sync>(
     let relay_of = &relay;
     let (one, (two, (receiver, are))) = join(
         rt,
-        || -> Sender
+        || -> Sender<Edit>
             requires { one.relay ≡ relay_of.now }
             ensures { (result.relay ≡ relay_of.entry.now) × (result.number ≡ one.number) }
         { send_all(rt, relay_of, begun, one, first) },
-        || -> (Sender, (Receiver, bool))
+        || -> (Sender<Edit>, (Receiver<Edit>, bool))
             requires { (two.relay ≡ relay_of.now) × (receiver.relay ≡ relay_of.now) }
             ensures { (result.0.relay ≡ relay_of.entry.now) × (result.0.number ≡ two.number) × (result.1.0.relay ≡ relay_of.entry.now) }
         {
             join(
                 rt,
-                || -> Sender
+                || -> Sender<Edit>
                     requires { two.relay ≡ relay_of.now }
                     ensures { (result.relay ≡ relay_of.entry.now) × (result.number ≡ two.number) }
                 { send_all(rt, relay_of, begun, two, second) },
-                || -> (Receiver, bool)
+                || -> (Receiver<Edit>, bool)
                     requires { receiver.relay ≡ relay_of.now }
                     ensures { result.0.relay ≡ relay_of.entry.now }
                 { take_all(rt, relay_of, begun, receiver, first, second) },
@@ -264,7 +273,7 @@ fn two_senders_fifo(rt: HostRuntime) -> Result<(), Fail> {
 }
 
 // Whether the journal has the edits as pieces of a send, each once and in order, in so many of its entries.
-fn are_pieces(journal: &Journal<Counter>, send: u32, edits: &EditList) -> bool {
+fn are_pieces(journal: &Journal<Counter>, send: u32, edits: &[Edit]) -> bool {
     let mut places = 0usize;
     for entry in journal.as_slice() {
         if entry.actor != Actor::Send(send) {
@@ -284,7 +293,7 @@ fn are_pieces(journal: &Journal<Counter>, send: u32, edits: &EditList) -> bool {
         {
             return false;
         }
-        if taken.get(0) != edits.get(places) {
+        if taken.as_slice().first() != edits.get(places) {
             return false;
         }
         places = places.wrapping_add(1);
@@ -306,7 +315,7 @@ fn lists_flow_to_a_machine(rt: HostRuntime) -> Result<(), Fail> {
     assert_eq!(rt; counter.steps, 250);
     assert_eq!(rt; journal.len(), 250);
     for (index, list) in lists.iter().enumerate() {
-        assert!(rt; are_pieces(&journal, index as u32 + 1, list));
+        assert!(rt; are_pieces(&journal, index as u32 + 1, list.as_slice()));
     }
     Ok(())
 }
