@@ -1,8 +1,8 @@
 """One replica, loaded, edited at its foot and printed, by the library for C; with --beside PROGRAM beside another program that does the same.
 
 The foot of a tree is a random one of its lowest places, that of a chain its end: there a number is put, and deleted again. PROGRAM is called
-as bench/one_replica.c, and tells what it took in the same lines. Both have to print the same. At the smallest size the instructions of whole
-runs are counted too, by valgrind, since these are the same however busy the machine is. Needs a C compiler.
+as bench/one_replica.c, and tells what it took in the same lines. Both have to print the same. At smaller sizes instructions are counted too, by
+valgrind, since these are the same however busy the machine is. Needs a C compiler.
 """
 import os
 import pathlib
@@ -15,12 +15,15 @@ import programs
 from measuring import TOP, cell, head, least, need, row, words_of
 
 PAIRS_AT_FOOT = 10_000
+MOST_COUNTED = 100_000
+NO_EDITS = pathlib.Path("/dev/null")
 WHAT = {
     "load": ("load, s", 1),
     "foot": ("an edit at the foot, µs", 1e6),
     "show": ("print, s", 1),
     "memory_bytes": ("memory, MB", 1e-6),
-    "instructions": ("all of it, million instructions", 1e-6),
+    "instructions": ("load and print, million instructions", 1e-6),
+    "foot_instructions": ("an edit at the foot, thousand instructions", 1e-3),
 }
 
 
@@ -50,10 +53,15 @@ def run(program: str, *paths: pathlib.Path) -> dict[str, float]:
     return {key: float(number) for key, number in map(str.split, lines)}
 
 
-def instructions(program: str, *paths: pathlib.Path) -> dict[str, float]:
+def counted(program: str, *paths: pathlib.Path) -> float:
     words = ["valgrind", "--tool=callgrind", "--callgrind-out-file=/dev/null", program, *paths]
     told = subprocess.run(words, check=True, capture_output=True, text=True).stderr
-    return {"instructions": float(re.search(r"Collected : (\d+)", told)[1])}
+    return float(re.search(r"Collected : (\d+)", told)[1])
+
+
+def instructions(program: str, text: pathlib.Path, foot: pathlib.Path, shown: pathlib.Path) -> dict[str, float]:
+    rest = counted(program, text, NO_EDITS, shown)
+    return {"instructions": rest, "foot_instructions": (counted(program, text, foot, shown) - rest) / (2 * PAIRS_AT_FOOT)}
 
 
 def compare(kind: str, edits: int, programs_beside: list[str], repeats: int, counts: bool, folder: pathlib.Path) -> None:
@@ -84,7 +92,7 @@ def main() -> None:
         beside = [build(folder), *([words.beside] if words.beside else [])]
         for kind in ("tree", "chain"):
             for edits in words.sizes:
-                compare(kind, edits, beside, words.repeats, edits == min(words.sizes), folder)
+                compare(kind, edits, beside, words.repeats, edits <= MOST_COUNTED, folder)
 
 
 if __name__ == "__main__":
