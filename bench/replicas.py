@@ -10,8 +10,7 @@ import threading
 import time
 
 import programs
-from growth import cut, each, new_edits
-from measuring import head, in_own_process, row, words_of
+from measuring import each, head, in_own_process, row, words_of
 
 from grove import Replica
 
@@ -33,9 +32,9 @@ class Taker(threading.Thread):
     def __init__(self, size: int, author: int, edits_a_call: int, start: threading.Barrier):
         super().__init__()
         self.replica = Replica(seed=1)
-        each(self.replica.apply, cut(programs.text("tree", size), 1_000))
-        lines = new_edits(random.Random(author), size // 2, author, NEW_EDITS)
-        self.texts = cut(b"".join(lines), edits_a_call)
+        each(self.replica.apply, programs.cut(programs.text("tree", size), programs.EDITS_A_CALL))
+        lines = programs.new_edits(random.Random(author), size // 2, author, NEW_EDITS)
+        self.texts = programs.cut(b"".join(lines), edits_a_call)
         self.at_once = start
         self.processor = self.clock = 0.0
 
