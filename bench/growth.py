@@ -8,40 +8,17 @@ import pathlib
 import random
 
 import programs
-from measuring import best, head, resident, row, seconds, words_of
+from measuring import best, each, head, resident, row, seconds, words_of
 
 from grove import Replica
 
 ONE_AT_A_TIME = 2_000
-EDITS_A_CALL = 1_000
-VERSION = b"grove 2\n"
 HEADS = (
     "What", "Edits", "Memory, MB", "Bytes an edit", "Bytes a live vertex", "Load, s", "Apply, µs", "Of it the call, µs", "Act, µs", "Undo, µs",
     "Print, s", "Print, MB", "Canonical, s", "Canonical, MB",
 )  # fmt: skip
-
-
-def new_edits(rng: random.Random, branches: int, author: int, count: int) -> list[bytes]:
-    """Edits of the author, each of which puts a number beside what stands at a random place."""
-    places = [programs.name(rng.randrange(branches), 1) for _ in range(count)]
-    return [f"+{author}.{2 * at + 2} {place} plus left {author}.{2 * at + 1} num:1\n".encode() for at, place in enumerate(places)]
-
-
-def cut(text: bytes, edits_a_call: int) -> list[bytes]:
-    """The text in texts of so many edits each, which tell the version if it does."""
-    version = VERSION if text.startswith(VERSION) else b""
-    lines = text.removeprefix(VERSION).splitlines(keepends=True)
-    return [version + b"".join(lines[at : at + edits_a_call]) for at in range(0, len(lines), edits_a_call)]
-
-
-def joined(texts: list[bytes]) -> bytes:
-    """One text of version two with the edits of these."""
-    return VERSION + b"".join(text.removeprefix(VERSION) for text in texts)
-
-
-def each(take, words: list) -> None:
-    for word in words:
-        take(word)
+SHOWN = ("load", "apply", "call", "act", "undo", "show", "show_size", "canonical", "canonical_size")
+PLOTTED = ("memory", "load", "show", "canonical", "apply", "call", "act", "undo")
 
 
 def one_at_a_time(replica: Replica, branches: int) -> dict[str, float]:
@@ -49,7 +26,7 @@ def one_at_a_time(replica: Replica, branches: int) -> dict[str, float]:
     rng = random.Random(1)
     wraps = [f"wrap {programs.name(at, 1)} right plus" for at in rng.sample(range(branches - 1), min(ONE_AT_A_TIME, branches - 1))]
     calls = {
-        "apply": (replica.apply, new_edits(rng, branches, 99, ONE_AT_A_TIME)),
+        "apply": (replica.apply, programs.new_edits(rng, branches, 99, ONE_AT_A_TIME)),
         "call": (replica.apply, [b""] * ONE_AT_A_TIME),
         "act": (lambda line: replica.act(100, line), wraps),
         "undo": (replica.undo, [100] * len(wraps)),
@@ -59,7 +36,7 @@ def one_at_a_time(replica: Replica, branches: int) -> dict[str, float]:
 
 def measure(kind: str, edits: int) -> dict[str, float]:
     """Seconds, megabytes, and microseconds of what is done one at a time."""
-    texts = cut(programs.text(kind, edits), EDITS_A_CALL)
+    texts = programs.cut(programs.text(kind, edits), programs.EDITS_A_CALL)
     replica = Replica(seed=1)
     before = resident()
     load = seconds(each, replica.apply, texts)
@@ -76,11 +53,9 @@ def main() -> None:
     for kind in programs.KINDS:
         for edits in words.sizes:
             of = best(words.repeats, measure, kind, edits)
-            a_million = of["memory"] * 1e6
-            per_call = (of[name] for name in ("apply", "call", "act", "undo"))
-            texts = (of[name] for name in ("show", "show_size", "canonical", "canonical_size"))
-            row(kind, edits, of["memory"], a_million / edits, a_million / (programs.live(kind, edits) + 1), of["load"], *per_call, *texts)
-            lines.append((kind, edits, *(of[name] for name in ("memory", "load", "show", "canonical", "apply", "call", "act", "undo"))))
+            of_memory = (of["memory"] * 1e6 / count for count in (1e6, edits, programs.live(kind, edits) + 1))
+            row(kind, edits, *of_memory, *(of[name] for name in SHOWN))
+            lines.append((kind, edits, *(of[name] for name in PLOTTED)))
     if words.tsv:
         pathlib.Path(words.tsv).write_text("".join("\t".join(map(str, line)) + "\n" for line in lines))
 

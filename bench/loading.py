@@ -6,8 +6,7 @@ import resource
 from collections.abc import Callable
 
 import programs
-from growth import cut, each
-from measuring import best, head, resident, row, seconds, words_of
+from measuring import best, each, head, resident, row, seconds, words_of
 
 from grove import Replica
 
@@ -15,7 +14,7 @@ AUTHOR = 9
 
 
 def as_texts(replica: Replica, edits: int, edits_a_call: int) -> tuple[Callable, list]:
-    return replica.apply, cut(programs.text("tree", edits), edits_a_call)
+    return replica.apply, programs.cut(programs.text("tree", edits), edits_a_call)
 
 
 def as_actions(replica: Replica, edits: int) -> tuple[Callable, list]:
@@ -41,9 +40,14 @@ def main() -> None:
     words = words_of(__doc__)
     head("Edits", "How", "Time, s", "An edit, µs", "Memory after, MB", "Bytes an edit", "Memory at the most, MB")
     for edits in words.sizes:
-        ways = {"one a call": (as_texts, 1), "1,000 a call": (as_texts, 1_000), "all in one call": (as_texts, edits), "actions of one author": (as_actions,)}
-        for name, (way, *more) in ways.items():
-            row(edits, name, *best(words.repeats, measure, way, edits, *more).values())
+        ways = {
+            "one a call": (as_texts, edits, 1),
+            "1,000 a call": (as_texts, edits, 1_000),
+            "all in one call": (as_texts, edits, edits),
+            "actions of one author": (as_actions, edits),
+        }
+        for name, way in ways.items():
+            row(edits, name, *best(words.repeats, measure, *way).values())
 
 
 if __name__ == "__main__":

@@ -48,6 +48,11 @@ def seconds(work: Callable, *words) -> float:
     return time.process_time() - start
 
 
+def each(take: Callable, words: Iterable) -> None:
+    for word in words:
+        take(word)
+
+
 def resident() -> int:
     """The bytes of memory that this process has now."""
     pages = int(pathlib.Path("/proc/self/statm").read_text().split()[1])

@@ -1,7 +1,10 @@
 """Programs to measure with: edit texts of a given length, of eight authors that take turns."""
+import random
 from collections.abc import Iterator
 
 AUTHORS = 8
+EDITS_A_CALL = 1_000
+VERSION = b"grove 2\n"
 
 
 def name(number: int, kind: int) -> str:
@@ -47,3 +50,21 @@ def live(kind: str, edits: int) -> int:
 
 def text(kind: str, edits: int) -> bytes:
     return "".join({**KINDS, "chain": chain}[kind](edits)).encode()
+
+
+def new_edits(rng: random.Random, branches: int, author: int, count: int) -> list[bytes]:
+    """Edits of the author, each of which puts a number beside what stands at a random place."""
+    places = [name(rng.randrange(branches), 1) for _ in range(count)]
+    return [f"+{author}.{2 * at + 2} {place} plus left {author}.{2 * at + 1} num:1\n".encode() for at, place in enumerate(places)]
+
+
+def cut(text: bytes, edits_a_call: int) -> list[bytes]:
+    """The text in texts of so many edits each, which tell the version if it does."""
+    version = VERSION if text.startswith(VERSION) else b""
+    lines = text.removeprefix(VERSION).splitlines(keepends=True)
+    return [version + b"".join(lines[at : at + edits_a_call]) for at in range(0, len(lines), edits_a_call)]
+
+
+def joined(texts: list[bytes]) -> bytes:
+    """One text of version two with the edits of these."""
+    return VERSION + b"".join(text.removeprefix(VERSION) for text in texts)

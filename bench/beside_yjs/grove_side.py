@@ -9,8 +9,8 @@ import sys
 
 sys.path.append(str(pathlib.Path(__file__).resolve().parents[1]))
 
-from growth import EDITS_A_CALL, cut, each, joined  # noqa: E402
-from measuring import resident, seconds  # noqa: E402
+from measuring import each, resident, seconds  # noqa: E402
+from programs import EDITS_A_CALL, cut, joined  # noqa: E402
 
 from grove import Replica  # noqa: E402
 

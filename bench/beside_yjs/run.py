@@ -1,7 +1,7 @@
 """Grove beside Yjs on the same edges, by node and Debian's node-yjs.
 
 One author builds a tree, and deletes some of its edges on the way. Each side runs in a process of its own, and the least of each measure
-counts. In reverse Yjs takes the square of the time, and so it does that at the smallest size alone, once.
+counts. In reverse Yjs takes the square of the time, and so it does that once, and for few edits alone.
 """
 import json
 import os
@@ -27,6 +27,7 @@ ROWS = {
     "catching_up_bytes": ("catching up with the last 100 edits, both ways", "B"),
     "memory_bytes": ("memory of what took the whole state", "B"),
 }
+MOST_IN_REVERSE = 10_000
 YJS = ["node", "--expose-gc", "--max-old-space-size=8000", str(HERE / "yjs.js")]
 GROVE = [sys.executable, str(HERE / "grove_side.py")]
 
@@ -80,7 +81,7 @@ def main() -> None:
     need("nodejs", "node-yjs")
     head("Edits", "What", "Grove", "Yjs", "Yjs by Grove")
     for size in words.sizes:
-        compare(size, words.repeats, size == min(words.sizes))
+        compare(size, words.repeats, size <= MOST_IN_REVERSE)
 
 
 if __name__ == "__main__":
