@@ -1,24 +1,31 @@
-ghost use Rattle.std.specs.Prelude.{◌≡◌, ◌<◌};
+ghost use Rattle.std.specs.Prelude.{◌≡◌, ◌<◌, IfOk};
+ghost use Rattle.grove_edits.specs.Graph.{Ascends};
 
 use crate::random::Random;
 use crate::world::World;
 use edit_table::EditTable;
 use graph_words::Steps;
 use grove_answers::print_text;
-use grove_edits::{EditKind, NoMemory};
+use grove_edits::{Edit, EditKind, NoMemory};
 use replica_core::Replica;
 use seeded_hash::HashSeed;
 use std::alloc::Global;
 use std::marker::Brand;
 use std::sync::ledger::{Blank, Ledger};
 
-/// What the comparing of rounds found.
-pub(crate) enum Found {
-    /// All was the same, each time.
-    Same { edits: u64, deletions: u64 },
-    /// After so many edits of a round the replica printed something else.
-    Different { edits: u64 },
+/// How many edits were taken, how many of them were deletions, and whether all was the same after each.
+#[derive(Clone, Copy)]
+pub(crate) struct Compared {
+    pub(crate) taken: u64,
+    pub(crate) deletions: u64,
+    pub(crate) same: bool,
 }
+
+const NOTHING: Compared = Compared {
+    taken: 0,
+    deletions: 0,
+    same: true,
+};
 
 /// Compares after each edit of so many rounds, until something differs.
 pub(crate) fn compare_rounds(
@@ -26,22 +33,15 @@ pub(crate) fn compare_rounds(
     rounds: u64,
     edits: u64,
     mut random: Random,
-) -> Result<Found, NoMemory> {
-    let mut all = 0u64;
-    let mut all_deletions = 0u64;
+) -> Result<Compared, NoMemory> {
+    let mut compared = NOTHING;
     for _ in 0..rounds {
-        match compare_round::<Brand>(alloc, edits, &mut random, Blank::new(1))? {
-            Found::Same { edits, deletions } => {
-                all = all.saturating_add(edits);
-                all_deletions = all_deletions.saturating_add(deletions);
-            }
-            different => return Ok(different),
+        compare_round::<Brand>(alloc, edits, &mut random, &mut compared, Blank::new(1))?;
+        if !compared.same {
+            break;
         }
     }
-    Ok(Found::Same {
-        edits: all,
-        deletions: all_deletions,
-    })
+    Ok(compared)
 }
 
 // Compares after each edit of a round, until something differs.
@@ -49,8 +49,9 @@ fn compare_round<L: Ledger>(
     alloc: Global,
     edits: u64,
     random: &mut Random,
+    compared: &mut Compared,
     blank: Blank,
-) -> Result<Found, NoMemory>
+) -> Result<(), NoMemory>
     requires name { blank.name ≡ L.name }
     requires parts { blank.parts ≡ L.parts }
     requires some { 0 < blank.parts }
@@ -58,33 +59,76 @@ fn compare_round<L: Ledger>(
     let mut world = World::new(alloc, random)?;
     let mut replica = Replica::new(alloc)?;
     let mut steps = Steps::<L>::new(blank);
-    let mut taken = 0u64;
-    let mut deletions = 0u64;
+    take_edits(
+        alloc,
+        edits,
+        random,
+        &mut world,
+        &mut replica,
+        compared,
+        &mut steps,
+    )
+}
+
+// Lets a replica take so many edits of a world, and compares after each, until something differs.
+fn take_edits<L: Ledger>(
+    alloc: Global,
+    edits: u64,
+    random: &mut Random,
+    world: &mut World,
+    replica: &mut Replica,
+    compared: &mut Compared,
+    steps: &mut Steps<L>,
+) -> Result<(), NoMemory> {
     for number in 0..edits {
-        let Some(edit) = world.edit(random, number.saturating_add(1000))? else {
-            continue;
-        };
-        replica.apply(&edit, &mut steps)?;
-        taken = taken.saturating_add(1);
-        if edit.kind() == EditKind::Delete {
-            deletions = deletions.saturating_add(1);
+        if let Some(edit) = world.edit(random, number.saturating_add(1000))? {
+            take(alloc, replica, &edit, compared, steps)?;
         }
-        if !prints_as_marked_anew(alloc, &replica)? {
-            return Ok(Found::Different { edits: taken });
+        if !compared.same {
+            break;
         }
     }
-    Ok(Found::Same {
-        edits: taken,
-        deletions,
-    })
+    Ok(())
+}
+
+// Lets a replica take an edit, and compares.
+fn take<L: Ledger>(
+    alloc: Global,
+    replica: &mut Replica,
+    edit: &Edit,
+    compared: &mut Compared,
+    steps: &mut Steps<L>,
+) -> Result<(), NoMemory> {
+    replica.apply(edit, steps)?;
+    compared.taken = compared.taken.saturating_add(1);
+    if edit.kind() == EditKind::Delete {
+        compared.deletions = compared.deletions.saturating_add(1);
+    }
+    compared.same = prints_as_marked_anew(alloc, replica)?;
+    Ok(())
 }
 
 // Whether a replica prints what marking its whole graph anew prints.
 fn prints_as_marked_anew(alloc: Global, replica: &Replica) -> Result<bool, NoMemory> {
-    let mut kept = Vec::new(alloc);
-    replica.print(alloc, &mut kept)?;
-    let edits = replica.in_order(alloc)?;
-    let table = EditTable::of_list(alloc, &edits, HashSeed::FIXED)?;
-    let anew = print_text(alloc, table, HashSeed::FIXED)?;
+    let kept = kept_text(alloc, replica)?;
+    let anew = marked_anew(alloc, replica)?;
     Ok(kept == anew)
+}
+
+fn kept_text(alloc: Global, replica: &Replica) -> Result<Vec<u8>, NoMemory> {
+    let mut text = Vec::new(alloc);
+    replica.print(alloc, &mut text)?;
+    Ok(text)
+}
+
+fn marked_anew(alloc: Global, replica: &Replica) -> Result<Vec<u8>, NoMemory> {
+    let table = table_of(alloc, replica)?;
+    print_text(alloc, table, HashSeed::FIXED)
+}
+
+fn table_of(alloc: Global, replica: &Replica) -> Result<EditTable, NoMemory>
+    ensures { IfOk result (λ table. Ascends table.edits) }
+{
+    let edits = replica.in_order(alloc)?;
+    EditTable::of_list(alloc, &edits, HashSeed::FIXED)
 }

@@ -2,7 +2,7 @@
 use Rattle.std.proofs.Common.{◌≡◌, ℕ, zero, suc, ◌+◌, ◌==◌, ◌&&◌, ◌||◌, Bool, true, false, List, [], ◌∷◌, ◌++◌, length, map, slice_get, Some, if◌then◌else◌, refl, sym, ap, ap₂, subst, ◌∙◌, arith, append_assoc}
 use Rattle.std.specs.List.{AllByRecursion, flat_map, list_any}
 use Rattle.std.proofs.lemmas.Bool.{eqb-true, eq-eqb}
-use Rattle.std.proofs.lemmas.List.{length-map}
+use Rattle.std.proofs.lemmas.List.{length-map, length-append}
 use Rattle.std.proofs.lemmas.Option.{same_Some, none-some}
 use Rattle.grove_edits.specs.declared.action.Action.{Action}
 use Rattle.grove_edits.specs.declared.action.Action.TheVariants.{Construct, Wrap, Become, Delete, Cut, Relocate, Restore}
@@ -75,12 +75,18 @@ module _ (authors : List Declared) (lines : List Line) where
   all_listed-opened replica [] = refl
   all_listed-opened replica (content ∷ contents) = ap (λ lists. listed (asks_of authors lines replica) content.edits ∷ lists) (all_listed-opened (replica + 1) contents)
 
-  -- a replica more has opened
-  pub one_more_listed : (done : List Content) (next : Content) (opened : List Content) (lists more : List (List Edit)) (number : ℕ) (asked : Bool) (list : List Edit) → opened ≡ map with_block done → number ≡ length opened
-      → asked ≡ asks_of authors lines number → list ≡ listed asked next.edits → lists ≡ all_listed authors lines 0 done → more ≡ lists ++ list ∷ [] → more ≡ all_listed authors lines 0 (done ++ next ∷ [])
-  one_more_listed done next opened lists more number asked list are counted test is before pushed =
-      let place : number ≡ 0 + length done = let long = ap (λ (cs : List Content). length cs) are in let same = length-map done with_block in omega arith in
-      pushed ∙ ap₂ (λ ls l. ls ++ l ∷ []) before (is ∙ ap (λ b. listed b next.edits) (test ∙ ap (asks_of authors lines) place)) ∙ sym (all_listed-more 0 done next)
+  -- a replica more is listed
+  pub one_more_listed : (lists more all : List (List Edit)) (left rest : List Content) (next : Content) (number : ℕ) (asked : Bool) (list : List Edit) → left ≡ next ∷ rest → number ≡ length lists
+      → asked ≡ asks_of authors lines number → list ≡ listed asked next.edits → lists ++ all_listed authors lines (length lists) left ≡ all → more ≡ lists ++ list ∷ []
+      → more ++ all_listed authors lines (length more) rest ≡ all
+  one_more_listed lists more all left rest next number asked list here counted test is before pushed =
+      let size : length more ≡ length lists + 1 = ap (λ (ls : List (List Edit)). length ls) pushed ∙ length-append lists (list ∷ []) in
+      let said : list ≡ listed (asks_of authors lines (length lists)) next.edits = is ∙ ap (λ b. listed b next.edits) (test ∙ ap (asks_of authors lines) counted) in
+      ap₂ (λ ls n. ls ++ all_listed authors lines n rest) pushed size
+      ∙ append_assoc lists (list ∷ []) (all_listed authors lines (length lists + 1) rest)
+      ∙ ap (λ l. lists ++ l ∷ all_listed authors lines (length lists + 1) rest) said
+      ∙ ap (λ cs. lists ++ all_listed authors lines (length lists) cs) (sym here)
+      ∙ before
 
   -- what is listed of a replica that opened with some edits
   pub listed_at : (replica : ℕ) (contents : List Content) (place number : ℕ) (opening : List Edit) → number ≡ replica + place → slice_get (sources_of contents) place ≡ Some opening

@@ -23,17 +23,39 @@ pub(crate) fn open_block_on_each(
     ensures lists { IfOk result (λ opened. opened.1.items ≡ all_listed authors.now lines.now 0 replicas.items) }
     ensures ascend { IfOk result (λ opened. AllByRecursion Ascends opened.1.items) }
 {
-    let mut opened = Vec::with_capacity(alloc, replicas.len())?;
+    let lists = list_each(alloc, &replicas, authors, lines)?;
+    let opened = open_each(alloc, replicas)?;
+    Ok((opened, lists))
+}
+
+// What each replica has, where the lines of a block ask for it.
+fn list_each(
+    alloc: Global,
+    replicas: &[Replica],
+    authors: &AuthorList,
+    lines: &[Line],
+) -> Result<Vec<EditList>, NoMemory>
+    ensures lists { IfOk result (λ lists. lists.items ≡ all_listed authors.now lines.now 0 replicas.now) }
+    ensures ascend { IfOk result (λ lists. AllByRecursion Ascends lists.items) }
+{
     let mut lists = Vec::with_capacity(alloc, replicas.len())?;
+    for replica in replicas {
+        let asked = is_asked_of(authors, lines, lists.len() as u64);
+        lists.push(list_if(alloc, replica, asked)?)?;
+    }
+    Ok(lists)
+}
+
+// Opens a block on each replica.
+fn open_each(alloc: Global, replicas: Vec<Replica>) -> Result<Vec<Replica>, NoMemory>
+    ensures { IfOk result (λ opened. opened.items ≡ map with_block replicas.items) }
+{
+    let mut opened = Vec::with_capacity(alloc, replicas.len())?;
     for mut replica in replicas {
-        let number = opened.len();
-        let asked = is_asked_of(authors, lines, number as u64);
-        let list = list_if(alloc, &replica, asked)?;
         replica.begin_block(alloc)?;
-        lists.push(list)?;
         opened.push(replica)?;
     }
-    Ok((opened, lists))
+    Ok(opened)
 }
 
 // The canonical list of a replica, if it is asked for.
