@@ -1,4 +1,4 @@
-/* An edit comes as text, an author acts on it, and the program is printed. An editor of the empty graph then catches up. */
+/* An edit comes as text and an author acts on it. Another editor then catches up, and prints the program. */
 #include "grove.h"
 #include <stdio.h>
 #include <string.h>
@@ -35,10 +35,9 @@ int main(void)
         code = grove_act(&editor, 2, (const uint8_t *)action, strlen(action));
     print(&editor, GROVE_ANSWER);
     print(&editor, GROVE_EDITS);
-    print(&editor, GROVE_PRINT);
     if (code == GROVE_DONE)
         code = catch_up(&late, &editor);
-    print(&late, GROVE_SUMMARY);
+    print(&late, GROVE_PRINT);
     grove_free(&editor);
     grove_free(&late);
     return (int)code;
