@@ -87,18 +87,6 @@ impl Replica {
         Ok(())
     }
 
-    /// Opens a block as `begin_block` does, and answers the canonical list of the graph, which is what the block opens with.
-    pub fn open_block(&mut self, alloc: Global) -> Result<EditList, NoMemory>
-        ensures opened { OnOk result (self.new ≡ with_block self.old) }
-        ensures list { IfOk result (λ list. list ≡ self.old.edits) }
-        ensures canonical { IsCanonical (graph self.old.edits) self.old.edits }
-        ensures unchanged { OnErr result (self.new ≡ self.old) }
-    {
-        let list = self.in_order(alloc)?;
-        self.begin_block(alloc)?;
-        Ok(list)
-    }
-
     /// Takes an edit, and marks again what it concerns. What it asks is joined to the graph, so an edge that was deleted is not inserted
     /// again. Where memory runs out the graph and the kept records stay.
     pub fn apply<L: Ledger>(&mut self, edit: &Edit, steps: &mut Steps<L>) -> Result<(), NoMemory>

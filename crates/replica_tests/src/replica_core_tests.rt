@@ -117,7 +117,7 @@ fn a_cut_takes_the_edges_that_the_block_opened_with(rt: HostRuntime) -> Result<(
     Ok(())
 }
 
-// Opens a block on the replica of lines, and tells whether the list that it opens with is the one in order, and how long it is.
+// Opens a block on the replica of lines, and tells whether the list in order stays, and how long it is.
 fn opened_counting<L: Ledger>(
     alloc: Global,
     replica: &mut Replica,
@@ -130,7 +130,8 @@ fn opened_counting<L: Ledger>(
 {
     let mut steps = Steps::<L>::new(blank);
     take(alloc, replica, lines, &mut steps)?;
-    let list = replica.open_block(alloc)?;
+    let list = replica.in_order(alloc)?;
+    replica.begin_block(alloc)?;
     let ordered = replica.in_order(alloc)?;
     Ok((list.as_slice() == ordered.as_slice(), list.len()))
 }
