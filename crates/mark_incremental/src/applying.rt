@@ -5,7 +5,7 @@ ghost use Rattle.grove_edits.specs.declared.edge.Edge.{Edge};
 ghost use Rattle.grove_edits.specs.declared.edit.Edit.{Edit};
 ghost use Rattle.grove_edits.specs.Edit.{edit_edge, edit_kind};
 ghost use Rattle.grove_edits.specs.Graph.{IsSame, graph as graph_of, graph_join, state_of};
-ghost use Rattle.live_graph.specs.NumberOf.{KeepsNumbersOf};
+ghost use Rattle.live_graph.specs.NumberOf.{IsNumberOf, KeepsNumbersOf};
 ghost use Rattle.graph_words.specs.States.{state_in, Entries, HasRoom, KeepsRoom};
 ghost use Rattle.kept_records.specs.Size.{IsSize};
 ghost use Rattle.mark_store.specs.Places.{holds};
@@ -87,25 +87,27 @@ impl Marks {
             });
         }
         let edge = edit.edge();
-        graph.make_room(&edge)?;
-        if let Some(applied) = self.apply_short(edit, &edge, graph, steps)? {
+        let number = graph.make_room(&edge)?;
+        if let Some(applied) = self.apply_short(edit, &edge, number, graph, steps)? {
             return Ok(applied);
         }
-        self.apply_whole(edit, &edge, graph, steps)
+        self.apply_whole(edit, &edge, number, graph, steps)
     }
 
-    // Applies an edit of an edge, for which there is room, by a short walk. None where that is not enough; then all is as before, but that
+    // Applies an edit of an edge, which has room and this number, by a short walk. None where that is not enough; then all is as before, but that
     // the tables may have grown.
     fn apply_short<L: Ledger>(
         &mut self,
         edit: &Edit,
         edge: &Edge,
+        number: usize,
         graph: &mut LiveGraph,
         steps: &mut Steps<L>,
     ) -> Result<Option<Applied>, NoMemory>
         requires edge { edit_edge edit.now ≡ edge.now }
         requires stand { StandFor (state_in graph.old) self.old }
         requires room { HasRoom graph.old (edit_edge edit.now) }
+        requires number { IsNumberOf graph.old (edit_edge edit.now) number }
         ensures applied { IfOk result (λ r. IfSome r (λ applied. IsApplied edit.now applied graph.old self.old graph.new self.new)) }
         ensures can_take_back { IfOk result (λ r. IfSome r (λ applied. CanTakeBack edit.now applied graph.new self.new)) }
         ensures back { IfOk result (λ r. r ≡ None → IsBack graph.old self.old graph.new self.new) }
@@ -126,7 +128,7 @@ impl Marks {
             &self.roots,
             steps,
         );
-        let change = raise(edit, graph);
+        let change = raise(edit, number, graph);
         match self.renew_if_short(edge, apart, &before, graph, steps) {
             Ok(Some(old)) => Ok(Some(Applied { change, old })),
             Ok(None) => {
@@ -140,17 +142,19 @@ impl Marks {
         }
     }
 
-    // Applies an edit of an edge, for which there is room, by walks from the heads of trees.
+    // Applies an edit of an edge, which has room and this number, by walks from the heads of trees.
     fn apply_whole<L: Ledger>(
         &mut self,
         edit: &Edit,
         edge: &Edge,
+        number: usize,
         graph: &mut LiveGraph,
         steps: &mut Steps<L>,
     ) -> Result<Applied, NoMemory>
         requires edge { edit_edge edit.now ≡ edge.now }
         requires stand { StandFor (state_in graph.old) self.old }
         requires room { HasRoom graph.old (edit_edge edit.now) }
+        requires number { IsNumberOf graph.old (edit_edge edit.now) number }
         ensures applied { IfOk result (λ applied. IsApplied edit.now applied graph.old self.old graph.new self.new) }
         ensures can_take_back { IfOk result (λ applied. CanTakeBack edit.now applied graph.new self.new) }
         ensures unchanged { OnErr result (IsBack graph.old self.old graph.new self.new) }
@@ -162,7 +166,7 @@ impl Marks {
         // The live edges are those whose state is Live.
         let _edges = graph.edge_count();
         let before = walk_from_ends(self.alloc, self.seed, edge, graph, steps)?;
-        let change = raise(edit, graph);
+        let change = raise(edit, number, graph);
         match self.renew(edge, &before, graph, steps) {
             Ok(old) => Ok(Applied { change, old }),
             Err(no_memory) => {

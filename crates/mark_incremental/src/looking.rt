@@ -14,11 +14,11 @@ ghost use Rattle.mark_incremental.specs.Looking.{on, AreRoots, IsFound};
 use crate::given::given_by;
 use crate::walks_up::holds;
 use ctx_table::CtxTable;
-use graph_words::{Few, ParentOf, Steps};
+use graph_words::Steps;
 use grove_edits::Vertex;
 use grove_sorts::{Sort, sort_of};
 use judging::{Given, nothing};
-use live_graph::LiveGraph;
+use live_graph::{FewEdges, LiveGraph};
 use mark_step::{Demand, Mode};
 use mark_store::{MarkStore, Record, VertexMap, VertexSet};
 use std::sync::ledger::Ledger;
@@ -57,9 +57,9 @@ pub(crate) fn is_inner<L: Ledger>(
     ensures inner { result ≡ is_inner (live graph.now) vertex.now }
     ensures ticks { steps.new ≤ steps.old + 3 }
 {
-    match graph.few(vertex, steps) {
-        Few::Zero | Few::More(_, _) => false,
-        Few::One(_) => !holds(roots, vertex),
+    match graph.few_parents(vertex, steps) {
+        FewEdges::Zero | FewEdges::More(_, _) => false,
+        FewEdges::One(_) => !holds(roots, vertex),
     }
 }
 

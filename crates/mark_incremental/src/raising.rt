@@ -4,21 +4,21 @@ ghost use Rattle.grove_edits.specs.Graph.{IsSame};
 ghost use Rattle.graph_words.specs.Whole.{AreLive};
 ghost use Rattle.graph_words.specs.States.{Entries, state_in, HasRoom, KeepsRoom};
 ghost use Rattle.live_graph.specs.Live.{live};
-ghost use Rattle.live_graph.specs.NumberOf.{KeepsNumbersOf};
+ghost use Rattle.live_graph.specs.NumberOf.{IsNumberOf, KeepsNumbersOf};
 ghost use Rattle.mark_incremental.specs.Raising.{WasRaised};
 
 use grove_edits::Edit;
 use live_graph::{Change, LiveGraph};
 
-/// Joins what an edit asks to a graph, in which its edge has room.
-pub(crate) fn raise(edit: &Edit, graph: &mut LiveGraph) -> Change
-    requires room { HasRoom graph.old (edit_edge edit.now) }
+/// Joins what an edit asks to a graph, in which its edge has this number.
+pub(crate) fn raise(edit: &Edit, number: usize, graph: &mut LiveGraph) -> Change
+    requires number { IsNumberOf graph.old (edit_edge edit.now) number }
     ensures raised { WasRaised edit.now result graph.old graph.new }
     ensures live { AreLive (state_in graph.new) (live graph.new) }
     ensures room_stays { KeepsRoom graph.old graph.new }
     ensures numbers_stay { KeepsNumbersOf graph.old graph.new }
 {
-    let change = graph.raise(edit);
+    let change = graph.raise_at(number, edit.kind());
     // The live edges are those whose state is Live.
     let _edges = graph.edge_count();
     change

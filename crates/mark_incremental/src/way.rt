@@ -8,9 +8,9 @@ ghost use Rattle.mark_incremental.specs.Looking.{AreRoots};
 ghost use Rattle.mark_incremental.specs.ShortWalks.{IsAboveInner};
 
 use crate::walks_up::holds;
-use graph_words::{Few, ParentOf, Steps};
+use graph_words::Steps;
 use grove_edits::Vertex;
-use live_graph::LiveGraph;
+use live_graph::{FewEdges, LiveGraph};
 use mark_store::{VertexMap, VertexSet};
 use seeded_hash::HashSeed;
 use std::alloc::Global;
@@ -37,13 +37,13 @@ pub(crate) fn above_inner<L: Ledger>(
     ensures above { IsAboveInner (live graph.now) vertex.now result }
     ensures ticks { steps.new ≤ steps.old + 3 }
 {
-    match graph.few(vertex, steps) {
-        Few::Zero | Few::More(_, _) => None,
-        Few::One(edge) => {
+    match graph.few_parents(vertex, steps) {
+        FewEdges::Zero | FewEdges::More(_, _) => None,
+        FewEdges::One(edge) => {
             if holds(roots, vertex) {
                 return None;
             }
-            Some(edge.source)
+            Some(*edge.source())
         }
     }
 }

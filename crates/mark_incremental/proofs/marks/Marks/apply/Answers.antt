@@ -1,9 +1,12 @@
 -- The graph is joined with the edit, or is as before, and the marks stand for it.
 use Rattle.std.proofs.Common.{[], ◌∷◌, None, refl, subst, ◌∙◌, arith}
+use Rattle.grove_edits.specs.declared.edge.Edge.{Edge}
+use Rattle.grove_edits.specs.Edit.{edit_edge}
 use Rattle.grove_edits.specs.Graph.{graph, graph_join, IsSame}
 use Rattle.graph_words.specs.declared.change.Change.TheVariants.{Same}
 use Rattle.graph_words.specs.States.{state_in}
 use Rattle.std.specs.Prelude.{IfSome}
+use Rattle.live_graph.specs.NumberOf.{IsNumberOf}
 use Rattle.mark_incremental.specs.declared.applying.Applied.{Applied}
 use Rattle.mark_incremental.specs.Standing.{StandFor}
 use Rattle.mark_incremental.specs.Applying.{WasApplied, IsApplied, IsBack, HaveGrown}
@@ -23,11 +26,15 @@ returns-then-is_raised-clause-applied g c =
     nothing_applied c.args.edit.now (record { change = Same; old = record { records = c.new.result; root = None } }) c.args.graph.now c.args.self.now (c.is_raised.ensures.0 c.if-is_raised.true) refl c.new.ensures.items refl
     c.requires.stand
 
-pub returns-in_err-make_room-clause-stand : goal.returns-in_err-make_room-clause-stand
-returns-in_err-make_room-clause-stand g c =
+pub returns-in_err-number-clause-stand : goal.returns-in_err-number-clause-stand
+returns-in_err-number-clause-stand g c =
     grown_stands (state_in c.args.graph.now) (state_in c.make_room.new.self) c.args.self.now c.args.self.now c.requires.stand c.make_room.ensures.unchanged (nothing_grown c.args.self.now)
 
 -- ---- a short walk is tried
+
+pub apply_short-requires-clause-number : goal.apply_short-requires-clause-number
+apply_short-requires-clause-number g c =
+    subst (λ (e : Edge). IsNumberOf c.make_room.new.self e c.in_ok-number.number) c.edge-edge.ensures c.in_ok-number.ensures.number
 
 pub apply_short-requires-clause-stand : goal.apply_short-requires-clause-stand
 apply_short-requires-clause-stand g c =
@@ -64,6 +71,11 @@ pub returns-in-Some-clause-room_stays : goal.returns-in-Some-clause-room_stays
 returns-in-Some-clause-room_stays g c = λ e had. c.apply_short.ensures.room_stays e (c.make_room.ensures.room_stays e had)
 
 -- ---- it is not enough
+
+pub apply_whole-requires-clause-number : goal.apply_whole-requires-clause-number
+apply_whole-requires-clause-number g c =
+    c.apply_short.ensures.numbers_stay (edit_edge c.args.edit.now) c.in_ok-number.number
+    (subst (λ (e : Edge). IsNumberOf c.make_room.new.self e c.in_ok-number.number) c.edge-edge.ensures c.in_ok-number.ensures.number)
 
 pub returns-clause-unchanged : goal.returns-clause-unchanged
 returns-clause-unchanged g c =
