@@ -2,9 +2,10 @@ ghost use Rattle.std.specs.Prelude.{◌≡◌};
 
 use crate::noted_numbers::NotedNumbers;
 use crate::tree_source::TreeSource;
+use edit_table::LentVertex;
 use graph_table::{GraphTable, Parents};
-use grove_sorts::Position;
-use grove_terms::LentEdge;
+use grove_sorts::{Position, Sort};
+use grove_terms::{LentEdge, LentNode, Role, Tree};
 use text_parts::NoMemory;
 
 /// Nothing is counted.
@@ -25,6 +26,8 @@ impl<'g> TreeSource<'g> for LiveTable<'g> {
 
     type Link = usize;
 
+    type Nodes = Tree<'g>;
+
     type Notes = NotedNumbers;
 
     type Counter = NoCounter;
@@ -35,14 +38,16 @@ impl<'g> TreeSource<'g> for LiveTable<'g> {
 
     ghost edge_at = { λ it index. edge_of it.table.now index };
 
+    ghost nodes = { λ it tree. tree };
+
     ghost IsSpot = { λ it number. IsNumber it.table.now number };
 
     ghost IsLink = { λ it index. IsIndex it.table.now index };
 
     ghost AreInner = { λ it noted. OnlyInner it.table.now noted };
 
-    fn edge(&self, link: &usize) -> LentEdge<'g> {
-        LentEdge::OfGraph(self.table.edge(*link))
+    fn vertex(&self, spot: &usize) -> LentVertex<'g> {
+        self.table.vertex(*spot).lent()
     }
 
     fn target(&self, link: &usize) -> usize {
@@ -66,5 +71,41 @@ impl<'g> TreeSource<'g> for LiveTable<'g> {
 
     fn note(&self, spot: &usize, notes: &mut NotedNumbers) {
         notes.note(self.table, *spot)
+    }
+
+    fn count(&self, tree: &Tree<'g>) -> usize {
+        tree.len()
+    }
+
+    fn push_child(
+        &self,
+        link: &usize,
+        depth: u64,
+        role: Role,
+        tree: &mut Tree<'g>,
+    ) -> Result<(), NoMemory> {
+        let edge = LentEdge::OfGraph(self.table.edge(*link));
+        Ok(tree.push(LentNode::child(depth, edge, role))?)
+    }
+
+    fn push_hole(
+        &self,
+        depth: u64,
+        position: Position,
+        sort: Sort,
+        tree: &mut Tree<'g>,
+    ) -> Result<(), NoMemory> {
+        Ok(tree.push(LentNode::hole(depth, position, sort))?)
+    }
+
+    fn push_conflict(
+        &self,
+        depth: u64,
+        position: Position,
+        sort: Sort,
+        count: u64,
+        tree: &mut Tree<'g>,
+    ) -> Result<(), NoMemory> {
+        Ok(tree.push(LentNode::conflict(depth, position, sort, count))?)
     }
 }

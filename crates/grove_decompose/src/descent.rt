@@ -3,7 +3,6 @@ ghost use Rattle.std.specs.List.{AllByRecursion};
 ghost use Rattle.graph_words.specs.declared.class.Class.TheVariants.{Inner};
 ghost use Rattle.graph_words.specs.Class.{class};
 ghost use Rattle.edit_table.specs.Lent.{lent_vertex};
-ghost use Rattle.grove_terms.specs.Lent.{node_of};
 ghost use Rattle.grove_terms.specs.Nodes.{head_node};
 ghost use Rattle.grove_terms.specs.Grove.{IsTreeOf};
 ghost use Rattle.grove_decompose.specs.Tasks.{IsFound, IsSound, step_nodes, step_tasks, task_at};
@@ -14,8 +13,6 @@ use crate::room::Room;
 use crate::task::Task;
 use crate::tree_source::TreeSource;
 use edit_table::LentVertex;
-use grove_terms::{LentNode, Tree};
-use std::alloc::Global;
 use text_parts::NoMemory;
 
 // Lists the first nodes of a part of a tree, and adds tasks for the rest of it. It tells the vertex that it lists under another one,
@@ -25,15 +22,15 @@ fn take<'g, G: TreeSource<'g>>(
     root: &LentVertex,
     graph: &G,
     links: &mut Vec<G::Link>,
-    tree: &mut Tree<'g>,
+    tree: &mut G::Nodes,
     tasks: &mut Vec<Task<G::Spot, G::Link>>,
     counter: &mut G::Counter,
 ) -> Result<Option<G::Spot>, NoMemory>
     requires outer { class (G.live graph.now) (lent_vertex root.now) ≢ Inner }
-    requires sound { IsSound (G.live graph.now) (lent_vertex root.now) (length tree.old) (task_at (G.vertex_at graph.now) (G.edge_at graph.now) task.now) }
+    requires sound { IsSound (G.live graph.now) (lent_vertex root.now) (length (G.nodes graph.now tree.old)) (task_at (G.vertex_at graph.now) (G.edge_at graph.now) task.now) }
     requires task_found { IsFound (G.IsSpot graph.now) (G.IsLink graph.now) task.now }
     requires found { AllByRecursion (IsFound (G.IsSpot graph.now) (G.IsLink graph.now)) tasks.old.items }
-    ensures nodes { OnOk result (tree.new ≡ tree.old ++ step_nodes (G.live graph.now) (task_at (G.vertex_at graph.now) (G.edge_at graph.now) task.now)) }
+    ensures nodes { OnOk result (G.nodes graph.now tree.new ≡ G.nodes graph.now tree.old ++ step_nodes (G.live graph.now) (task_at (G.vertex_at graph.now) (G.edge_at graph.now) task.now)) }
     ensures tasks { let at = task_at (G.vertex_at graph.now) (G.edge_at graph.now) in
         OnOk result (map at tasks.new.items ≡ map at tasks.old.items ++ step_tasks (G.live graph.now) (at task.now)) }
     ensures found { OnOk result (AllByRecursion (IsFound (G.IsSpot graph.now) (G.IsLink graph.now)) tasks.new.items) }
@@ -47,34 +44,31 @@ fn take<'g, G: TreeSource<'g>>(
             depth,
         } => {
             graph.children(spot, *position, links, counter)?;
-            list_place(links, *position, *sort, *depth, tree, tasks)?;
+            list_place(links, *position, *sort, *depth, graph, tree, tasks)?;
             Ok(None)
         }
         Task::Child { link, depth } => list_child(link, *depth, root, graph, tree, tasks, counter),
     }
 }
 
-/// The tree of a vertex that heads one. What stands in it under another one is noted, also where memory runs out in the midst of it.
-pub fn tree_of<'g, G: TreeSource<'g>>(
-    alloc: Global,
+/// Lists the tree of a vertex that heads one, whose own node is listed already. What stands in it under another vertex is noted, also
+/// where memory runs out in the midst of it; then some of its nodes are listed.
+pub fn list_tree<'g, G: TreeSource<'g>>(
     spot: &G::Spot,
-    root: LentVertex<'g>,
-    head: LentNode<'g>,
     graph: &G,
+    tree: &mut G::Nodes,
     notes: &mut G::Notes,
     room: &mut Room<G::Spot, G::Link>,
     counter: &mut G::Counter,
-) -> Result<Tree<'g>, NoMemory>
+) -> Result<(), NoMemory>
     requires spot { G.IsSpot graph.now spot.now }
-    requires root { G.vertex_at graph.now spot.now ≡ lent_vertex root }
-    requires head { node_of head ≡ head_node (lent_vertex root) }
-    requires outer { class (G.live graph.now) (lent_vertex root) ≢ Inner }
+    requires head { G.nodes graph.now tree.old ≡ head_node (G.vertex_at graph.now spot.now) ∷ [] }
+    requires outer { class (G.live graph.now) (G.vertex_at graph.now spot.now) ≢ Inner }
     requires noted { G.AreInner graph.now notes.old }
-    ensures tree { IfOk result (λ tree. IsTreeOf (G.live graph.now) (lent_vertex root.entry) tree) }
+    ensures tree { OnOk result (IsTreeOf (G.live graph.now) (G.vertex_at graph.now spot.now) (G.nodes graph.now tree.new)) }
     ensures noted { G.AreInner graph.now notes.new }
 {
-    let mut tree: Tree<'g> = Tree::new(alloc);
-    tree.push(head)?;
+    let root = graph.vertex(spot);
     // Where memory ran out in an earlier tree, some of its tasks are left.
     room.tasks.clear();
     push_lent_places(spot, root.ctor, 1, &mut room.tasks)?;
@@ -84,7 +78,7 @@ pub fn tree_of<'g, G: TreeSource<'g>>(
             &root,
             graph,
             &mut room.links,
-            &mut tree,
+            tree,
             &mut room.tasks,
             counter,
         )?;
@@ -92,5 +86,5 @@ pub fn tree_of<'g, G: TreeSource<'g>>(
             graph.note(&inner, notes);
         }
     }
-    Ok(tree)
+    Ok(())
 }

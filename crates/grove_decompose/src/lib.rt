@@ -19,7 +19,7 @@ mod task;
 mod tree_source;
 mod trees;
 
-pub use descent::tree_of;
+pub use descent::list_tree;
 pub use room::Room;
 pub use seen::Seen;
 pub use text_parts::NoMemory;

@@ -4,9 +4,9 @@ ghost use Rattle.edit_table.specs.Lent.{lent_ctor};
 ghost use Rattle.grove_decompose.specs.Tasks.{place_tasks, child_tasks, place_head, place_rest};
 
 use crate::task::Task;
+use crate::tree_source::TreeSource;
 use edit_table::LentCtor;
 use grove_sorts::{Ctor, Position, Sort, place_at, position_count};
-use grove_terms::{LentNode, Tree};
 use text_parts::NoMemory;
 
 // Adds a task for each position of a vertex, so that the first position is taken first.
@@ -66,28 +66,30 @@ fn push_children<S: Copy, L: Copy>(
 }
 
 /// Lists a hole or a conflict where there is one, and adds a task for each child.
-pub(crate) fn list_place<S: Copy, L: Copy>(
-    links: &[L],
+pub(crate) fn list_place<'g, G: TreeSource<'g>>(
+    links: &[G::Link],
     position: Position,
     sort: Sort,
     depth: u64,
-    tree: &mut Tree,
-    tasks: &mut Vec<Task<S, L>>,
+    graph: &G,
+    tree: &mut G::Nodes,
+    tasks: &mut Vec<Task<G::Spot, G::Link>>,
 ) -> Result<(), NoMemory>
-    requires { depth ≤ length tree.old }
-    ensures nodes { OnOk result (tree.new ≡ tree.old ++ place_head links.now depth position sort) }
+    requires { depth ≤ length (G.nodes graph.now tree.old) }
+    ensures nodes { OnOk result (G.nodes graph.now tree.new ≡ G.nodes graph.now tree.old ++ place_head links.now depth position sort) }
     ensures tasks { OnOk result (tasks.new.items ≡ tasks.old.items ++ place_rest links.now depth) }
 {
-    let node = match links {
-        [] => LentNode::hole(depth, position, sort),
+    // No position is deeper than there are nodes, so one more fits.
+    let _nodes = graph.count(tree);
+    match links {
+        [] => graph.push_hole(depth, position, sort, tree),
         [only] => {
             tasks.push(Task::Child { link: *only, depth })?;
-            return Ok(());
+            Ok(())
         }
-        several => LentNode::conflict(depth, position, sort, several.len() as u64),
-    };
-    // No position is deeper than there are nodes, so one more fits.
-    let _nodes = tree.len();
-    tree.push(node)?;
-    push_children(links, depth + 1, tasks)
+        several => {
+            graph.push_conflict(depth, position, sort, several.len() as u64, tree)?;
+            push_children(several, depth + 1, tasks)
+        }
+    }
 }

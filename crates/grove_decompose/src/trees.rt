@@ -13,7 +13,7 @@ ghost use Rattle.grove_decompose.specs.Trees.{OnlyInner, vertices_of};
 use crate::by_number::{LiveTable, NoCounter};
 use crate::candidates::candidates_of;
 use crate::cycles::cycle_roots;
-use crate::descent::tree_of;
+use crate::descent::list_tree;
 use crate::narrow_count::narrow_count;
 use crate::seen::Seen;
 use graph_table::{GraphTable, Parents};
@@ -81,17 +81,17 @@ pub fn tree_by_number<'g>(
     ensures seen { OnlyInner table.now seen.new }
 {
     let root = root as usize;
-    let vertex = table.vertex(root);
-    tree_of(
-        alloc,
+    let mut tree = Tree::new(alloc);
+    tree.push(LentNode::head_at(table.vertex(root)))?;
+    list_tree(
         &root,
-        vertex.lent(),
-        LentNode::head_at(vertex),
         &LiveTable { table },
+        &mut tree,
         &mut seen.noted,
         &mut seen.room,
         &mut NoCounter,
-    )
+    )?;
+    Ok(tree)
 }
 
 /// The vertices that are the least of a cycle, in vertex order. Those that were seen in the trees of others are not looked at.

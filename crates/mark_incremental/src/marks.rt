@@ -1,7 +1,9 @@
 ghost use Rattle.std.specs.Prelude.{◌≡◌, IfOk};
 ghost use Rattle.edge_lattice.specs.declared.state.State.TheVariants.{Absent};
+ghost use Rattle.mark_store.specs.Places.{holds};
 ghost use Rattle.mark_incremental.specs.Standing.{StandFor, kept_in};
 
+use crate::walks_up::holds;
 use ctx_table::CtxTable;
 use grove_edits::Vertex;
 use mark_step::Mark;
@@ -77,6 +79,13 @@ impl Marks {
         ensures { result ≡ kept_in self.now vertex.now }
     {
         self.records.get(vertex)
+    }
+
+    /// Whether a vertex is the root of a cycle, of which marks that stand for a graph have exactly those.
+    pub fn is_root(&self, vertex: &Vertex) -> bool
+        ensures { result ≡ holds self.now.roots vertex.now }
+    {
+        holds(&self.roots, vertex)
     }
 
     /// The table of the types of the records.

@@ -14,4 +14,4 @@ returns-in_ok-list_place-in-Place-clause-found g c =
 pub returns-in_ok-list_place-in-Place-clause-nodes : goal.returns-in_ok-list_place-in-Place-clause-nodes
 returns-in_ok-list_place-in-Place-clause-nodes g c =
     place_listed (g.G.TreeSource.vertex_at c.args.graph.now) (g.G.TreeSource.edge_at c.args.graph.now) (g.G.TreeSource.live c.args.graph.now) c.args.task.now c.in-Place.spot c.in-Place.position c.in-Place.sort c.in-Place.depth
-    c.children.new.out.items c.deref.result.now c.args.tree.now c.list_place.new.tree c.in-Place.is c.in_ok-children-in-Place.ensures.edges c.deref.ensures.value c.in_ok-list_place-in-Place.ensures.nodes
+    c.children.new.out.items c.deref.result.now (g.G.TreeSource.nodes c.args.graph.now c.args.tree.now) (g.G.TreeSource.nodes c.args.graph.now c.list_place.new.tree) c.in-Place.is c.in_ok-children-in-Place.ensures.edges c.deref.ensures.value c.in_ok-list_place-in-Place.ensures.nodes
