@@ -73,7 +73,7 @@ def compare(size: int, repeats: int, reverse: bool) -> None:
         grove, yjs = measure([*GROVE, file.name], repeats, True), measure([*YJS, file.name], repeats, reverse)
     for key, (what, unit) in ROWS.items():
         other = yjs.get(key)
-        row(size, what, shown(grove[key], unit), shown(other, unit), f"{other / grove[key]:.2g}" if other else "")
+        row(size, what, shown(grove[key], unit), shown(other, unit), cell(float(other / grove[key])) if other else "")
 
 
 def main() -> None:
