@@ -1,7 +1,7 @@
 """One replica, loaded, edited at its foot and printed, by the library for C; with --beside PROGRAM beside another program that does the same.
 
 The foot of a tree is a random one of its lowest places, that of a chain its end: there a number is put, and deleted again. PROGRAM is called
-as bench/one_replica.c, and tells what it took in the same lines. Both have to print the same. At smaller sizes instructions are counted too, by
+as bench/one_replica.c, and tells what it took in the same lines. Both have to print the same. Of few edits instructions are counted too, by
 valgrind, since these are the same however busy the machine is. Needs a C compiler.
 """
 import os
@@ -15,7 +15,7 @@ import programs
 from measuring import TOP, cell, head, least, need, row, words_of
 
 PAIRS_AT_FOOT = 10_000
-MOST_COUNTED = 100_000
+MOST_COUNTED = 10_000
 NO_EDITS = pathlib.Path("/dev/null")
 WHAT = {
     "load": ("load, s", 1),
