@@ -2,6 +2,8 @@
 //! same with a channel it is measured by `bench/relay`.
 #![tactic(auto)]
 
+ghost use Rattle.std.specs.Prelude.{◌≤◌, IfSome};
+
 mod counting;
 mod sending;
 
@@ -31,7 +33,9 @@ fn main(rt: HostRuntime) -> ExitCode {
     }
 }
 
-fn numbers<R: Env + AllocGlobal>(rt: &R, alloc: Global) -> Option<(u32, u64)> {
+fn numbers<R: Env + AllocGlobal>(rt: &R, alloc: Global) -> Option<(u32, u64)>
+    ensures { IfSome result (λ numbers. (1 ≤ numbers.0) × (numbers.0 ≤ 8)) }
+{
     let words: Vec<String> = env::args(rt).ok()?.skip(1).collect(alloc).ok()?;
     let [senders, edits] = words.as_slice() else {
         return None;
