@@ -26,8 +26,18 @@ fn all_edits(alloc: Global, runs: &[EditRun]) -> Result<EditList, NoMemory>
     ensures { IfOk result (λ list. list ≡ joined runs.now) }
 {
     let mut list = EditList::new(alloc);
+    list.reserve(edit_count(runs))?;
     for run in runs {
         list.extend_from_slice(run.as_slice())?;
     }
     Ok(list)
+}
+
+// How many edits the runs have, for which room is made at once.
+fn edit_count(runs: &[EditRun]) -> usize {
+    let mut count = 0usize;
+    for run in runs {
+        count = count.saturating_add(run.as_slice().len());
+    }
+    count
 }
