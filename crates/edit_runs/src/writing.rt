@@ -1,15 +1,19 @@
 ghost use Rattle.std.specs.Prelude.{◌≡◌, ◌++◌, ℕ, List, IfOk, OnOk};
 ghost use Rattle.grove_edits.specs.Graph.{graph};
+ghost use Rattle.grove_sorts.specs.declared.version.Version.TheVariants.{Two};
+ghost use Rattle.edit_text.specs.Text.{text_of};
+ghost use Rattle.edit_merge.specs.Merged.{IsMerged};
 ghost use Rattle.grove_answers.specs.Texts.{IsCanonicalText};
 ghost use Rattle.edit_runs.specs.Runs.{joined};
 
 use crate::edit_run::EditRun;
-use grove_answers::append_canonical_text;
-use grove_edits::EditList;
+use edit_merge::merge_lines;
+use edit_text::write_edits;
+use grove_sorts::Version;
 use std::alloc::Global;
 use text_parts::NoMemory;
 
-/// Appends the canonical text of the graph of the edits of some runs.
+/// Appends the canonical text of the graph of the edits of some runs. Their lines are sorted, which are half as wide as the edits.
 pub(crate) fn append_canonical(
     alloc: Global,
     runs: &[EditRun],
@@ -17,27 +21,30 @@ pub(crate) fn append_canonical(
 ) -> Result<(), NoMemory>
     ensures appended { OnOk result ((text : List ℕ) × IsCanonicalText (graph (joined runs.now)) text × (out.new.items ≡ out.old.items ++ text)) }
 {
-    let list = all_edits(alloc, runs)?.into_canonical();
-    append_canonical_text(&list, out)
+    let lines = lines_of(alloc, runs)?;
+    let text = merged(alloc, &lines)?;
+    out.extend_from_slice(&text)?;
+    Ok(())
 }
 
-// The edits of all runs.
-fn all_edits(alloc: Global, runs: &[EditRun]) -> Result<EditList, NoMemory>
-    ensures { IfOk result (λ list. list ≡ joined runs.now) }
+// The lines of the edits of all runs.
+fn lines_of(alloc: Global, runs: &[EditRun]) -> Result<Vec<u8>, NoMemory>
+    ensures { IfOk result (λ lines. lines.items ≡ text_of (joined runs.now)) }
 {
-    let mut list = EditList::new(alloc);
-    list.reserve(edit_count(runs))?;
+    let mut lines = Vec::new(alloc);
     for run in runs {
-        list.extend_from_slice(run.as_slice())?;
+        write_edits(run.as_slice(), &mut lines)?;
     }
-    Ok(list)
+    Ok(lines)
 }
 
-// How many edits the runs have, for which room is made at once.
-fn edit_count(runs: &[EditRun]) -> usize {
-    let mut count = 0usize;
-    for run in runs {
-        count = count.saturating_add(run.as_slice().len());
+// The canonical text of the edits whose lines these are.
+fn merged(alloc: Global, lines: &[u8]) -> Result<Vec<u8>, NoMemory>
+    ensures { IfOk result (λ text. IsMerged Two lines.now text.items) }
+{
+    match merge_lines(alloc, Version::Two, lines) {
+        Ok(text) => Ok(text),
+        // Each of the lines is that of an edit, so that no other fault is left.
+        Err(_no_memory) => Err(NoMemory),
     }
-    count
 }
