@@ -13,7 +13,10 @@ use grove_sorts::Version;
 use std::alloc::Global;
 use text_parts::NoMemory;
 
-/// Appends the canonical text of the graph of the edits of some runs. Their lines are sorted, which are half as wide as the edits.
+// About how many bytes the line of an edit has. Room is made for that many at once; lines may be longer.
+const LIKELY_LINE: usize = 40;
+
+/// Appends the canonical text of the graph of the edits of some runs. Their lines are sorted, since an edit is three times as wide.
 pub(crate) fn append_canonical(
     alloc: Global,
     runs: &[EditRun],
@@ -32,10 +35,19 @@ fn lines_of(alloc: Global, runs: &[EditRun]) -> Result<Vec<u8>, NoMemory>
     ensures { IfOk result (λ lines. lines.items ≡ text_of (joined runs.now)) }
 {
     let mut lines = Vec::new(alloc);
+    lines.reserve(edit_count(runs).saturating_mul(LIKELY_LINE))?;
     for run in runs {
         write_edits(run.as_slice(), &mut lines)?;
     }
     Ok(lines)
+}
+
+fn edit_count(runs: &[EditRun]) -> usize {
+    let mut count = 0usize;
+    for run in runs {
+        count = count.saturating_add(run.as_slice().len());
+    }
+    count
 }
 
 // The canonical text of the edits whose lines these are.
