@@ -108,14 +108,14 @@ fn take<L: Ledger>(
     Ok(())
 }
 
-// Whether a replica prints what marking its whole graph anew prints.
+// Whether a replica prints what a table of its canonical list prints.
 fn prints_as_marked_anew(alloc: Global, replica: &Replica) -> Result<bool, NoMemory> {
-    let kept = kept_text(alloc, replica)?;
+    let own = own_text(alloc, replica)?;
     let anew = marked_anew(alloc, replica)?;
-    Ok(kept == anew)
+    Ok(own == anew)
 }
 
-fn kept_text(alloc: Global, replica: &Replica) -> Result<Vec<u8>, NoMemory> {
+fn own_text(alloc: Global, replica: &Replica) -> Result<Vec<u8>, NoMemory> {
     let mut text = Vec::new(alloc);
     replica.print(alloc, &mut text)?;
     Ok(text)

@@ -1,5 +1,5 @@
-//! Compares, after each of many random edits, what a replica prints from the records that it keeps with what marking the whole graph
-//! anew prints. In each round a replica of a few vertices takes so many insertions and deletions.
+//! Compares, after each of many random edits, what a replica prints with what a table of its canonical list prints. In each round a
+//! replica of a few vertices takes so many insertions and deletions.
 #![tactic(auto)]
 
 mod comparing;
