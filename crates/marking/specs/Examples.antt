@@ -2,7 +2,7 @@
 use Rattle.std.specs.Prelude.{ℕ, List, Option, map}
 use Rattle.grove_sorts.specs.declared.ident.Ident.{Ident}
 use Rattle.grove_sorts.specs.declared.ctor.Ctor.{Ctor}
-use Rattle.grove_sorts.specs.declared.ctor.Ctor.TheVariants.{Root, Var, Lam, Num, Plus, LitTrue, Choose, PVar, TNum, Let, Inl, Case}
+use Rattle.grove_sorts.specs.declared.ctor.Ctor.TheVariants.{Root, Var, Lam, Num, Plus, LitTrue, Choose, PVar, TNum, Let, Inr, Case}
 use Rattle.grove_sorts.specs.declared.position.Position.{Position}
 use Rattle.grove_sorts.specs.declared.position.Position.TheVariants.{Main, Param, Annot, Def, Body, Left, Right, Test, WhenTrue, WhenFalse, Operand, On, LeftParam, LeftBody, RightParam, RightBody}
 use Rattle.grove_edits.specs.declared.vertex.Vertex.{Vertex}
@@ -69,13 +69,13 @@ abbrev pub analysis : Vertex
 analysis = vertex 1 Case
 
 abbrev pub injection : Vertex
-injection = vertex 2 Inl
+injection = vertex 2 Inr
 
--- a case on 7 at the left of a sum, with its left parameter as its left body
-abbrev pub case_on_left : Ident → Ident → Ctor → Forest
-case_on_left x y right =
+-- a case on 7 at the right of a sum, with its right parameter as its right body
+abbrev pub case_on_right : Ident → Ident → Ctor → Forest
+case_on_right x y left =
     tree (edge analysis On injection) (leaf injection Operand 3 (Num 7) none)
-    (leaf analysis LeftParam 4 (PVar x) (leaf analysis LeftBody 5 (Var x) (leaf analysis RightParam 6 (PVar y) (leaf analysis RightBody 7 right none))))
+    (leaf analysis LeftParam 4 (PVar x) (leaf analysis LeftBody 5 left (leaf analysis RightParam 6 (PVar y) (leaf analysis RightBody 7 (Var y) none))))
 
 -- a sum with an injection of nothing at its left, and nothing at its right
 abbrev pub injected : Forest

@@ -14,7 +14,7 @@ fn a_session_is_read(rt: HostRuntime) -> Result<(), Fail> {
     assert!(rt; session.replicas.len() == 1);
     assert!(rt;
         session.authors.get(0)
-            == Some(Declared {
+            == Some(&Declared {
                 author: 3,
                 replica: 0
             })
@@ -33,7 +33,7 @@ fn a_session_is_read(rt: HostRuntime) -> Result<(), Fail> {
         },
         ctor: Ctor::Num(5),
     };
-    assert!(rt; block.lines.get(0) == Some(Line::Author { author: 3, action }));
+    assert!(rt; block.lines.get(0) == Some(&Line::Author { author: 3, action }));
     let mut out = Vec::new(rt.alloc());
     write_action(3, &action, &mut out)?;
     assert!(rt; out.as_slice() == b"3 construct 2.1 left num:5".as_slice());

@@ -50,9 +50,9 @@ returns-clause-defined c = λ x. ap nodes (is_same_name-same x) where
 -- the nodes of a case by what its bodies are
 abbrev case_nodes : Marked → Marked → List Shown
 case_nodes left right =
-    let whole = case_result (Some (Num, Unknown)) (meet left.typ right.typ) in
+    let whole = case_result (Some (Unknown, Num)) (meet left.typ right.typ) in
     (Some Synthesise, Some whole.typ, whole.mark)
-    ∷ (Some Synthesise, Some (Pair Sum Num Unknown), mark.None)
+    ∷ (Some Synthesise, Some (Pair Sum Unknown Num), mark.None)
     ∷ (Some Synthesise, Some Num, mark.None)
     ∷ (None, None, mark.None)
     ∷ (Some Synthesise, Some left.typ, left.mark)
@@ -64,12 +64,12 @@ abbrev variable : Typ → Bool → Marked
 variable t same = or_mark (if same then Some t else None) mark.Free
 
 pub returns-clause-bodies : goal.returns-clause-bodies
-returns-clause-bodies c = λ x y. ap (λ same. case_nodes (variable Num same) (unmarked Boolean)) (is_same_name-same x)
+returns-clause-bodies c = λ x y. ap (λ same. case_nodes (unmarked Boolean) (variable Num same)) (is_same_name-same y)
 
 pub returns-clause-parts : goal.returns-clause-parts
 returns-clause-parts c = λ x y.
-    ap (λ same. case_nodes (variable Num same) (variable Unknown (is_same_name y y))) (is_same_name-same x)
-    ∙ ap (λ same. case_nodes (variable Num true) (variable Unknown same)) (is_same_name-same y)
+    ap (λ same. case_nodes (variable Unknown (is_same_name x x)) (variable Num same)) (is_same_name-same y)
+    ∙ ap (λ same. case_nodes (variable Unknown same) (variable Num true)) (is_same_name-same x)
 
 pub returns-clause-injected : goal.returns-clause-injected
 returns-clause-injected c = refl
