@@ -7,7 +7,7 @@ use Rattle.user_actions.specs.declared.new_names.NewNames.{NewNames}
 use Rattle.user_actions.specs.declared.admitted.Admitted.TheVariants as found
 use Rattle.user_actions.specs.Names.{greatest_counter}
 use Rattle.user_actions.specs.Admitted.{made_of, edits_made, answer_made}
-use Rattle.user_actions.proofs.PlanLaws.{edits_here}
+use Rattle.user_actions.proofs.Accepted.{edits_here}
 use Rattle.grove_edits.specs.declared.action.Action.TheVariants.{Become}
 use Rattle.grove_edits.specs.declared.act_fault.ActFault.TheVariants.{Empty}
 use Rattle.user_actions.specs.Faults.{names_spent, first_some}

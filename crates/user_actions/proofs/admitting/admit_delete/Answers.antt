@@ -1,5 +1,5 @@
 use Rattle.std.proofs.Common.{ap, refl, sym, ◌∙◌}
-use Rattle.user_actions.proofs.PlanLaws.{edits_here}
+use Rattle.user_actions.proofs.Accepted.{edits_here}
 use Rattle.user_actions.specs.PlainEdits.{deletions}
 use Rattle.user_actions.specs.Place.{sort_at_place}
 use Rattle.grove_edits.specs.declared.action.Action.TheVariants.{Delete}

@@ -8,7 +8,7 @@ use Rattle.user_actions.specs.declared.new_names.NewNames.{NewNames}
 use Rattle.user_actions.specs.declared.admitted.Admitted.TheVariants as found
 use Rattle.user_actions.specs.Names.{greatest_counter, edges_named, is_same_name}
 use Rattle.user_actions.specs.Admitted.{edits_made, answer_made}
-use Rattle.user_actions.proofs.PlanLaws.{edits_here}
+use Rattle.user_actions.proofs.Accepted.{edits_here}
 use Rattle.graph_words.specs.Live.{holds_edge}
 use Rattle.grove_edits.specs.declared.action.Action.TheVariants.{Relocate}
 use Rattle.grove_edits.specs.declared.act_fault.ActFault.TheVariants.{Occupied}
