@@ -1,21 +1,21 @@
 -- Lists of edits in runs, and the entries that hand them on.
-use Rattle.std.proofs.Common.{◌≡◌, ℕ, zero, suc, ◌+◌, ◌≤◌, List, [], ◌∷◌, ◌++◌, map, length, refl, sym, ap, ◌∙◌, subst, arith, append_assoc, append-nil, length-append, length-take, ◌<◌, ◌-◌, take, drop, get_or, slice_range}
+use Rattle.std.proofs.Common.{◌≡◌, ℕ, zero, suc, ◌+◌, ◌≤◌, List, [], ◌∷◌, ◌++◌, map, length, refl, sym, ap, ◌∙◌, subst, arith, append-nil, length-append, length-take, ◌<◌, ◌-◌, take, drop, get_or, slice_range}
 use Rattle.std.specs.Prelude.{slice_get, Some}
 use Rattle.std.specs.List.{AllByRecursion}
+use Rattle.std.proofs.lemmas.Grind.{flat_map-append}
 use Rattle.std.proofs.lemmas.List.{take_more}
 use Rattle.grove_edits.specs.declared.edit.Edit.{Edit}
 use Rattle.grove_edits.specs.declared.actor.Actor.TheVariants.{Send}
 use Rattle.shared_replica.specs.declared.journal.Entry.{Entry}
 use Rattle.live_relay.specs.Parcels.{IsNumber}
-use Rattle.live_relay.specs.Flow.{AreEntriesOf, commands_by, commands_from}
+use Rattle.live_relay.specs.Flow.{AreEntriesOf, commands_from}
 use Rattle.edit_runs.specs.declared.piece.Piece.{Piece}
 use Rattle.edit_runs.specs.declared.stretch.Stretch.{Stretch}
 use Rattle.edit_runs.specs.Stretch.{edits_in, piece_of}
-use Rattle.edit_runs.specs.Runs.{joined, IsShort, AreRunsOf, AreCut, pieces_from, HandOn, AreEntriesInRuns}
+use Rattle.edit_runs.specs.Runs.{joined, IsShort, AreRunsOf, AreCut, pieces_from, AreEntriesInRuns}
 
 pub joined-push : (runs : List (List Edit)) (run : List Edit) → joined (runs ++ run ∷ []) ≡ joined runs ++ run
-joined-push [] run = append-nil run
-joined-push (r ∷ rs) run = ap (λ (es : List Edit). r ++ es) (joined-push rs run) ∙ sym (append_assoc r (joined rs) run)
+joined-push runs run = flat_map-append (λ r. r) runs (run ∷ []) ∙ ap (λ (es : List Edit). joined runs ++ es) (append-nil run)
 
 -- the runs up to an index, with the one that stands there
 pub next_run : (runs : List (List Edit)) (index : ℕ) (run : List Edit) → index < length runs → run ≡ get_or runs index run → joined (take (index + 1) runs) ≡ joined (take index runs) ++ run

@@ -10,7 +10,7 @@ use Rattle.edit_text.proofs.TextsOfEdits.{one_list}
 use Rattle.edit_merge.specs.Merged.{IsMerged}
 use Rattle.grove_answers.specs.Texts.{IsCanonicalText}
 
-all_of_two : (edits : List Edit) → AreOf Two edits
+pub all_of_two : (edits : List Edit) → AreOf Two edits
 all_of_two [] = tt
 all_of_two (edit ∷ edits) = (all_in_two (edit_edge edit), all_of_two edits)
 

@@ -1,6 +1,6 @@
 -- Lists of edits in runs.
-use Rattle.std.specs.Prelude.{◌≡◌, ℕ, ◌+◌, ◌≤◌, List, [], ◌∷◌, ◌++◌, length, map, slice_get, Some}
-use Rattle.std.specs.List.{AllByRecursion}
+use Rattle.std.specs.Prelude.{◌≡◌, ℕ, ◌+◌, ◌≤◌, List, [], ◌∷◌, length, map, slice_get, Some}
+use Rattle.std.specs.List.{AllByRecursion, flat_map}
 use Rattle.grove_edits.specs.declared.edit.Edit.{Edit}
 use Rattle.grove_edits.specs.declared.actor.Actor.TheVariants.{Send}
 use Rattle.shared_replica.specs.declared.journal.Entry.{Entry}
@@ -12,8 +12,7 @@ use Rattle.edit_runs.specs.Stretch.{edits_in}
 
 -- runs one after the other
 abbrev pub joined : List (List Edit) → List Edit
-joined [] = []
-joined (run ∷ runs) = run ++ joined runs
+joined runs = flat_map (λ run. run) runs
 
 -- a run has some edits, and at most so many
 abbrev pub IsShort : List Edit → Type 0

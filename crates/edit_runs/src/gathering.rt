@@ -41,6 +41,7 @@ impl Gathering {
     /// Appends the canonical text of the graph of the edits.
     pub fn canonical(&self, alloc: Global, out: &mut Vec<u8>) -> Result<(), NoMemory>
         ensures appended { OnOk result ((text : List ℕ) × IsCanonicalText (graph self.now) text × (out.new.items ≡ out.old.items ++ text)) }
+        ensures unchanged { OnErr result (out.new.items ≡ out.old.items) }
     {
         append_canonical(alloc, &self.runs, out)
     }

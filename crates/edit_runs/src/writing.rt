@@ -1,14 +1,15 @@
-ghost use Rattle.std.specs.Prelude.{◌≡◌, ◌++◌, ℕ, List, IfOk, OnOk};
+ghost use Rattle.std.specs.Prelude.{◌≡◌, ◌++◌, ℕ, List, IfOk, OnOk, OnErr};
+ghost use Rattle.grove_edits.specs.declared.edit.Edit.{Edit};
 ghost use Rattle.grove_edits.specs.Graph.{graph};
 ghost use Rattle.grove_sorts.specs.declared.version.Version.TheVariants.{Two};
-ghost use Rattle.edit_text.specs.Text.{text_of};
+ghost use Rattle.edit_text.specs.Text.{text_of, SpellsAll};
 ghost use Rattle.edit_merge.specs.Merged.{IsMerged};
 ghost use Rattle.grove_answers.specs.Texts.{IsCanonicalText};
 ghost use Rattle.edit_runs.specs.Runs.{joined};
 
 use crate::edit_run::EditRun;
 use edit_merge::merge_lines;
-use edit_text::write_edits;
+use edit_text::{TextFault, write_edits};
 use grove_sorts::Version;
 use std::alloc::Global;
 use text_parts::NoMemory;
@@ -23,6 +24,7 @@ pub(crate) fn append_canonical(
     out: &mut Vec<u8>,
 ) -> Result<(), NoMemory>
     ensures appended { OnOk result ((text : List ℕ) × IsCanonicalText (graph (joined runs.now)) text × (out.new.items ≡ out.old.items ++ text)) }
+    ensures unchanged { OnErr result (out.new.items ≡ out.old.items) }
 {
     let lines = lines_of(alloc, runs)?;
     let text = merged(alloc, &lines)?;
@@ -52,11 +54,14 @@ fn edit_count(runs: &[EditRun]) -> usize {
 
 // The canonical text of the edits whose lines these are.
 fn merged(alloc: Global, lines: &[u8]) -> Result<Vec<u8>, NoMemory>
+    requires { (edits : List Edit) × SpellsAll Two lines.now edits }
     ensures { IfOk result (λ text. IsMerged Two lines.now text.items) }
 {
     match merge_lines(alloc, Version::Two, lines) {
         Ok(text) => Ok(text),
-        // Each of the lines is that of an edit, so that no other fault is left.
-        Err(_no_memory) => Err(NoMemory),
+        Err(TextFault::NoMemory) => Err(NoMemory),
+        // Each of the lines is that of an edit.
+        Err(TextFault::Malformed { .. }) => unreachable!(),
+        Err(TextFault::Rest { .. }) => unreachable!(),
     }
 }

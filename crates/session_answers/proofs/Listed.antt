@@ -5,7 +5,7 @@ use Rattle.std.proofs.lemmas.Bool.{eqb-true, eq-eqb}
 use Rattle.std.proofs.lemmas.List.{length-map, length-append}
 use Rattle.std.proofs.lemmas.Option.{same_Some, none-some}
 use Rattle.grove_edits.specs.declared.action.Action.{Action}
-use Rattle.grove_edits.specs.declared.action.Action.TheVariants.{Construct, Wrap, Become, Delete, Cut, Relocate, Restore}
+use Rattle.grove_edits.specs.declared.action.Action.TheVariants.{Cut}
 use Rattle.grove_edits.specs.declared.actor.Actor.{Actor}
 use Rattle.grove_edits.specs.declared.actor.Actor.TheVariants as actor
 use Rattle.grove_edits.specs.declared.edit.Edit.{Edit}
@@ -159,22 +159,12 @@ module _ (authors : List Declared) (lines : List Line) (first_send replica : ℕ
 -- ---- which slots are raised
 
 no_slots_named : (opening : List Edit) (action : Action) → is_cut action ≡ false → slots_named opening action ≡ []
-no_slots_named opening (Construct place ctor) none = refl
-no_slots_named opening (Wrap place ctor) none = refl
-no_slots_named opening (Become place ctor) none = refl
-no_slots_named opening (Delete place) none = refl
 no_slots_named opening (Cut edge) none = absurd cc
-no_slots_named opening (Relocate edge place) none = refl
-no_slots_named opening (Restore vertex place) none = refl
+no_slots_named opening _ none = refl
 
 no_slots_of_none : (action : Action) → slots_named [] action ≡ []
-no_slots_of_none (Construct place ctor) = refl
-no_slots_of_none (Wrap place ctor) = refl
-no_slots_of_none (Become place ctor) = refl
-no_slots_of_none (Delete place) = refl
 no_slots_of_none (Cut edge) = refl
-no_slots_of_none (Relocate edge place) = refl
-no_slots_of_none (Restore vertex place) = refl
+no_slots_of_none _ = refl
 
 cut_of_none : (actions : List Action) → slots_cut [] actions ≡ []
 cut_of_none [] = refl

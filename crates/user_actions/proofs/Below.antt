@@ -45,8 +45,9 @@ use Rattle.user_actions.proofs.PlainGraphs.{AllEdits, HasEdit, PutsEdges, is_at,
 use Rattle.user_actions.proofs.EditLists.{all_append, has_second, all_deletions, edge_with, held_first, held_later}
 use Rattle.user_actions.proofs.NoFault.{no_fault, only_one}
 use Rattle.user_actions.proofs.OnePlace.{IsEntry, puts_wrap, puts_become, at_itself}
-use Rattle.user_actions.proofs.Accepted.{made, ToWrap, to_wrap, ToBecome, to_become}
-use Rattle.user_actions.proofs.PlanLaws.{live_along, after_is, edits_here}
+use Rattle.user_actions.proofs.Accepted.{made, edits_here}
+use Rattle.user_actions.proofs.GoodPlans.{ToWrap, to_wrap, ToBecome, to_become}
+use Rattle.user_actions.proofs.PlanLaws.{live_along, after_is}
 use Rattle.user_actions.proofs.InsertedNames.{made_is}
 use Rattle.user_actions.proofs.Meant.{made_vertex}
 

@@ -1,5 +1,5 @@
 -- An action that moves a vertex makes no vertex the root of a cycle that was none before.
-use Rattle.std.proofs.Common.{◌≡◌, ℕ, Bool, true, false, List, [], ◌∷◌, map, refl, sym, ap, ◌∙◌}
+use Rattle.std.proofs.Common.{◌≡◌, ℕ, Bool, true, false, List, [], ◌∷◌, refl, sym, ap, ◌∙◌}
 use Rattle.std.specs.Prelude.{◌&&◌, Some}
 use Rattle.edge_lattice.specs.declared.state.State.TheVariants.{Live}
 use Rattle.grove_edits.specs.declared.vertex.Vertex.{Vertex}
@@ -18,22 +18,18 @@ use Rattle.graph_words.proofs.Ordered.{holds-filter, in_order-filter, same_lists
 use Rattle.graph_words.proofs.Cycles.{class_is_cycle}
 use Rattle.grove_terms.proofs.OneGrove.{one_live}
 use Rattle.grove_edits.specs.declared.action.Action.{Action}
-use Rattle.grove_edits.specs.declared.action.Action.TheVariants.{Relocate, Restore}
 use Rattle.grove_edits.specs.declared.answer.Answer.{Answer}
-use Rattle.user_actions.specs.Names.{new_name, greatest_counter}
-use Rattle.user_actions.specs.Place.{of_vertex}
-use Rattle.user_actions.specs.PlainEdits.{PlainEdit, plain, insertion, relocate_edits}
+use Rattle.user_actions.specs.PlainEdits.{PlainEdit}
 use Rattle.user_actions.specs.Plan.{IsPlan}
 use Rattle.user_actions.specs.After.{graph_after, IsAccepted}
-use Rattle.user_actions.specs.Actions.{moves_vertex}
+use Rattle.user_actions.specs.Actions.{edits_of, moves_vertex}
 use Rattle.grove_sorts.proofs.Truths.{both_true, and_true, same_tests}
 use Rattle.user_actions.proofs.Rerooted.{IsMoved, root_before}
 use Rattle.user_actions.proofs.PlainGraphs.{only_edge, plain_graph, AllEdits, after_edits, inserted_live, not_of, join_absent}
-use Rattle.user_actions.proofs.EditLists.{edge_with}
-use Rattle.user_actions.proofs.NoFault.{no_fault, vertex_named_is}
-use Rattle.user_actions.proofs.OnePlace.{puts_restore, puts_relocate}
-use Rattle.user_actions.proofs.Accepted.{made, to_relocate, to_restore}
-use Rattle.user_actions.proofs.PlanLaws.{live_along, after_is, edits_here}
+use Rattle.user_actions.proofs.NoFault.{no_fault}
+use Rattle.user_actions.proofs.Accepted.{made}
+use Rattle.user_actions.proofs.GoodPlans.{good_plan}
+use Rattle.user_actions.proofs.PlanLaws.{live_along, after_is, moving_fills}
 
 abbrev is_to : Vertex → Edge → Bool
 is_to v e = is_same_vertex e.target v
@@ -98,34 +94,14 @@ class_before before after t v u is cycle =
 pub no_new_cycle : (g : Graph) (opening : List Edge) (author : ℕ) (action : Action) (edits : List Edit) (answer : Answer) (before after : List Edge) (u : Vertex)
     → IsPlan g opening author action edits answer → IsAccepted answer → moves_vertex action ≡ true → AreLive g before → AreLive (graph_after g edits) after
     → class after u ≡ Cycle → class before u ≡ Cycle
-no_new_cycle g opening author (Relocate edge place) edits answer before after u planned accepted moves of_g of_h cycle =
+no_new_cycle g opening author action edits answer before after u planned accepted moves of_g of_h cycle =
     let lists = planned.lists in
     let of = planned.are_lists in
-    let is = made lists opening author (Relocate edge place) edits answer planned.edits_are planned.answer_is accepted in
-    let to = to_relocate lists opening author edge place (no_fault lists opening author (Relocate edge place) is.no_fault) in
-    let v = to.has.vertex in
-    let ps = relocate_edits author (greatest_counter lists author) v place (to.moved ∷ []) in
-    let puts = puts_relocate g lists of author place edge v to.moved to.sole to.free in
-    let are : map plain edits ≡ ps = is.edits_are ∙ edits_here lists author (Relocate edge place) place v to.has.only ∙ ap (relocate_edits author (greatest_counter lists author) v place) to.sole in
+    let is = made lists opening author action edits answer planned.edits_are planned.answer_is accepted in
+    let ps = edits_of lists opening author action in
+    let f = (good_plan g lists of opening author action (no_fault lists opening author action is.no_fault)).fills (moving_fills action moves) in
+    let m = f.moves moves in
     let one : before ≡ lists.live = one_live g before lists.live of_g of.live in
-    let after_them = live_along (graph_after g edits) (after_edits g ps) after (after_is g edits ps are) of_h in
-    let x = edge_with author (greatest_counter lists author) 1 v place.position to.moved.target in
-    let is_moved = moved g ps lists.live after v to.moved.target x of.live after_them (refl, (refl, tt)) (inserted_live g x ps puts.new puts.inserted puts.known) refl refl to.apart in
-    ap (λ es. class es u) one ∙ class_before lists.live after to.moved.target v u is_moved cycle
-no_new_cycle g opening author (Restore vertex place) edits answer before after u planned accepted moves of_g of_h cycle =
-    let lists = planned.lists in
-    let of = planned.are_lists in
-    let is = made lists opening author (Restore vertex place) edits answer planned.edits_are planned.answer_is accepted in
-    let to = to_restore lists opening author vertex place (no_fault lists opening author (Restore vertex place) is.no_fault) in
-    let v = to.has.vertex in
-    let x = edge_with author (greatest_counter lists author) 1 v place.position to.moved in
-    let ps : List PlainEdit = insertion (new_name author (greatest_counter lists author) 1) v place.position to.moved ∷ [] in
-    let puts = puts_restore g lists of author place to.moved v to.free in
-    let are : map plain edits ≡ ps =
-    is.edits_are ∙ edits_here lists author (Restore vertex place) place v to.has.only
-    ∙ ap (λ o. of_vertex o [] (λ m. insertion (new_name author (greatest_counter lists author) 1) v place.position m ∷ [])) (vertex_named_is lists vertex to.moved to.only) in
-    let one : before ≡ lists.live = one_live g before lists.live of_g of.live in
-    let after_them = live_along (graph_after g edits) (after_edits g ps) after (after_is g edits ps are) of_h in
-    let is_moved = moved g ps lists.live after v to.moved x of.live after_them (refl, tt) (inserted_live g x ps puts.new puts.inserted puts.known) refl refl to.apart in
-    ap (λ es. class es u) one ∙ class_before lists.live after to.moved v u is_moved cycle
-no_new_cycle g opening author _ edits answer before after u planned accepted moves of_g of_h cycle = absurd cc
+    let after_them = live_along (graph_after g edits) (after_edits g ps) after (after_is g edits ps is.edits_are) of_h in
+    let is_moved = moved g ps lists.live after f.vertex f.new.target f.new of.live after_them m.each (inserted_live g f.new ps f.puts.new f.puts.inserted f.puts.known) refl m.source m.apart in
+    ap (λ es. class es u) one ∙ class_before lists.live after f.new.target f.vertex u is_moved cycle

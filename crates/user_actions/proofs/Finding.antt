@@ -33,7 +33,7 @@ use Rattle.user_actions.specs.Checks.{wrapping_position}
 use Rattle.user_actions.specs.Carried.{carried}
 use Rattle.user_actions.specs.Spot.{IsSpot}
 use Rattle.user_actions.specs.Standing.{CanStandAt}
-use Rattle.user_actions.specs.Admitted.{made_of, HasNames, CanStandIn, TellsFound}
+use Rattle.user_actions.specs.Admitted.{made_of, HasNames, CanStandIn, TellsFound, TellsAdmitted}
 use Rattle.user_actions.proofs.NoFault.{IsOnly, at_place_is}
 use Rattle.user_actions.proofs.GoodEdges.{parts_of, vertex_good}
 use Rattle.user_actions.proofs.LiveEdges.{live_well, children_live, child_sort, carried_stands, all_well}
@@ -107,3 +107,8 @@ module _ (g : Graph) (live : List Edge) (well : AreWellFormed g) (are : AreLive 
 
 pub moved_well : (g : Graph) (live : List Edge) → AreWellFormed g → AreLive g live → (ctor : Ctor) (es : List Edge) (replaced : Edge) → es ≡ carried ctor replaced live → All IsWellFormed es
 moved_well g live well are ctor es replaced is = all_well es (λ e held. (carried_stands g live well are ctor replaced e (ap (holds_edge e) (sym is) ∙ held)).0)
+
+-- what is told of an action is told of one that is the same
+pub told_along : (g : Graph) (opening : List Edge) (author : ℕ) (action same : Action) (result : Result Admitted PlanFault) → action ≡ same → TellsAdmitted g opening author same result
+    → TellsAdmitted g opening author action result
+told_along g opening author action same result is told = subst (λ (other : Action). TellsAdmitted g opening author other result) (sym is) told

@@ -1,7 +1,7 @@
--- The edits of an action to which no fault applies are of well-formed edges whose numbers lie in their ranges.
+-- The edges of the edits that actions make are well formed, and their numbers lie in their ranges.
 use Rattle.std.proofs.Common.{◌≡◌, ◌≢◌, ℕ, ◌+◌, ◌<◌, ◌≤◌, ◌^◌, Bool, true, false, cond, List, [], ◌∷◌, length, map, refl, sym, ap, subst, ◌∙◌, arith, lt-ltb}
 use borrow.Author.Tests.{ltb-false}
-use Rattle.std.specs.Prelude.{◌&&◌, ◌==◌, nat_lt, None, Some, IfSome, option_and_then}
+use Rattle.std.specs.Prelude.{◌&&◌, ◌==◌, nat_lt, None, Some, IfSome}
 use Rattle.edge_lattice.specs.declared.state.State.TheVariants.{Absent}
 use Rattle.grove_names.specs.declared.name.Name.{Name}
 use Rattle.grove_sorts.specs.declared.sort.Sort.{Sort}
@@ -23,25 +23,23 @@ use Rattle.grove_edits.proofs.WellFormed.{edit_made, edge_made, one_answer}
 use Rattle.graph_words.proofs.Ordered.{holds-filter}
 use Rattle.grove_edits.specs.declared.action.Place.{Place}
 use Rattle.grove_edits.specs.declared.action.Action.{Action}
-use Rattle.grove_edits.specs.declared.action.Action.TheVariants.{Construct, Wrap, Become, Delete, Cut, Relocate, Restore}
 use Rattle.grove_edits.specs.declared.act_fault.ActFault.TheVariants.{NamesSpent}
 use Rattle.user_actions.specs.Lists.{GraphLists, AreListsOf}
 use Rattle.user_actions.specs.Names.{is_same_name, new_name, edges_named, greatest_counter}
-use Rattle.user_actions.specs.Place.{edges_at, of_vertex}
-use Rattle.user_actions.specs.Faults.{last_counter}
+use Rattle.user_actions.specs.Place.{edges_at}
+use Rattle.user_actions.specs.Faults.{names_spent, last_counter}
 use Rattle.user_actions.specs.PlainEdits.{PlainEdit, plain, deletions, insertion, new_vertex, to_new_vertex, put_below, wrap_edits, become_edits, relocate_edits}
-use Rattle.user_actions.specs.Carried.{carried, carried_by_first}
-use Rattle.user_actions.specs.Checks.{edges_cut, else_edges, wrapping_position}
-use Rattle.user_actions.specs.Actions.{name_count, edits_of}
-use Rattle.user_actions.specs.Good.{AreWellFormed, AreInRange, AreOpening, HasLiteralInRange}
+use Rattle.user_actions.specs.Carried.{carried}
+use Rattle.user_actions.specs.Checks.{edges_cut, else_edges}
+use Rattle.user_actions.specs.Actions.{name_count}
+use Rattle.user_actions.specs.Good.{AreWellFormed, AreInRange, AreOpening}
 use Rattle.grove_sorts.proofs.Truths.{both_true}
 use Rattle.user_actions.proofs.GoodEdges.{parts_of, well_formed_from, vertex_good, vertex_in_range, no_root_at}
 use Rattle.user_actions.proofs.PlainGraphs.{AllEdits}
 use Rattle.user_actions.proofs.EditLists.{all_append, all_deletions, all_put_below, all_carry_over, edge_with, held_first}
-use Rattle.user_actions.proofs.NoFault.{NoFault, only_stands, vertex_named_is}
+use Rattle.user_actions.proofs.NoFault.{only_stands}
 use Rattle.user_actions.proofs.OnePlace.{held_at_place, live_known, entry_found, carried_is}
-use Rattle.user_actions.proofs.Accepted.{HasPlace, to_construct, to_wrap, to_become, to_delete, to_relocate, to_restore}
-use Rattle.user_actions.proofs.PlanLaws.{edits_here}
+use Rattle.user_actions.proofs.Accepted.{HasPlace}
 
 abbrev pub IsGood : Edge → Type 0
 IsGood e = IsWellFormed e × EdgeInRange e
@@ -56,6 +54,12 @@ within_last greatest count none positive = by_test (nat_lt last_counter (greates
       let some : Some (NamesSpent greatest) ≡ None = sym (ap (λ b. cond b (Some (NamesSpent greatest)) None) both) ∙ none in
       absurd cc
   by_test false within = ltb-false last_counter (greatest + count) within
+
+-- so many new names are left where no fault says that they are spent
+pub names_left : (lists : GraphLists) (author : ℕ) (action : Action) (count : ℕ) → name_count lists action ≡ count → 0 < count → names_spent lists author action ≡ None → greatest_counter lists author + count ≤ last_counter
+names_left lists author action count is positive none =
+    within_last (greatest_counter lists author) count
+    (ap (λ n. cond (nat_lt 0 n && nat_lt last_counter (greatest_counter lists author + n)) (Some (NamesSpent (greatest_counter lists author))) None) (sym is) ∙ none) positive
 
 module _ (g : Graph) (lists : GraphLists) (of : AreListsOf g lists) (well : AreWellFormed g) (ranged : AreInRange g) (author : ℕ) (positive : 0 < author) (small : author < 2 ^ 32) where
   good_present : (e : Edge) → g e ≢ Absent → IsGood e
@@ -92,7 +96,7 @@ module _ (g : Graph) (lists : GraphLists) (of : AreListsOf g lists) (well : AreW
   good_target : (e : Edge) → holds_edge e lists.live ≡ true → (is_vertex e.target ≡ true) × VertexInRange e.target
   good_target e held = let good = good_live e held in ((parts_of e good.0).target, good.1.3)
 
-  -- ---- the edits of each action
+  -- ---- edits of each kind
 
   good_deletions : (es : List Edge) → ((e : Edge) → holds_edge e es ≡ true → IsGood e) → AllEdits (λ kind e. IsGood e) (deletions es)
   good_deletions es each = all_deletions (λ kind e. IsGood e) es each
@@ -103,7 +107,7 @@ module _ (g : Graph) (lists : GraphLists) (of : AreListsOf g lists) (well : AreW
   stands : (place : Place) (has : HasPlace lists place) → stands_in has.vertex lists.vertices ≡ true
   stands place has = (only_stands lists place.name has.vertex has.only).0
 
-  good_construct : (place : Place) (ctor : Ctor) (has : HasPlace lists place) (count : ℕ) → has.sort ≡ sort_of_ctor ctor → literal ctor < 2 ^ 64
+  pub good_construct : (place : Place) (ctor : Ctor) (has : HasPlace lists place) (count : ℕ) → has.sort ≡ sort_of_ctor ctor → literal ctor < 2 ^ 64
       → greatest_counter lists author + count ≤ last_counter → 2 ≤ count → IsGood (edge_with author (greatest_counter lists author) 2 has.vertex place.position (new_vertex author (greatest_counter lists author) ctor))
   good_construct place ctor has count sort in_range fits enough =
       let wanted = wanted_by place has (sort_of_ctor ctor) sort in
@@ -122,7 +126,7 @@ module _ (g : Graph) (lists : GraphLists) (of : AreListsOf g lists) (well : AreW
       let both : Some sort ≡ Some (sort_of_ctor e.target.ctor) = sym wanted ∙ moved in
       cc
 
-  good_wrap : (place : Place) (ctor : Ctor) (has : HasPlace lists place) (below : Position) → has.sort ≡ sort_of_ctor ctor → literal ctor < 2 ^ 64 → first_position ctor has.sort ≡ Some below
+  pub good_wrap : (place : Place) (ctor : Ctor) (has : HasPlace lists place) (below : Position) → has.sort ≡ sort_of_ctor ctor → literal ctor < 2 ^ 64 → first_position ctor has.sort ≡ Some below
       → greatest_counter lists author + (2 + length (edges_at lists has.vertex place)) ≤ last_counter
       → AllEdits (λ kind e. IsGood e) (wrap_edits author (greatest_counter lists author) ctor has.vertex place (Some below) (edges_at lists has.vertex place))
   good_wrap place ctor has below sort in_range wraps fits =
@@ -155,7 +159,7 @@ module _ (g : Graph) (lists : GraphLists) (of : AreListsOf g lists) (well : AreW
       let same : Some is.entry.1 ≡ Some (sort_of_ctor c.target.ctor) = sym listed ∙ moved in
       (is.live_edge, ap (sort_at ctor) position ∙ one_answer (sort_at ctor is.entry.0) is.entry.1 is.sorted ∙ same)
 
-  good_become : (place : Place) (ctor : Ctor) (has : HasPlace lists place) (e : Edge) → has.sort ≡ sort_of_ctor ctor → literal ctor < 2 ^ 64 → edges_at lists has.vertex place ≡ e ∷ []
+  pub good_become : (place : Place) (ctor : Ctor) (has : HasPlace lists place) (e : Edge) → has.sort ≡ sort_of_ctor ctor → literal ctor < 2 ^ 64 → edges_at lists has.vertex place ≡ e ∷ []
       → greatest_counter lists author + (2 + length (carried ctor e lists.live)) ≤ last_counter
       → AllEdits (λ kind f. IsGood f) (become_edits author (greatest_counter lists author) ctor has.vertex place (e ∷ []) lists.live)
   good_become place ctor has e sort in_range sole fits =
@@ -174,81 +178,35 @@ module _ (g : Graph) (lists : GraphLists) (of : AreListsOf g lists) (well : AreW
         ),
       )
 
-  named_live : (edge : Name) (f : Edge) → holds_edge f (edges_named edge lists.live) ≡ true → holds_edge f lists.live ≡ true
-  named_live edge f held = (both_true (is_same_name f.name edge) (holds_edge f lists.live) (sym (holds-filter (λ c. is_same_name c.name edge) f lists.live) ∙ held)).1
+  -- what stands at a place
+  pub good_at_place : (v : Vertex) (place : Place) → AllEdits (λ kind e. IsGood e) (deletions (edges_at lists v place))
+  good_at_place v place = good_deletions (edges_at lists v place) (λ e held. good_live e (held_at_place g lists of author v place e held).1)
 
-  good_cut : (opening : List Edge) → AreOpening g opening → (edge : Name) (e : Edge) → holds_edge e (edges_cut lists opening edge) ≡ true → IsGood e
-  good_cut opening opened edge e held = by_opening (edges_named edge opening) refl held where
-    of_opening : holds_edge e (edges_named edge opening) ≡ true → IsGood e
-    of_opening h = good_present e (opened e (both_true (is_same_name e.name edge) (holds_edge e opening) (sym (holds-filter (λ c. is_same_name c.name edge) e opening) ∙ h)).1)
+  pub good_cut : (opening : List Edge) → AreOpening g opening → (edge : Name) → AllEdits (λ kind e. IsGood e) (deletions (edges_cut lists opening edge))
+  good_cut opening opened edge = good_deletions (edges_cut lists opening edge) (λ e held. by_opening e (edges_named edge opening) refl held) where
+    among : (e : Edge) (es : List Edge) → holds_edge e (edges_named edge es) ≡ true → holds_edge e es ≡ true
+    among e es h = (both_true (is_same_name e.name edge) (holds_edge e es) (sym (holds-filter (λ c. is_same_name c.name edge) e es) ∙ h)).1
 
-    of_graph : holds_edge e (edges_named edge lists.present) ≡ true → IsGood e
-    of_graph h = good_present e (of.present.no_other e (both_true (is_same_name e.name edge) (holds_edge e lists.present) (sym (holds-filter (λ c. is_same_name c.name edge) e lists.present) ∙ h)).1)
+    by_opening : (e : Edge) (es : List Edge) → edges_named edge opening ≡ es → holds_edge e (else_edges es (edges_named edge lists.present)) ≡ true → IsGood e
+    by_opening e [] is h = good_present e (of.present.no_other e (among e lists.present h))
+    by_opening e (x ∷ xs) is h = good_present e (opened e (among e opening (ap (holds_edge e) is ∙ h)))
 
-    by_opening : (es : List Edge) → edges_named edge opening ≡ es → holds_edge e (else_edges es (edges_named edge lists.present)) ≡ true → IsGood e
-    by_opening [] is h = of_graph h
-    by_opening (x ∷ xs) is h = of_opening (ap (holds_edge e) is ∙ h)
+  -- an edge between vertices of the graph, with the first new name
+  good_first : (place : Place) (has : HasPlace lists place) (t : Vertex) → (is_vertex t ≡ true) × VertexInRange t → has.sort ≡ sort_of_ctor t.ctor → greatest_counter lists author + 1 ≤ last_counter
+      → IsGood (edge_with author (greatest_counter lists author) 1 has.vertex place.position t)
+  good_first place has t of_t sort fits = good_new 1 1 has.vertex place.position t fits (omega arith) (omega arith) (good_vertex has.vertex (stands place has)) of_t (wanted_by place has (sort_of_ctor t.ctor) sort)
 
-  -- ---- all of them
+  pub good_relocate : (place : Place) (edge : Name) (has : HasPlace lists place) (e : Edge) → has.sort ≡ sort_of_ctor e.target.ctor → edges_named edge lists.live ≡ e ∷ [] → greatest_counter lists author + 1 ≤ last_counter
+      → AllEdits (λ kind f. IsGood f) (relocate_edits author (greatest_counter lists author) has.vertex place (e ∷ []))
+  good_relocate place edge has e sort sole fits = (good_live e held, (good_first place has e.target (good_target e held) sort fits, tt)) where
+    held : holds_edge e lists.live ≡ true
+    held =
+        let named : holds_edge e (edges_named edge lists.live) ≡ true = ap (holds_edge e) sole ∙ held_first e [] in
+        (both_true (is_same_name e.name edge) (holds_edge e lists.live) (sym (holds-filter (λ c. is_same_name c.name edge) e lists.live) ∙ named)).1
 
-  pub good_edits : (opening : List Edge) (action : Action) → AreOpening g opening → HasLiteralInRange action → NoFault lists opening author action
-      → AllEdits (λ kind e. IsGood e) (edits_of lists opening author action)
-  good_edits opening (Construct place ctor) opened in_range none =
-      let to = to_construct lists opening author place ctor none in
-      let fits = within_last (greatest_counter lists author) 2 none.names (omega arith) in
-      subst (AllEdits (λ kind e. IsGood e)) (sym (edits_here lists author (Construct place ctor) place to.has.vertex to.has.only))
-      (good_construct place ctor to.has 2 to.sort in_range fits (omega arith), tt)
-  good_edits opening (Wrap place ctor) opened in_range none =
-      let to = to_wrap lists opening author place ctor none in
-      let v = to.has.vertex in
-      let es = edges_at lists v place in
-      let count : name_count lists (Wrap place ctor) ≡ 2 + length es = ap (λ o. of_vertex o 2 (λ w. 2 + length (edges_at lists w place))) (vertex_named_is lists place.name v to.has.only) in
-      let spent = ap (λ n. cond (nat_lt 0 n && nat_lt last_counter (greatest_counter lists author + n)) (Some (NamesSpent (greatest_counter lists author))) None) (sym count) ∙ none.names in
-      let fits = within_last (greatest_counter lists author) (2 + length es) spent (omega arith) in
-      let wraps : wrapping_position ctor v place ≡ Some to.below = ap (option_and_then (first_position ctor)) to.has.position ∙ to.wraps in
-      subst (AllEdits (λ kind e. IsGood e))
-      (sym (edits_here lists author (Wrap place ctor) place v to.has.only ∙ ap (λ o. wrap_edits author (greatest_counter lists author) ctor v place o es) wraps))
-      (good_wrap place ctor to.has to.below to.sort in_range to.wraps fits)
-  good_edits opening (Become place ctor) opened in_range none =
-      let to = to_become lists opening author place ctor none in
-      let v = to.has.vertex in
-      let cs = carried ctor to.edge lists.live in
-      let count : name_count lists (Become place ctor) ≡ 2 + length cs =
-      ap (λ o. of_vertex o 2 (λ w. 2 + length (carried_by_first ctor (edges_at lists w place) lists.live))) (vertex_named_is lists place.name v to.has.only)
-      ∙ ap (λ es. 2 + length (carried_by_first ctor es lists.live)) to.sole in
-      let spent = ap (λ n. cond (nat_lt 0 n && nat_lt last_counter (greatest_counter lists author + n)) (Some (NamesSpent (greatest_counter lists author))) None) (sym count) ∙ none.names in
-      let fits = within_last (greatest_counter lists author) (2 + length cs) spent (omega arith) in
-      subst (AllEdits (λ kind e. IsGood e)) (sym (edits_here lists author (Become place ctor) place v to.has.only ∙ ap (λ es. become_edits author (greatest_counter lists author) ctor v place es lists.live) to.sole))
-      (good_become place ctor to.has to.edge to.sort in_range to.sole fits)
-  good_edits opening (Delete place) opened in_range none =
-      let has = to_delete lists opening author place none in
-      subst (AllEdits (λ kind e. IsGood e)) (sym (edits_here lists author (Delete place) place has.vertex has.only))
-      (good_deletions (edges_at lists has.vertex place) (λ e held. good_live e (held_at_place g lists of author has.vertex place e held).1))
-  good_edits opening (Cut edge) opened in_range none = good_deletions (edges_cut lists opening edge) (good_cut opening opened edge)
-  good_edits opening (Relocate edge place) opened in_range none =
-      let to = to_relocate lists opening author edge place none in
-      let v = to.has.vertex in
-      let fits = within_last (greatest_counter lists author) 1 none.names (omega arith) in
-      let held = named_live edge to.moved (ap (holds_edge to.moved) to.sole ∙ held_first to.moved []) in
-      subst (AllEdits (λ kind e. IsGood e)) (sym (edits_here lists author (Relocate edge place) place v to.has.only ∙ ap (relocate_edits author (greatest_counter lists author) v place) to.sole)) (
-        good_live to.moved held,
-        (
-          good_new 1 1 v place.position to.moved.target fits (omega arith) (omega arith) (good_vertex v (stands place to.has)) (good_target to.moved held)
-              (wanted_by place to.has (sort_of_ctor to.moved.target.ctor) to.sort),
-          tt,
-        ),
-      )
-  good_edits opening (Restore vertex place) opened in_range none =
-      let to = to_restore lists opening author vertex place none in
-      let v = to.has.vertex in
-      let fits = within_last (greatest_counter lists author) 1 none.names (omega arith) in
-      subst (AllEdits (λ kind e. IsGood e))
-      (sym (edits_here lists author (Restore vertex place) place v to.has.only
-      ∙ ap (λ o. of_vertex o [] (λ m. insertion (new_name author (greatest_counter lists author) 1) v place.position m ∷ [])) (vertex_named_is lists vertex to.moved to.only))) (
-        good_new 1 1 v place.position to.moved fits (omega arith) (omega arith) (good_vertex v (stands place to.has)) (good_vertex to.moved (only_stands lists vertex to.moved to.only).0)
-            (wanted_by place to.has (sort_of_ctor to.moved.ctor) to.sort),
-        tt,
-      )
+  pub good_restore : (place : Place) (has : HasPlace lists place) (moved : Vertex) → stands_in moved lists.vertices ≡ true → has.sort ≡ sort_of_ctor moved.ctor → greatest_counter lists author + 1 ≤ last_counter
+      → AllEdits (λ kind e. IsGood e) (insertion (new_name author (greatest_counter lists author) 1) has.vertex place.position moved ∷ [])
+  good_restore place has moved there sort fits = (good_first place has moved (good_vertex moved there) sort fits, tt)
 
 -- ---- edits that are these
 

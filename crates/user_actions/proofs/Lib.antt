@@ -17,6 +17,7 @@ pub mod Rerooted
 pub mod CycleRoots
 pub mod GoodEdges
 pub mod GoodEdits
+pub mod GoodPlans
 pub mod SomePlan
 pub mod Openings
 pub mod FirstPassing

@@ -9,7 +9,7 @@ use Rattle.grove_edits.specs.declared.edit.Edit.{Edit}
 use Rattle.grove_edits.specs.Graph.{Graph}
 use Rattle.grove_edits.specs.declared.action.Place.{Place}
 use Rattle.grove_edits.specs.declared.action.Action.{Action}
-use Rattle.grove_edits.specs.declared.action.Action.TheVariants.{Construct, Wrap, Become, Relocate, Restore}
+use Rattle.grove_edits.specs.declared.action.Action.TheVariants.{Delete}
 use Rattle.grove_edits.specs.declared.answer.Answer.{Answer}
 use Rattle.grove_edits.specs.declared.answer.Answer.TheVariants.{Made, Moved}
 use Rattle.grove_terms.proofs.OneGrove.{one_live}
@@ -17,17 +17,19 @@ use Rattle.graph_words.specs.Live.{children_of, holds_edge}
 use Rattle.graph_words.specs.Whole.{AreLive, IsVertexOf}
 use Rattle.graph_words.proofs.Ordered.{holds-filter}
 use Rattle.user_actions.specs.Lists.{GraphLists}
-use Rattle.user_actions.specs.Names.{is_same_name, new_name, greatest_counter}
+use Rattle.user_actions.specs.Names.{is_same_name, new_name, edges_named, greatest_counter}
+use Rattle.user_actions.specs.Place.{vertex_named}
 use Rattle.user_actions.specs.PlainEdits.{new_vertex}
 use Rattle.user_actions.specs.Plan.{IsPlan}
 use Rattle.user_actions.specs.After.{graph_after, IsAccepted, vertex_of, targets_at}
-use Rattle.user_actions.specs.Actions.{place_of, answer_of, fills_place, made_ctor}
+use Rattle.user_actions.specs.Checks.{only_target}
+use Rattle.user_actions.specs.Actions.{place_of, vertex_names, moved_vertex, answer_of, fills_place, made_ctor, moves_vertex}
 use Rattle.user_actions.proofs.Truths.{same_name_itself}
 use Rattle.user_actions.proofs.PlainGraphs.{only_edge}
-use Rattle.user_actions.proofs.NoFault.{only_one}
-use Rattle.user_actions.proofs.Accepted.{made}
+use Rattle.user_actions.proofs.NoFault.{no_fault, only_one, vertex_named_is}
+use Rattle.user_actions.proofs.Accepted.{made, second_only}
 use Rattle.user_actions.proofs.InsertedNames.{made_is}
-use Rattle.user_actions.proofs.PlanLaws.{LeadsToMeant, edge_left}
+use Rattle.user_actions.proofs.PlanLaws.{edge_left, moving_fills}
 use Rattle.grove_sorts.proofs.Truths.{and_true}
 
 targets_are : (v : Vertex) (place : Place) (live : List Edge) (e : Edge) (t : Vertex) → children_of v place.position live ≡ e ∷ [] → e.target ≡ t → targets_at v place.position live ≡ t ∷ []
@@ -41,15 +43,8 @@ some_ctor a b h = cc
 pub made_vertex : (author greatest : ℕ) (k : Ctor) (name : Name) (ctor : Ctor) → Some k ≡ Some ctor → name ≡ new_name author greatest 1 → new_vertex author greatest k ≡ vertex_of name ctor
 made_vertex author greatest k name ctor makes is = ap (vertex_of (new_name author greatest 1)) (some_ctor k ctor makes) ∙ ap (λ n. vertex_of n ctor) (sym is)
 
-meant_made : (lists : GraphLists) (author : ℕ) (action : Action) (name : Name) (ctor : Ctor) (e : Edge) → made_ctor action ≡ Some ctor → Made name ≡ answer_of lists author action → LeadsToMeant lists author action e
-    → e.target ≡ vertex_of name ctor
-meant_made lists author (Construct at k) name ctor e makes told meant = meant ∙ made_vertex author (greatest_counter lists author) k name ctor makes (made_is lists author (Construct at k) name told)
-meant_made lists author (Wrap at k) name ctor e makes told meant = meant ∙ made_vertex author (greatest_counter lists author) k name ctor makes (made_is lists author (Wrap at k) name told)
-meant_made lists author (Become at k) name ctor e makes told meant = meant ∙ made_vertex author (greatest_counter lists author) k name ctor makes (made_is lists author (Become at k) name told)
-meant_made lists author _ name ctor e makes told meant = absurd cc
-
 fills_made : (action : Action) (ctor : Ctor) → made_ctor action ≡ Some ctor → fills_place action ≡ true
-fills_made (Construct at k) ctor makes = refl
+fills_made (Delete at) ctor makes = absurd cc
 fills_made _ ctor makes = cc
 
 pub made_stands : (g : Graph) (opening : List Edge) (author : ℕ) (action : Action) (edits : List Edit) (place : Place) (v : Vertex) (live : List Edge) (name : Name) (ctor : Ctor)
@@ -57,44 +52,68 @@ pub made_stands : (g : Graph) (opening : List Edge) (author : ℕ) (action : Act
     → AreLive (graph_after g edits) live → targets_at v place.position live ≡ vertex_of name ctor ∷ []
 made_stands g opening author action edits place v live name ctor planned named makes vertex at of_h =
     let left = edge_left g opening author action edits (Made name) place v live planned tt (fills_made action ctor makes) named vertex at of_h in
-    targets_are v place live left.new (vertex_of name ctor) left.left (meant_made planned.lists author action name ctor left.new makes left.told left.meant)
+    let as_named = made_vertex author (greatest_counter planned.lists author) ctor name ctor refl (made_is planned.lists author action name left.told) in
+    targets_are v place live left.new (vertex_of name ctor) left.left (left.makes ctor makes ∙ as_named)
 
 -- ---- a vertex that is moved
 
-pub relocated_stands : (g : Graph) (opening : List Edge) (author : ℕ) (edge : Name) (place : Place) (edits : List Edit) (answer : Answer) (v : Vertex) (before after : List Edge) (old : Edge)
-    → IsPlan g opening author (Relocate edge place) edits answer → IsAccepted answer → IsVertexOf g v → v.name ≡ place.name → AreLive g before → holds_edge old before ≡ true → old.name ≡ edge
-    → AreLive (graph_after g edits) after → targets_at v place.position after ≡ old.target ∷ []
-relocated_stands g opening author edge place edits answer v before after old planned accepted vertex at of_g held named of_h =
-    let left = edge_left g opening author (Relocate edge place) edits answer place v after planned accepted refl refl vertex at of_h in
-    let moved = left.meant.1 in
-    let live : holds_edge old planned.lists.live ≡ true = ap (holds_edge old) (one_live g planned.lists.live before planned.are_lists.live of_g) ∙ held in
-    let there = sym (ap (holds_edge old) left.meant.2) ∙ holds-filter (λ e. is_same_name e.name edge) old planned.lists.live
-    ∙ and_true (is_same_name old.name edge) (holds_edge old planned.lists.live) (ap (λ n. is_same_name n edge) named ∙ same_name_itself edge) live in
-    targets_are v place after left.new old.target left.left (left.meant.3 ∙ ap (λ (e : Edge). e.target) (only_edge moved old there))
+some_vertex : (a b : Vertex) → Some a ≡ Some b → a ≡ b
+some_vertex a b h = cc
 
-pub restored_stands : (g : Graph) (opening : List Edge) (author : ℕ) (name : Name) (place : Place) (edits : List Edit) (answer : Answer) (v moved : Vertex) (live : List Edge)
-    → IsPlan g opening author (Restore name place) edits answer → IsAccepted answer → IsVertexOf g v → v.name ≡ place.name → IsVertexOf g moved → moved.name ≡ name
+moved_stands : (g : Graph) (opening : List Edge) (author : ℕ) (action : Action) (place : Place) (edits : List Edit) (answer : Answer) (v moved : Vertex) (live : List Edge)
+    → (planned : IsPlan g opening author action edits answer) → IsAccepted answer → moves_vertex action ≡ true → place_of action ≡ Some place → IsVertexOf g v → v.name ≡ place.name
+    → AreLive (graph_after g edits) live → moved_vertex planned.lists action ≡ Some moved → targets_at v place.position live ≡ moved ∷ []
+moved_stands g opening author action place edits answer v moved live planned accepted moves named vertex at of_h meant =
+    let left = edge_left g opening author action edits answer place v live planned accepted (moving_fills action moves) named vertex at of_h in
+    targets_are v place live left.new moved left.left (some_vertex left.new.target moved (sym (left.moves moves).1 ∙ meant))
+
+target_of_only : (es : List Edge) (e : Edge) → (v : Vertex) × (only_target es ≡ Some v) → holds_edge e es ≡ true → only_target es ≡ Some e.target
+target_of_only [] e some held = absurd cc
+target_of_only (x ∷ []) e some held = ap (λ (y : Edge). Some y.target) (only_edge x e held)
+target_of_only (x ∷ y ∷ es) e some held = let none = some.1 in absurd cc
+
+-- by an action that moves the target of the one edge with a name
+pub target_stands : {action : Action} (g : Graph) (opening : List Edge) (author : ℕ) (edge : Name) (place : Place) (edits : List Edit) (answer : Answer) (v : Vertex) (before after : List Edge) (old : Edge)
+    → IsPlan g opening author action edits answer → moves_vertex action ≡ true → place_of action ≡ Some place
+    → ((lists : GraphLists) → moved_vertex lists action ≡ only_target (edges_named edge lists.live)) → IsAccepted answer → IsVertexOf g v → v.name ≡ place.name → AreLive g before
+    → holds_edge old before ≡ true → old.name ≡ edge → AreLive (graph_after g edits) after → targets_at v place.position after ≡ old.target ∷ []
+target_stands {action} g opening author edge place edits answer v before after old planned moves named meant accepted vertex at of_g held called of_h =
+    let lists = planned.lists in
+    let left = edge_left g opening author action edits answer place v after planned accepted (moving_fills action moves) named vertex at of_h in
+    let live : holds_edge old lists.live ≡ true = ap (holds_edge old) (one_live g lists.live before planned.are_lists.live of_g) ∙ held in
+    let there : holds_edge old (edges_named edge lists.live) ≡ true =
+    holds-filter (λ e. is_same_name e.name edge) old lists.live
+    ∙ and_true (is_same_name old.name edge) (holds_edge old lists.live) (ap (λ n. is_same_name n edge) called ∙ same_name_itself edge) live in
+    let one = target_of_only (edges_named edge lists.live) old (left.new.target, sym (meant lists) ∙ (left.moves moves).1) there in
+    moved_stands g opening author action place edits answer v old.target after planned accepted moves named vertex at of_h (meant lists ∙ one)
+
+-- by an action that moves the vertex with a name
+pub vertex_stands : {action : Action} (g : Graph) (opening : List Edge) (author : ℕ) (name : Name) (place : Place) (edits : List Edit) (answer : Answer) (v moved : Vertex) (live : List Edge)
+    → IsPlan g opening author action edits answer → moves_vertex action ≡ true → place_of action ≡ Some place → vertex_names action ≡ place.name ∷ name ∷ []
+    → ((lists : GraphLists) → moved_vertex lists action ≡ vertex_named lists name) → IsAccepted answer → IsVertexOf g v → v.name ≡ place.name → IsVertexOf g moved → moved.name ≡ name
     → AreLive (graph_after g edits) live → targets_at v place.position live ≡ moved ∷ []
-restored_stands g opening author name place edits answer v moved live planned accepted vertex at is named of_h =
-    let left = edge_left g opening author (Restore name place) edits answer place v live planned accepted refl refl vertex at of_h in
-    targets_are v place live left.new moved left.left (only_one planned.lists name left.new.target moved left.meant.1 (planned.are_lists.vertices.each moved is) named)
+vertex_stands {action} g opening author name place edits answer v moved live planned moves named names meant accepted vertex at is_vertex called of_h =
+    let lists = planned.lists in
+    let is = made lists opening author action edits answer planned.edits_are planned.answer_is accepted in
+    let only = second_only lists opening author action place.name name (no_fault lists opening author action is.no_fault) names in
+    let one : only.0 ≡ moved = only_one lists name only.0 moved only.1 (planned.are_lists.vertices.each moved is_vertex) called in
+    moved_stands g opening author action place edits answer v moved live planned accepted moves named vertex at of_h (meant lists ∙ vertex_named_is lists name only.0 only.1 ∙ ap Some one)
 
-some_moved : (a b : Name) → Moved a ≡ Moved b → b ≡ a
-some_moved a b h = cc
+-- ---- the edge that leads to it
 
-meant_moved : (lists : GraphLists) (author : ℕ) (action : Action) (name : Name) (e : Edge) → Moved name ≡ answer_of lists author action → LeadsToMeant lists author action e → e.name ≡ name
-meant_moved lists author (Relocate edge at) name e told meant = meant.0 ∙ some_moved name (new_name author (greatest_counter lists author) 1) told
-meant_moved lists author (Restore vertex at) name e told meant = meant.0 ∙ some_moved name (new_name author (greatest_counter lists author) 1) told
-meant_moved lists author _ name e told meant = absurd cc
+moved_is : (lists : GraphLists) (author : ℕ) (action : Action) (name : Name) → Moved name ≡ answer_of lists author action → new_name author (greatest_counter lists author) 1 ≡ name
+moved_is lists author (Delete at) name told = absurd cc
+moved_is lists author _ name told = cc
 
-fills_moved : (lists : GraphLists) (author : ℕ) (action : Action) (name : Name) → Moved name ≡ answer_of lists author action → fills_place action ≡ true
-fills_moved lists author (Construct at k) name told = refl
-fills_moved lists author _ name told = cc
+told_moved : (lists : GraphLists) (author : ℕ) (action : Action) (name : Name) → Moved name ≡ answer_of lists author action → moves_vertex action ≡ true
+told_moved lists author (Delete at) name told = absurd cc
+told_moved lists author _ name told = cc
 
 pub moved_edge_stands : (g : Graph) (opening : List Edge) (author : ℕ) (action : Action) (edits : List Edit) (place : Place) (v : Vertex) (live : List Edge) (name : Name)
     → IsPlan g opening author action edits (Moved name) → place_of action ≡ Some place → IsVertexOf g v → v.name ≡ place.name
     → AreLive (graph_after g edits) live → map (λ e. e.name) (children_of v place.position live) ≡ name ∷ []
 moved_edge_stands g opening author action edits place v live name planned named vertex at of_h =
     let is = made planned.lists opening author action edits (Moved name) planned.edits_are planned.answer_is tt in
-    let left = edge_left g opening author action edits (Moved name) place v live planned tt (fills_moved planned.lists author action name is.answer_is) named vertex at of_h in
-    ap (map (λ e. e.name)) left.left ∙ ap (λ n. n ∷ []) (meant_moved planned.lists author action name left.new left.told left.meant)
+    let moves = told_moved planned.lists author action name is.answer_is in
+    let left = edge_left g opening author action edits (Moved name) place v live planned tt (moving_fills action moves) named vertex at of_h in
+    ap (map (λ e. e.name)) left.left ∙ ap (λ n. n ∷ []) ((left.moves moves).0 ∙ moved_is planned.lists author action name is.answer_is)

@@ -23,7 +23,8 @@ use Rattle.user_actions.proofs.NoFault.{no_fault}
 use Rattle.user_actions.proofs.PlainGraphs.{both_absent}
 use Rattle.user_actions.proofs.SomeLists.{absent_joined, lists_from, lists_are, edits_have}
 use Rattle.user_actions.proofs.OnePlan.{plan_from_made, plan_from_fault, plan_along}
-use Rattle.user_actions.proofs.GoodEdits.{good_edits, edits_from}
+use Rattle.user_actions.proofs.GoodEdits.{edits_from}
+use Rattle.user_actions.proofs.GoodPlans.{good_plan}
 
 -- ---- the edges of edits are well formed, and their numbers lie in their ranges
 
@@ -70,7 +71,8 @@ plan_of_edits list opening author action order opened positive small in_range = 
   by_fault (Some fault) is = ([], Refused fault, plan_from_fault (graph list) lists opening author action fault order of is)
   by_fault None is =
       let found = edits_from (edits_of lists opening author action)
-      (good_edits (graph list) lists of (edits_well_formed list) (edits_in_range list) author positive small opening action opened in_range (no_fault lists opening author action is)) in
+      ((good_plan (graph list) lists of opening author action (no_fault lists opening author action is)).good
+      (record { well = edits_well_formed list; ranged = edits_in_range list; positive = positive; small = small; opened = opened; literals = in_range })) in
       let made : IsMade lists opening author action found.0 (answer_of lists author action) = record { no_fault = is; edits_are = found.1; answer_is = refl } in
       (found.0, answer_of lists author action, plan_from_made (graph list) lists opening author action found.0 (answer_of lists author action) order of made)
 

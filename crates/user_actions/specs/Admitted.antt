@@ -5,6 +5,7 @@ use Rattle.grove_sorts.specs.declared.ctor.Ctor.{Ctor}
 use Rattle.grove_edits.specs.declared.vertex.Vertex.{Vertex}
 use Rattle.grove_edits.specs.declared.edge.Edge.{Edge}
 use Rattle.grove_edits.specs.Edge.{IsWellFormed}
+use Rattle.grove_edits.specs.Graph.{Graph}
 use Rattle.grove_edits.specs.declared.action.Action.{Action}
 use Rattle.grove_edits.specs.declared.answer.Answer.{Answer}
 use Rattle.grove_edits.specs.declared.answer.Answer.TheVariants.{Made, Moved, Done}
@@ -14,7 +15,7 @@ use Rattle.user_actions.specs.declared.admitted.Admitted.{Admitted}
 use Rattle.user_actions.specs.declared.admitted.Admitted.TheVariants.{Construct, Wrap, Become, Delete, Relocate, Restore}
 use Rattle.user_actions.specs.declared.planned.PlanFault.{PlanFault}
 use Rattle.user_actions.specs.declared.planned.PlanFault.TheVariants.{Refused, NoMemory}
-use Rattle.user_actions.specs.Lists.{GraphLists}
+use Rattle.user_actions.specs.Lists.{GraphLists, AreListsOf}
 use Rattle.user_actions.specs.Names.{new_name}
 use Rattle.user_actions.specs.Faults.{first_fault, last_counter}
 use Rattle.user_actions.specs.PlainEdits.{PlainEdit, deletion, deletions, insertion, new_vertex, to_new_vertex, carry_over, wrap_edits, relocate_edits}
@@ -75,3 +76,7 @@ abbrev pub TellsFound : GraphLists → List Edge → ℕ → Action → Result A
 TellsFound lists opening author action (Ok found) = IsFound lists opening author action found
 TellsFound lists opening author action (Err (Refused fault)) = first_fault lists opening author action ≡ Some fault
 TellsFound lists opening author action (Err NoMemory) = Unit {0}
+
+-- this is so by the lists of the graph
+pub record TellsAdmitted (g : Graph) (opening : List Edge) (author : ℕ) (action : Action) (result : Result Admitted PlanFault) : Type 0 where
+  pub each : (lists : GraphLists) → AreListsOf g lists → TellsFound lists opening author action result

@@ -1,6 +1,5 @@
 ghost use Rattle.std.specs.Prelude.{IfOk};
-ghost use Rattle.user_actions.specs.Admitted.{CanBeMade, TellsFound};
-ghost use Rattle.user_actions.specs.Lists.{GraphLists, AreListsOf};
+ghost use Rattle.user_actions.specs.Admitted.{CanBeMade, TellsAdmitted};
 ghost use Rattle.user_actions.specs.Planned.{CanPlan};
 
 use crate::admitted::Admitted;
@@ -20,6 +19,7 @@ use grove_sorts::{Ctor, sort_of};
 use std::alloc::Global;
 
 /// Checks an author's action, in the order of the faults, and gives what the checks found.
+#[tactic(auto, using(crate::proofs::Finding::told_along))]
 pub(crate) fn admit<V: PlanView>(
     alloc: Global,
     view: &V,
@@ -28,8 +28,7 @@ pub(crate) fn admit<V: PlanView>(
 ) -> Result<Admitted, PlanFault>
     requires { CanPlan (V.states view.now) (V.opening view.now) (V.children view.now) (V.live view.now) author }
     ensures made { IfOk result CanBeMade }
-    ensures told { (lists : GraphLists) → AreListsOf (V.states view.now) lists
-        → TellsFound lists (V.opening view.now) author action.now result }
+    ensures told { TellsAdmitted (V.states view.now) (V.opening view.now) author action.now result }
 {
     match *action {
         Action::Construct { place, ctor } => admit_construct(view, author, place, ctor),
@@ -50,8 +49,7 @@ fn admit_construct<V: PlanView>(
 ) -> Result<Admitted, PlanFault>
     requires { CanPlan (V.states view.now) (V.opening view.now) (V.children view.now) (V.live view.now) author }
     ensures made { IfOk result CanBeMade }
-    ensures told { (lists : GraphLists) → AreListsOf (V.states view.now) lists
-        → TellsFound lists (V.opening view.now) author (Action.Construct place ctor) result }
+    ensures told { TellsAdmitted (V.states view.now) (V.opening view.now) author (Action.Construct place ctor) result }
 {
     let spot = spot_of_sort(view, place, sort_of(&ctor))?;
     check_free(view, &spot.vertex, place)?;
@@ -68,8 +66,7 @@ fn admit_wrap<V: PlanView>(
 ) -> Result<Admitted, PlanFault>
     requires { CanPlan (V.states view.now) (V.opening view.now) (V.children view.now) (V.live view.now) author }
     ensures made { IfOk result CanBeMade }
-    ensures told { (lists : GraphLists) → AreListsOf (V.states view.now) lists
-        → TellsFound lists (V.opening view.now) author (Action.Wrap place ctor) result }
+    ensures told { TellsAdmitted (V.states view.now) (V.opening view.now) author (Action.Wrap place ctor) result }
 {
     let spot = spot_of_sort(view, place, sort_of(&ctor))?;
     check_filled(view, &spot.vertex, place)?;
@@ -94,8 +91,7 @@ fn admit_become<V: PlanView>(
 ) -> Result<Admitted, PlanFault>
     requires { CanPlan (V.states view.now) (V.opening view.now) (V.children view.now) (V.live view.now) author }
     ensures made { IfOk result CanBeMade }
-    ensures told { (lists : GraphLists) → AreListsOf (V.states view.now) lists
-        → TellsFound lists (V.opening view.now) author (Action.Become place ctor) result }
+    ensures told { TellsAdmitted (V.states view.now) (V.opening view.now) author (Action.Become place ctor) result }
 {
     let spot = spot_of_sort(view, place, sort_of(&ctor))?;
     let replaced = sole_edge(view, &spot.vertex, place)?;
@@ -118,8 +114,7 @@ fn admit_delete<V: PlanView>(
 ) -> Result<Admitted, PlanFault>
     requires { CanPlan (V.states view.now) (V.opening view.now) (V.children view.now) (V.live view.now) author }
     ensures made { IfOk result CanBeMade }
-    ensures told { (lists : GraphLists) → AreListsOf (V.states view.now) lists
-        → TellsFound lists (V.opening view.now) author (Action.Delete place) result }
+    ensures told { TellsAdmitted (V.states view.now) (V.opening view.now) author (Action.Delete place) result }
 {
     let spot = spot_at(view, place)?;
     check_filled(view, &spot.vertex, place)?;
@@ -135,8 +130,7 @@ fn admit_cut<V: PlanView>(
 ) -> Result<Admitted, PlanFault>
     requires { CanPlan (V.states view.now) (V.opening view.now) (V.children view.now) (V.live view.now) author }
     ensures made { IfOk result CanBeMade }
-    ensures told { (lists : GraphLists) → AreListsOf (V.states view.now) lists
-        → TellsFound lists (V.opening view.now) author (Action.Cut edge) result }
+    ensures told { TellsAdmitted (V.states view.now) (V.opening view.now) author (Action.Cut edge) result }
 {
     let edges = edges_cut(alloc, view, edge)?;
     check_named(&edges, edge)?;
@@ -152,8 +146,7 @@ fn admit_relocate<V: PlanView>(
 ) -> Result<Admitted, PlanFault>
     requires { CanPlan (V.states view.now) (V.opening view.now) (V.children view.now) (V.live view.now) author }
     ensures made { IfOk result CanBeMade }
-    ensures told { (lists : GraphLists) → AreListsOf (V.states view.now) lists
-        → TellsFound lists (V.opening view.now) author (Action.Relocate edge place) result }
+    ensures told { TellsAdmitted (V.states view.now) (V.opening view.now) author (Action.Relocate edge place) result }
 {
     let spot = spot_at(view, place)?;
     let moved = live_named(alloc, view, edge)?;
@@ -173,8 +166,7 @@ fn admit_restore<V: PlanView>(
 ) -> Result<Admitted, PlanFault>
     requires { CanPlan (V.states view.now) (V.opening view.now) (V.children view.now) (V.live view.now) author }
     ensures made { IfOk result CanBeMade }
-    ensures told { (lists : GraphLists) → AreListsOf (V.states view.now) lists
-        → TellsFound lists (V.opening view.now) author (Action.Restore vertex place) result }
+    ensures told { TellsAdmitted (V.states view.now) (V.opening view.now) author (Action.Restore vertex place) result }
 {
     let (spot, moved) = spot_and_vertex(view, place, vertex)?;
     check_sort(spot.sort, sort_of(&moved.ctor))?;

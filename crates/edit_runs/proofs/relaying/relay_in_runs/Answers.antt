@@ -1,4 +1,4 @@
-use Rattle.std.proofs.Common.{◌≡◌, List, length, sym, ap, subst, ◌∙◌, arith}
+use Rattle.std.proofs.Common.{◌≡◌, List, length, ap, subst, arith}
 use Rattle.live_relay.specs.Flow.{AreEntriesOf}
 use Rattle.edit_runs.specs.declared.stretch.Stretch.{Stretch}
 use Rattle.edit_runs.specs.Stretch.{piece_of}

@@ -20,4 +20,4 @@ handed_on lists opening author action (Err e) fault gives told = subst (λ (f : 
 
 pub returns-in_err-found : goal.returns-in_err-found
 returns-in_err-found g c lists of =
-    handed_on lists (g.V.PlanView.opening c.args.view.now) c.args.author c.args.action.now c.from_residual.result c.in_err-found.field-0.0 c.from_residual.ensures.1 (c.in_err-found.ensures.told lists of)
+    handed_on lists (g.V.PlanView.opening c.args.view.now) c.args.author c.args.action.now c.from_residual.result c.in_err-found.field-0.0 c.from_residual.ensures.1 (c.in_err-found.ensures.told.each lists of)
