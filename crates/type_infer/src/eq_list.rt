@@ -2,6 +2,7 @@ ghost use Rattle.std.specs.Prelude.{◌≡◌, ◌<◌, ◌^◌, [], ◌∷◌, 
 ghost use Rattle.type_infer.specs.Forms.{term_equation, IsEquationOf};
 
 use crate::equation::Equation;
+use list_of::ListOf;
 use std::alloc::Global;
 use std::marker::Model;
 use text_parts::NoMemory;
@@ -10,7 +11,7 @@ use text_parts::NoMemory;
 #[derive(Debug, Drop)]
 pub struct EqList {
     pub(crate) variables: u32,
-    pub(crate) equations: Vec<Equation>,
+    pub(crate) equations: ListOf<Equation>,
 }
 
 impl Model for EqList {
@@ -24,9 +25,9 @@ impl Model for EqList {
 
     ghost use Rattle.type_infer.specs.Forms.{term_equation, IsEquationOf};
 
-    ghost view = { λ l. record { variables = l.variables; equations = map term_equation l.equations.items } };
+    ghost view = { λ l. record { variables = l.variables; equations = map term_equation l.equations } };
 
-    ghost invariant = { λ l. AllByRecursion (IsEquationOf l.variables) l.equations.items };
+    ghost invariant = { λ l. AllByRecursion (IsEquationOf l.variables) l.equations };
 }
 
 impl EqList {
@@ -37,7 +38,7 @@ impl EqList {
     {
         EqList {
             variables,
-            equations: Vec::new(alloc),
+            equations: ListOf::new(alloc),
         }
     }
 
@@ -48,8 +49,7 @@ impl EqList {
         ensures variables { self.new.variables ≡ self.old.variables }
         ensures unchanged { OnErr result (self.new ≡ self.old) }
     {
-        self.equations.push(equation)?;
-        Ok(())
+        self.equations.push(equation)
     }
 
     /// How many equations it has.

@@ -62,10 +62,11 @@ fn clashing_count(alloc: Global, variables: u32, equations: &[Equation]) -> Resu
 pub fn solve(alloc: Global, list: &EqList) -> Result<Inference, NoMemory>
     ensures answer { IfOk result (IsAnswer list.now) }
 {
-    if let Some(solution) = attempt(alloc, list.variables, &list.equations)? {
+    let equations = list.equations.as_slice();
+    if let Some(solution) = attempt(alloc, list.variables, equations)? {
         return Ok(Inference::Solved(solution));
     }
-    let count = clashing_count(alloc, list.variables, &list.equations)?;
+    let count = clashing_count(alloc, list.variables, equations)?;
     Ok(Inference::Clash {
         equation: (count - 1) as u64,
     })
