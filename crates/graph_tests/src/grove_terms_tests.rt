@@ -82,9 +82,9 @@ fn edges_are_listed_tree_by_tree(rt: HostRuntime) -> Result<(), Fail> {
     let third = to_number(3);
     let listed = edges_of(rt.alloc(), &root, &first, &second, &third)?;
     assert!(rt; listed.len() == 3);
-    assert!(rt; listed.get(0) == Some(first));
-    assert!(rt; listed.get(1) == Some(second));
-    assert!(rt; listed.get(2) == Some(third));
+    assert!(rt; listed.get(0) == Some(&first));
+    assert!(rt; listed.get(1) == Some(&second));
+    assert!(rt; listed.get(2) == Some(&third));
     Ok(())
 }
 

@@ -74,9 +74,10 @@ fn run_pieces<R: Wait, M: Machine<Command = Command>>(
 {
     let mut taker = Taker::new(alloc);
     for index in 0..pieces.len() {
-        let Some(bytes) = pieces.get(index) else {
+        let Some(piece) = pieces.get(index) else {
             unreachable!()
         };
+        let bytes = piece.as_slice();
         let edits = take_good(&mut taker, bytes)?;
         let command = Command::Take {
             piece: index as u64 + 1,

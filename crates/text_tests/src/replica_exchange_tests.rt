@@ -42,7 +42,7 @@ fn reversed_twice(cut: u64) -> SendLine
 
 fn is_piece(pieces: &PieceList, index: usize, want: &[u8]) -> bool {
     match pieces.get(index) {
-        Some(piece) => piece == want,
+        Some(piece) => piece.as_slice() == want,
         None => false,
     }
 }
@@ -76,7 +76,7 @@ fn sent_length(alloc: Global, list: &EditList, skip: u64, take: u64) -> Result<u
     };
     let pieces = packets(alloc, list, &line)?;
     match pieces.get(0) {
-        Some(piece) => Ok(piece.len()),
+        Some(piece) => Ok(piece.as_slice().len()),
         None => Ok(0),
     }
 }
@@ -96,7 +96,7 @@ fn taken_of(alloc: Global, pieces: &PieceList) -> Result<EditList, Fail> {
     let mut taken = EditList::new(alloc);
     for index in 0..pieces.len() {
         let piece = pieces.get(index).ok_or("a piece")?;
-        let Ok(edits) = taker.take(piece) else {
+        let Ok(edits) = taker.take(piece.as_slice()) else {
             return Err(Fail::from("its edits"));
         };
         taken.extend_from_slice(edits.as_slice())?;
