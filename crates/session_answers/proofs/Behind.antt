@@ -36,7 +36,7 @@ use Rattle.session_answers.specs.Running.{HaveTaken, IsBehind, HasLoaded, HaveRu
 use Rattle.session_answers.specs.declared.running.Running.{Running}
 use Rattle.session_answers.proofs.Agreeing.{Agree, blocks, blocks-cons, blocks-append, taken-agree, item_texts-agree, legal_at-agree}
 use Rattle.session_answers.proofs.OwnEntries.{agree_behind, entries_behind, entries_from-each, of_block}
-use Rattle.session_answers.proofs.MoreItems.{places_without, places_with, earlier_blocks, taken_load, taken_block, taken_show, report_more, at_end_or_before}
+use Rattle.session_answers.proofs.MoreItems.{places_without, places_with, earlier_blocks, taken_load, taken_block, taken_other, report_more, at_end_or_before}
 use Rattle.session_answers.proofs.Commands.{entries_can}
 use Rattle.session_answers.proofs.Planned.{taken_graph, steps_planned, journal_taken}
 
@@ -115,7 +115,7 @@ module _ (names : List Ident) (js : Journals Content) (before : List Item) where
         ∙ ap (λ es. with_edits es []) (sym (taken_load js k number before edit))
 
   show_taken : (replicas : List Content) → HaveTaken names js before replicas → HaveTaken names js (before ++ item.Show ∷ []) replicas
-  show_taken replicas have = record { all = have.all; each = λ k replica is. have.each k replica is ∙ ap (λ es. with_edits es []) (sym (taken_show js k before)) }
+  show_taken replicas have = record { all = have.all; each = λ k replica is. have.each k replica is ∙ ap (λ es. with_edits es []) (sym (taken_other js k before item.Show refl)) }
 
   -- ---- sections
 
