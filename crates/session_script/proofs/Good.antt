@@ -20,7 +20,7 @@ use Rattle.session_script.specs.Script.{BeginSession}
 use Rattle.session_script.specs.Session.{AllDiffer, author_numbers, IsSend, IsLine, IsItem, IsSession, is_send, is_block, is_show, send_count}
 use Rattle.session_script.specs.View.{View, seen, start, after, items_at, place_at, declared_at, repeats_replica_at, unknown_author_at, repeats_author_at, too_many_at, fault_at}
 use Rattle.session_script.proofs.Views.{counted-add, first_fault, GoesOn, GoOn-view, ended_is}
-use Rattle.session_script.proofs.Names.{same_ident_itself, same_ident_exact, declared_name}
+use Rattle.session_script.proofs.Names.{same_ident_exact, declared_name}
 use Rattle.session_script.proofs.OneLine.{with_item, one_line}
 use Rattle.session_script.proofs.Told.{AuthorTold, LineTold, ItemTold, ItemsTold, Each, Told, sent, told_in_range, told_known}
 
@@ -207,14 +207,14 @@ item_go P session only declared n sends shows i mine rest (inl h) is blocks few 
 item_go P session only declared n sends shows i mine rest (inr h) is blocks few many go =
     let v = items_view session.version session.replicas (author_numbers session.authors) only declared n n sends shows in
     let block = h.0 in
-    let one_more : n + cond (is_block i) 1 0 ≡ suc n = omega (arith, ap (λ (x : Item). cond (is_block x) 1 0) h.2) in
+    let one_more : n + cond (is_block i) 1 0 ≡ suc n = omega (arith, ap {B = ℕ} (λ (x : Item). cond (is_block x) 1 0) h.2) in
     let more_sends : sends + send_count i ≡ sends + count_by is_send block.lines = omega (arith, ap send_count h.2) in
-    let same_shows : shows + cond (is_show i) 1 0 ≡ shows = omega (arith, ap (λ (x : Item). cond (is_show x) 1 0) h.2) in
+    let same_shows : shows + cond (is_show i) 1 0 ≡ shows = omega (arith, ap {B = ℕ} (λ (x : Item). cond (is_show x) 1 0) h.2) in
     let more : (b c : Bool) → Leads P (items_view session.version session.replicas (author_numbers session.authors) b c (suc n) (suc n) (sends + count_by is_send block.lines) shows) rest =
     λ b c.
-        subst (λ m. Leads P (items_view session.version session.replicas (author_numbers session.authors) b c (suc n) (suc n) (sends + count_by is_send block.lines) m) rest) same_shows
-        (subst (λ m. Leads P (items_view session.version session.replicas (author_numbers session.authors) b c (suc n) (suc n) m (shows + cond (is_show i) 1 0)) rest) more_sends
-        (subst (λ m. Leads P (items_view session.version session.replicas (author_numbers session.authors) b c m m (sends + send_count i) (shows + cond (is_show i) 1 0)) rest) one_more (go b c))) in
+    subst (λ m. Leads P (items_view session.version session.replicas (author_numbers session.authors) b c (suc n) (suc n) (sends + count_by is_send block.lines) m) rest) same_shows
+    (subst (λ m. Leads P (items_view session.version session.replicas (author_numbers session.authors) b c (suc n) (suc n) m (shows + cond (is_show i) 1 0)) rest) more_sends
+    (subst (λ m. Leads P (items_view session.version session.replicas (author_numbers session.authors) b c m m (sends + send_count i) (shows + cond (is_show i) 1 0)) rest) one_more (go b c))) in
     let parts : mine ++ rest ≡ Block ∷ h.1 ++ (End ∷ rest) = ap (λ (ss : List Statement). ss ++ rest) h.4 ∙ ap (λ (t : List Statement). Block ∷ t) (append_assoc h.1 (End ∷ []) rest) in
     subst (Leads P v) (sym parts) (
       no_fault_at v Block (closed n) refl refl refl refl (below_limit n 64 (omega arith)),

@@ -25,7 +25,7 @@ use Rattle.session_script.specs.declared.statement.Statement.TheVariants.{Sessio
 use Rattle.session_script.specs.Action.{IsAuthor, ActionInRange, action_line}
 use Rattle.session_script.specs.Statement.{head_line, statement_text, InRange, IsReplicaOf, IsStatementOf, send_line}
 use Rattle.session_script.specs.Order.{is_same_ident, is_beyond, named_replicas}
-use Rattle.session_script.specs.Session.{replica_name, replica_line, author_line, line_text, item_lines, session_lines, AllDiffer, author_numbers, IsSend, IsLine, IsItem, IsDeclared, IsLineOf, IsItemOf, IsSession, is_send, is_block, is_show, send_count}
+use Rattle.session_script.specs.Session.{replica_name, replica_line, author_line, line_text, item_lines, session_lines, AllDiffer, author_numbers, IsSend, IsItem, IsDeclared, IsLineOf, IsItemOf, IsSession, is_send, is_block, is_show, send_count}
 use Rattle.session_script.specs.View.{View, seen, start, open_at, items_at, place_at, declared_at, repeats_replica_at, unknown_author_at, repeats_author_at, too_many_at, fault_at}
 use Rattle.session_script.specs.Reading.{numbered, AuthorsAfter, ItemsAfter, LinesAfter}
 use Rattle.session_script.proofs.Views.{first_fault, counted-add}

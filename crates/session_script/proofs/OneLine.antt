@@ -76,7 +76,7 @@ pub record IsOneLine (replicas : List Ident) (s : Statement) (i : Item) : Type 0
   pub of_version : (version : Version) → AllByRecursion (IsReplicaOf version) replicas → IsItemOf version i → IsStatementOf version s
   pub item_of_version : (version : Version) → IsStatementOf version s → IsItemOf version i
   pub fits : (numbers : List ℕ) → IsItemIn (length replicas) numbers i
-  pub no_block : cond (is_block i) 1 0 ≡ 0
+  pub no_block : ◌≡◌ {A = ℕ} (cond (is_block i) 1 0) 0
   pub no_sends : send_count i ≡ 0
   pub no_replicas : (ss : List Statement) → replicas_of (s ∷ ss) ≡ replicas_of ss
   pub seen_is : (v : View) → seen v s ≡ with_item v i
