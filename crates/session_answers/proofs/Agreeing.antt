@@ -68,7 +68,7 @@ module _ {M : Type 0} where
       → blocks before + cond (is_block next) 1 0 < limit → IsItemText names js before next text → IsItemText names ks before next text
   item_text-agree limit js ks names before next text agree few is =
       item_text-along names js ks before next text
-      (λ is_one. let one : cond (is_block next) 1 0 ≡ 1 = ap (λ b. cond b 1 0) is_one in entries_from-agree limit js ks (next_block before) 1 names agree (omega arith))
+      (λ is_one. let one : ◌≡◌ {A = ℕ} (cond (is_block next) 1 0) 1 = ap {B = ℕ} (λ b. cond b 1 0) is_one in entries_from-agree limit js ks (next_block before) 1 names agree (omega arith))
       (λ sections are. sections-agree limit js ks before 0 names sections agree (omega arith) are)
       is
 

@@ -64,7 +64,7 @@ module _ (session : Session) (index : ℕ) (old : Running) (is : IsSession sessi
   pub show_within : (next : Item) → is_show next ≡ true → slice_get session.items index ≡ Some next → old.shows < 8
   show_within next is_one at =
       let few = counted_before (λ (x : Item). cond (is_show x) 1 0) session.items index next 8 is.few_shows at in
-      let one : cond (is_show next) 1 0 ≡ 1 = ap (λ b. cond b 1 0) is_one in
+      let one : ◌≡◌ {A = ℕ} (cond (is_show next) 1 0) 1 = ap {B = ℕ} (λ b. cond b 1 0) is_one in
       let count = behind.shows in
       omega arith
 
