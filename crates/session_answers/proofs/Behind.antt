@@ -31,6 +31,7 @@ use Rattle.session_report.specs.Legal.{next_block, next_send, stage_at, IsLegalA
 use Rattle.session_report.specs.Report.{IsSection, AreSections, IsItemText, AreItemTexts, block_heading, show_heading, journals_text}
 use Rattle.session_answers.specs.BlockJournals.{block_journals}
 use Rattle.session_answers.specs.Numbers.{next_numbers, numbers_behind}
+use Rattle.session_answers.proofs.Lists.{some_at}
 use Rattle.session_answers.proofs.Numbers.{numbers_stay, numbers_more}
 use Rattle.session_answers.specs.Running.{HaveTaken, IsBehind, HasLoaded, HaveRun, HasRunBlock, HasShown, AreShown, sources_of, stage_of}
 use Rattle.session_answers.specs.declared.running.Running.{Running}
@@ -71,11 +72,6 @@ get-set (x ∷ xs) (suc i) (suc k) v new is = further (get-set xs i k v new is) 
 
 same_some : {A : Type 0} (x y : A) → Some x ≡ Some y → x ≡ y
 same_some x y e = cc
-
-some_at : {A : Type 0} (xs : List A) (k : ℕ) → k < length xs → (x : A) × (slice_get xs k ≡ Some x)
-some_at [] k within = absurd (omega arith)
-some_at (x ∷ xs) zero within = (x, refl)
-some_at (x ∷ xs) (suc k) within = some_at xs k (omega arith)
 
 get-map : {A B : Type 0} (f : A → B) (xs : List A) (k : ℕ) (x : A) → slice_get xs k ≡ Some x → slice_get (map f xs) k ≡ Some (f x)
 get-map f [] k x is = absurd cc
