@@ -13,7 +13,8 @@ use Rattle.session_script.specs.Session.{is_block}
 use Rattle.session_report.specs.Journal.{Entries, edits_of, IsLegal}
 use Rattle.session_report.specs.Taken.{Journals, entries_at, taken_from, taken}
 use Rattle.session_report.specs.Legal.{next_block, stage_at, IsLegalAt}
-use Rattle.session_report.specs.Report.{IsSection, entries_from, AreSections, IsItemText, AreItemTexts, block_heading, journals_text}
+use Rattle.session_report.specs.Report.{IsSection, entries_from, AreSections, IsItemText, AreItemTexts}
+use Rattle.session_report.proofs.OneReport.{item_text-along}
 
 abbrev pub blocks : List Item → ℕ
 blocks items = count_by is_block items
@@ -39,8 +40,8 @@ module _ {M : Type 0} where
       let count = blocks-cons (item.Block block) items in
       ap (λ (es : Entries M). edits_of es ++ taken_from js replica (start + 1) items) (agree start (replica + 1) (omega arith))
       ∙ ap (λ (es : List Edit). edits_of (entries_at ks start (replica + 1)) ++ es) (taken_from-agree limit js ks replica (start + 1) items agree (omega arith))
-  taken_from-agree limit js ks replica start (item.Show ∷ items) agree few =
-      let count = blocks-cons item.Show items in
+  taken_from-agree limit js ks replica start (other ∷ items) agree few =
+      let count = blocks-cons other items in
       taken_from-agree limit js ks replica start items agree (omega arith)
 
   pub taken-agree : (limit : ℕ) (js ks : Journals M) (replica : ℕ) (before : List Item) → Agree limit js ks → blocks before < limit → taken js replica before ≡ taken ks replica before
@@ -65,10 +66,11 @@ module _ {M : Type 0} where
 
   item_text-agree : (limit : ℕ) (js ks : Journals M) (names : List Ident) (before : List Item) (next : Item) (text : List ℕ) → Agree limit js ks
       → blocks before + cond (is_block next) 1 0 < limit → IsItemText names js before next text → IsItemText names ks before next text
-  item_text-agree limit js ks names before (item.Load number edit) text agree few is = is
-  item_text-agree limit js ks names before (item.Block block) text agree few is =
-      is ∙ ap (λ (es : List (Entries M)). block_heading (next_block before) ++ journals_text names es) (entries_from-agree limit js ks (next_block before) 1 names agree (omega arith))
-  item_text-agree limit js ks names before item.Show text agree few is = (is.0, sections-agree limit js ks before 0 names is.0 agree (omega arith) is.1, is.2)
+  item_text-agree limit js ks names before next text agree few is =
+      item_text-along names js ks before next text
+      (λ is_one. let one : ◌≡◌ {A = ℕ} (cond (is_block next) 1 0) 1 = ap {B = ℕ} (λ b. cond b 1 0) is_one in entries_from-agree limit js ks (next_block before) 1 names agree (omega arith))
+      (λ sections are. sections-agree limit js ks before 0 names sections agree (omega arith) are)
+      is
 
   pub item_texts-agree : (limit : ℕ) (js ks : Journals M) (names : List Ident) (before items : List Item) (text : List ℕ) → Agree limit js ks
       → blocks before + blocks items < limit → AreItemTexts names js before items text → AreItemTexts names ks before items text

@@ -31,12 +31,13 @@ use Rattle.session_report.specs.Legal.{next_block, next_send, stage_at, IsLegalA
 use Rattle.session_report.specs.Report.{IsSection, AreSections, IsItemText, AreItemTexts, block_heading, show_heading, journals_text}
 use Rattle.session_answers.specs.BlockJournals.{block_journals}
 use Rattle.session_answers.specs.Numbers.{next_numbers, numbers_behind}
+use Rattle.session_answers.proofs.Lists.{some_at}
 use Rattle.session_answers.proofs.Numbers.{numbers_stay, numbers_more}
 use Rattle.session_answers.specs.Running.{HaveTaken, IsBehind, HasLoaded, HaveRun, HasRunBlock, HasShown, AreShown, sources_of, stage_of}
 use Rattle.session_answers.specs.declared.running.Running.{Running}
 use Rattle.session_answers.proofs.Agreeing.{Agree, blocks, blocks-cons, blocks-append, taken-agree, item_texts-agree, legal_at-agree}
 use Rattle.session_answers.proofs.OwnEntries.{agree_behind, entries_behind, entries_from-each, of_block}
-use Rattle.session_answers.proofs.MoreItems.{places_without, places_with, earlier_blocks, taken_load, taken_block, taken_show, report_more, at_end_or_before}
+use Rattle.session_answers.proofs.MoreItems.{places_without, places_with, earlier_blocks, taken_load, taken_block, taken_other, report_more, at_end_or_before}
 use Rattle.session_answers.proofs.Commands.{entries_can}
 use Rattle.session_answers.proofs.Planned.{taken_graph, steps_planned, journal_taken}
 
@@ -71,11 +72,6 @@ get-set (x ∷ xs) (suc i) (suc k) v new is = further (get-set xs i k v new is) 
 
 same_some : {A : Type 0} (x y : A) → Some x ≡ Some y → x ≡ y
 same_some x y e = cc
-
-some_at : {A : Type 0} (xs : List A) (k : ℕ) → k < length xs → (x : A) × (slice_get xs k ≡ Some x)
-some_at [] k within = absurd (omega arith)
-some_at (x ∷ xs) zero within = (x, refl)
-some_at (x ∷ xs) (suc k) within = some_at xs k (omega arith)
 
 get-map : {A B : Type 0} (f : A → B) (xs : List A) (k : ℕ) (x : A) → slice_get xs k ≡ Some x → slice_get (map f xs) k ≡ Some (f x)
 get-map f [] k x is = absurd cc
@@ -115,7 +111,7 @@ module _ (names : List Ident) (js : Journals Content) (before : List Item) where
         ∙ ap (λ es. with_edits es []) (sym (taken_load js k number before edit))
 
   show_taken : (replicas : List Content) → HaveTaken names js before replicas → HaveTaken names js (before ++ item.Show ∷ []) replicas
-  show_taken replicas have = record { all = have.all; each = λ k replica is. have.each k replica is ∙ ap (λ es. with_edits es []) (sym (taken_show js k before)) }
+  show_taken replicas have = record { all = have.all; each = λ k replica is. have.each k replica is ∙ ap (λ es. with_edits es []) (sym (taken_other js k before item.Show refl)) }
 
   -- ---- sections
 

@@ -77,15 +77,13 @@ sending_alone reverse twice first_send sources replica (Send number) (Send other
 -- ---- all blocks
 
 abbrev IsAlone : Item → Type 0
-IsAlone (item.Load replica edit) = Unit {0}
 IsAlone (item.Block block) = (first_send : ℕ) (sources : List (List Edit)) (replica : ℕ) → HasOneActor (stage declared block.lines first_send sources replica)
-IsAlone item.Show = Unit {0}
+IsAlone _ = Unit {0}
 
 loads_alone : (loads : List Item) → AllByRecursion IsLoad loads → AllByRecursion IsAlone (loads ++ blocks)
 loads_alone [] all = (acting_alone, (sending_alone false false, (sending_alone true true, tt)))
 loads_alone (item.Load replica edit ∷ loads) all = (tt, loads_alone loads all.1)
-loads_alone (item.Block block ∷ loads) all = absurd all.0
-loads_alone (item.Show ∷ loads) all = absurd all.0
+loads_alone (other ∷ loads) all = absurd all.0
 
 -- what holds of all items holds of one between others
 between : (before after : List Item) (next : Item) → AllByRecursion IsAlone (before ++ next ∷ after) → IsAlone next

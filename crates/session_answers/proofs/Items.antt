@@ -1,5 +1,5 @@
 -- The items of a session by their index, and what holds of one.
-use Rattle.std.proofs.Common.{◌≡◌, ℕ, zero, suc, ◌+◌, ◌<◌, ◌≤◌, ◌^◌, cond, List, [], ◌∷◌, ◌++◌, length, take, slice_get, Some, Result, Ok, Err, sym, ap, subst, ◌∙◌, arith}
+use Rattle.std.proofs.Common.{◌≡◌, ℕ, zero, suc, ◌+◌, ◌<◌, ◌≤◌, ◌^◌, true, cond, List, [], ◌∷◌, ◌++◌, length, take, slice_get, Some, Result, Ok, Err, sym, ap, subst, ◌∙◌, arith}
 use Rattle.std.specs.Prelude.{IfOk}
 use Rattle.std.specs.List.{AllByRecursion, count_by, sum_by}
 use Rattle.std.proofs.lemmas.List.{take_more}
@@ -18,8 +18,8 @@ use Rattle.session_run.specs.Run.{CanRun}
 use Rattle.session_run.proofs.OfSessions.{block_can_run, few_numbers, sends_counted}
 use Rattle.session_answers.specs.declared.running.Running.{Running}
 use Rattle.session_answers.specs.Numbers.{next_number, IsNumberInSession}
-use Rattle.session_answers.specs.Running.{IsBehind, HasLoaded, HasRunBlock, HasShown}
-use Rattle.session_answers.proofs.Behind.{load_behind, show_behind, block_behind}
+use Rattle.session_answers.specs.Running.{IsBehind, HasLoaded, HasRunBlock}
+use Rattle.session_answers.proofs.Behind.{load_behind, block_behind}
 
 -- what holds of the value where there is one
 pub if_ok : {A E : Type 0} (P Q : A → Type 0) (r : Result A E) → ((x : A) → P x → Q x) → IfOk r P → IfOk r Q
@@ -61,9 +61,10 @@ module _ (session : Session) (index : ℕ) (old : Running) (is : IsSession sessi
       let count = behind.blocks in
       omega arith
 
-  pub show_within : slice_get session.items index ≡ Some item.Show → old.shows < 8
-  show_within at =
-      let few = counted_before (λ (x : Item). cond (is_show x) 1 0) session.items index item.Show 8 is.few_shows at in
+  pub show_within : (next : Item) → is_show next ≡ true → slice_get session.items index ≡ Some next → old.shows < 8
+  show_within next is_one at =
+      let few = counted_before (λ (x : Item). cond (is_show x) 1 0) session.items index next 8 is.few_shows at in
+      let one : ◌≡◌ {A = ℕ} (cond (is_show next) 1 0) 1 = ap {B = ℕ} (λ b. cond b 1 0) is_one in
       let count = behind.shows in
       omega arith
 
@@ -98,14 +99,14 @@ module _ (session : Session) (index : ℕ) (old : Running) (is : IsSession sessi
 
   -- ---- one item more
 
+  pub after_item : (next : Item) (new : Running) → slice_get session.items index ≡ Some next → IsBehind session (take index session.items ++ next ∷ []) new → IsBehind session (take (index + 1) session.items) new
+  after_item next new at more = subst (λ items. IsBehind session items new) (sym (take_next session.items index next at)) more
+
   pub after_load : (number : ℕ) (edit : Edit) (new : Running) → slice_get session.items index ≡ Some (item.Load number edit) → HasLoaded number edit old new → IsBehind session (take (index + 1) session.items) new
   after_load number edit new at has =
-      subst (λ items. IsBehind session items new) (sym (take_next session.items index (item.Load number edit) at)) (load_behind session (take index session.items) old new behind number edit has)
+      after_item (item.Load number edit) new at (load_behind session (take index session.items) old new behind number edit has)
 
   pub after_block : (block : Block) (new : Running) → slice_get session.items index ≡ Some (item.Block block) → HasRunBlock session block old new → IsBehind session (take (index + 1) session.items) new
   after_block block new at has =
       let lines : AllByRecursion (IsLine session) block.lines = of_item (IsItem session) session.items index (item.Block block) is.items at in
-      subst (λ items. IsBehind session items new) (sym (take_next session.items index (item.Block block) at)) (block_behind session (take index session.items) old new behind block is lines has)
-
-  pub after_show : (new : Running) → slice_get session.items index ≡ Some item.Show → HasShown session old new → IsBehind session (take (index + 1) session.items) new
-  after_show new at has = subst (λ items. IsBehind session items new) (sym (take_next session.items index item.Show at)) (show_behind session (take index session.items) old new behind has)
+      after_item (item.Block block) new at (block_behind session (take index session.items) old new behind block is lines has)

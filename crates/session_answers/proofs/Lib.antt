@@ -1,3 +1,4 @@
+pub mod Lists
 pub mod Agreeing
 pub mod Numbers
 pub mod OwnEntries

@@ -1,8 +1,8 @@
 -- What a block opens of its replicas is all that it sends and all that its authors cut.
-use Rattle.std.proofs.Common.{◌≡◌, ℕ, zero, suc, ◌+◌, ◌==◌, ◌&&◌, ◌||◌, Bool, true, false, List, [], ◌∷◌, ◌++◌, length, map, slice_get, Some, if◌then◌else◌, refl, sym, ap, ap₂, subst, ◌∙◌, arith, append_assoc}
+use Rattle.std.proofs.Common.{◌≡◌, ℕ, zero, suc, ◌+◌, ◌==◌, ◌&&◌, ◌||◌, Bool, true, false, List, [], ◌∷◌, ◌++◌, length, map, slice_get, Some, if◌then◌else◌, refl, sym, ap, ap₂, ◌∙◌, arith, append_assoc}
 use Rattle.std.specs.List.{AllByRecursion, flat_map, list_any}
 use Rattle.std.proofs.lemmas.Bool.{eqb-true, eq-eqb}
-use Rattle.std.proofs.lemmas.List.{length-map, length-append}
+use Rattle.std.proofs.lemmas.List.{length-append}
 use Rattle.std.proofs.lemmas.Option.{same_Some, none-some}
 use Rattle.grove_edits.specs.declared.action.Action.{Action}
 use Rattle.grove_edits.specs.declared.action.Action.TheVariants.{Cut}
@@ -15,13 +15,13 @@ use Rattle.session_script.specs.declared.line.Line.{Line}
 use Rattle.session_script.specs.declared.line.Line.TheVariants as line
 use Rattle.session_script.specs.declared.line.SendLine.{SendLine}
 use Rattle.session_run.specs.Boards.{slots_by, slots_at}
-use Rattle.session_run.specs.Calls.{Stage, actions_of, sends_of, ActsHere, SendsHere, AreCalls, AreTakes, MayCall}
+use Rattle.session_run.specs.Calls.{Stage, actions_of, sends_of, SendsHere, AreCalls, MayCall}
 use Rattle.session_run.specs.Run.{HasRun}
 use Rattle.replica_core.specs.Content.{Content, with_block}
 use Rattle.replica_core.specs.Step.{effect, reply, after}
 use Rattle.session_report.specs.Journal.{Entries}
-use Rattle.session_answers.specs.Opened.{is_cut, acts_at, cuts_by, cuts_at, sends_by, sends_from, asks_of, listed, all_listed}
-use Rattle.session_answers.specs.Running.{sources_of, stage_of}
+use Rattle.session_answers.specs.Opened.{is_cut, acts_at, cuts_at, sends_from, asks_of, listed, all_listed}
+use Rattle.session_answers.specs.Running.{sources_of}
 
 -- ---- tests
 

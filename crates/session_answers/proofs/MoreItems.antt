@@ -29,28 +29,23 @@ pairs_below block replica limit (name ∷ names) below = (below, pairs_below blo
 
 places_below : (names : List Ident) (start limit : ℕ) (items : List Item) → start + blocks items ≤ limit → AllByRecursion (λ (p : ℕ × ℕ). p.0 < limit) (places_from names start items)
 places_below names start limit [] few = tt
-places_below names start limit (item.Load number edit ∷ items) few = let count = blocks-cons (item.Load number edit) items in places_below names start limit items (omega arith)
 places_below names start limit (item.Block block ∷ items) few =
     let count = blocks-cons (item.Block block) items in
     all-append (λ (p : ℕ × ℕ). p.0 < limit) (pairs_from start 1 names) (places_from names (start + 1) items)
     (pairs_below start 1 limit names (omega arith)) (places_below names (start + 1) limit items (omega arith))
-places_below names start limit (item.Show ∷ items) few = let count = blocks-cons item.Show items in places_below names start limit items (omega arith)
+places_below names start limit (other ∷ items) few = let count = blocks-cons other items in places_below names start limit items (omega arith)
 
 places_from-append : (names : List Ident) (start : ℕ) (xs ys : List Item) → places_from names start (xs ++ ys) ≡ places_from names start xs ++ places_from names (start + blocks xs) ys
 places_from-append names start [] ys = let here : start ≡ start + 0 = omega arith in ap (λ n. places_from names n ys) here
-places_from-append names start (item.Load number edit ∷ xs) ys =
-    let count = blocks-cons (item.Load number edit) xs in
-    let there : start + blocks xs ≡ start + blocks (item.Load number edit ∷ xs) = omega arith in
-    places_from-append names start xs ys ∙ ap (λ n. places_from names start xs ++ places_from names n ys) there
 places_from-append names start (item.Block block ∷ xs) ys =
     let count = blocks-cons (item.Block block) xs in
     let there : (start + 1) + blocks xs ≡ start + blocks (item.Block block ∷ xs) = omega arith in
     ap (λ (ps : List (ℕ × ℕ)). pairs_from start 1 names ++ ps)
     (places_from-append names (start + 1) xs ys ∙ ap (λ n. places_from names (start + 1) xs ++ places_from names n ys) there)
     ∙ sym (append_assoc (pairs_from start 1 names) (places_from names (start + 1) xs) (places_from names (start + blocks (item.Block block ∷ xs)) ys))
-places_from-append names start (item.Show ∷ xs) ys =
-    let count = blocks-cons item.Show xs in
-    let there : start + blocks xs ≡ start + blocks (item.Show ∷ xs) = omega arith in
+places_from-append names start (other ∷ xs) ys =
+    let count = blocks-cons other xs in
+    let there : start + blocks xs ≡ start + blocks (other ∷ xs) = omega arith in
     places_from-append names start xs ys ∙ ap (λ n. places_from names start xs ++ places_from names n ys) there
 
 one_more : (names : List Ident) (before : List Item) (next : Item) → places_from names 1 (before ++ next ∷ []) ≡ places_from names 1 before ++ places_from names (next_block before) (next ∷ [])
@@ -60,9 +55,8 @@ one_more names before next =
 
 -- an item that is no block has no places
 pub places_without : (names : List Ident) (before : List Item) (next : Item) → ((block : Block) → next ≢ item.Block block) → places_from names 1 (before ++ next ∷ []) ≡ places_from names 1 before
-places_without names before (item.Load number edit) other = one_more names before (item.Load number edit) ∙ append-nil (places_from names 1 before)
 places_without names before (item.Block block) other = absurd (other block refl)
-places_without names before item.Show other = one_more names before item.Show ∙ append-nil (places_from names 1 before)
+places_without names before next other = one_more names before next ∙ append-nil (places_from names 1 before)
 
 cond-append : (t : Bool) (edit : Edit) (a b : List Edit) → cond t (edit ∷ (a ++ b)) (a ++ b) ≡ cond t (edit ∷ a) a ++ b
 cond-append true edit a b = refl
@@ -114,9 +108,9 @@ module _ {M : Type 0} where
       ap (λ (es : List Edit). own ++ es)
       (taken_from-append js replica (start + 1) xs ys ∙ ap (λ n. taken_from js replica (start + 1) xs ++ taken_from js replica n ys) there)
       ∙ sym (append_assoc own (taken_from js replica (start + 1) xs) (taken_from js replica (start + blocks (item.Block block ∷ xs)) ys))
-  taken_from-append js replica start (item.Show ∷ xs) ys =
-      let count = blocks-cons item.Show xs in
-      let there : start + blocks xs ≡ start + blocks (item.Show ∷ xs) = omega arith in
+  taken_from-append js replica start (other ∷ xs) ys =
+      let count = blocks-cons other xs in
+      let there : start + blocks xs ≡ start + blocks (other ∷ xs) = omega arith in
       taken_from-append js replica start xs ys ∙ ap (λ n. taken_from js replica start xs ++ taken_from js replica n ys) there
 
   taken_more : (js : Journals M) (replica : ℕ) (before : List Item) (next : Item) → taken js replica (before ++ next ∷ []) ≡ taken js replica before ++ taken_from js replica (next_block before) (next ∷ [])
@@ -135,8 +129,11 @@ module _ {M : Type 0} where
       taken_more js replica before (item.Block block)
       ∙ ap (λ (es : List Edit). taken js replica before ++ es) (append-nil (edits_of (entries_at js (next_block before) (replica + 1))))
 
-  pub taken_show : (js : Journals M) (replica : ℕ) (before : List Item) → taken js replica (before ++ item.Show ∷ []) ≡ taken js replica before
-  taken_show js replica before = taken_more js replica before item.Show ∙ append-nil (taken js replica before)
+  -- another item is taken by none
+  pub taken_other : (js : Journals M) (replica : ℕ) (before : List Item) (next : Item) → taken_from js replica (next_block before) (next ∷ []) ≡ []
+      → taken js replica (before ++ next ∷ []) ≡ taken js replica before
+  taken_other js replica before next none =
+      taken_more js replica before next ∙ ap (λ (es : List Edit). taken js replica before ++ es) none ∙ append-nil (taken js replica before)
 
   -- ---- what is written
 

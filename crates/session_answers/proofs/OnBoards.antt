@@ -1,5 +1,5 @@
 -- Cuts at the boards of a block: they are as the block needs them, and their seats come back whole.
-use Rattle.std.proofs.Common.{◌≡◌, ◌⊎◌, inl, inr, Bool, true, false, ℕ, zero, suc, ◌+◌, ◌<◌, List, [], ◌∷◌, ◌++◌, length, map, take, get_or, slice_get, Option, Some, None, refl, sym, ap, ap₂, subst, ◌∙◌, arith, length-append, append_assoc, append-nil}
+use Rattle.std.proofs.Common.{◌≡◌, ◌⊎◌, inl, inr, Bool, true, false, ℕ, zero, suc, ◌+◌, ◌<◌, List, [], ◌∷◌, ◌++◌, length, map, take, get_or, slice_get, Option, Some, refl, sym, ap, ap₂, subst, ◌∙◌, arith, length-append, append_assoc, append-nil}
 use Rattle.std.specs.Option.{option_map}
 use Rattle.std.specs.List.{AllByRecursion, AllZip}
 use Rattle.std.proofs.lemmas.List.{map-append, take_more, length-map}
@@ -22,6 +22,7 @@ use Rattle.replica_core.specs.Content.{Content}
 use Rattle.session_answers.specs.Running.{stage_of, sources_of}
 use Rattle.session_answers.specs.Boards.{states_of, parts_at, IsBoardFor, AreBoards, cut_from, all_cut_from, board_of, IsWholeSeat, held_by, all_held, IsHeld, AreHeld}
 use Rattle.session_answers.specs.Opened.{sends_from, cuts_at, asks_of, listed, all_listed}
+use Rattle.session_answers.proofs.Lists.{some_at}
 use Rattle.session_answers.proofs.Listed.{listed_if_cut, length-all_listed, listed_at, no_slots_without_cut, no_slots_without_edges}
 
 -- ---- lists, place by place
@@ -74,11 +75,6 @@ pub mapped_more : {A B : Type 0} (f : A → B) (xs new : List A) (y : A) (zs : L
 mapped_more f xs new y zs k m n z are place next is own within there =
     ap (map f) is ∙ map-append f xs (y ∷ []) ∙ ap (λ us. us ++ f y ∷ []) are ∙ ap (λ u. take k zs ++ u ∷ []) (own ∙ there ∙ ap (λ j. get_or zs j z) (sym place))
     ∙ sym (take_more zs k z (omega arith)) ∙ ap (λ j. take j zs) (sym next)
-
-pub found_at : {A : Type 0} (xs : List A) (k : ℕ) → k < length xs → (x : A) × (slice_get xs k ≡ Some x)
-found_at [] k within = absurd (omega arith)
-found_at (x ∷ xs) zero within = (x, refl)
-found_at (x ∷ xs) (suc k) within = found_at xs k (omega arith)
 
 -- ---- before the block
 
@@ -146,7 +142,7 @@ module _ (stage : Stage) (boards : List (Option BoardOf)) (cuts : List Cuts) (up
       let board = found_in_map board_of cuts boards stage.replica own at is in
       let within = slice_get_within boards stage.replica (board_of own) board in
       let many = are.as_many in
-      let list = found_at stage.sources stage.replica (omega arith) in
+      let list = some_at stage.sources stage.replica (omega arith) in
       let opening = found_in_map opening_edits cuts (all_cut_from stage.sources boards) stage.replica own openings is in
       let seat = found_in_map seat_of cuts (map (option_map first_board_seat) boards) stage.replica own firsts is in
       let first = found_in_map (option_map first_board_seat) boards (map (option_map first_board_seat) boards) stage.replica (board_of own) refl board in
@@ -239,8 +235,8 @@ module _ (session : Session) (block : Block) (first_send : ℕ) (firsts : List C
   is_held k opening states is_opening is_states =
       let within = slice_get_within (sources_of firsts) k opening is_opening in
       let sources_many = many_sources in
-      let own = found_at owns k (omega arith) in
-      let back = found_at backs k (omega arith) in
+      let own = some_at owns k (omega arith) in
+      let back = some_at backs k (omega arith) in
       let list = listed (asks_of session.authors block.lines k) opening in
       let is_list : slice_get lists k ≡ Some list = ap (λ (ls : List (List Edit)). slice_get ls k) are_lists ∙ listed_at session.authors block.lines 0 firsts k k opening (omega arith) is_opening in
       let board = found_in_map board_of owns boards k own.0 at own.1 in

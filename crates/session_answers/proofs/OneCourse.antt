@@ -20,7 +20,7 @@ use Rattle.session_report.specs.Journal.{Entries, IsLegal, edits_of}
 use Rattle.session_report.specs.Taken.{Journals, entries_at, taken}
 use Rattle.session_report.specs.Legal.{next_block, stage_at, AreSources, AreLegal}
 use Rattle.session_report.specs.Alone.{IsWithoutMeetings}
-use Rattle.session_answers.proofs.MoreItems.{taken_load, taken_block, taken_show}
+use Rattle.session_answers.proofs.MoreItems.{taken_load, taken_block, taken_other}
 use Rattle.session_answers.proofs.OneActor.{one_legal_journal}
 
 -- lists of one length that agree at each index are one
@@ -72,7 +72,7 @@ module _ {M : Type 0} (session : Session) (js ks : Journals M) (is : IsSession s
       ∙ ap (λ (es : List Edit). es ++ edits_of (entries_at js (next_block before) (replica + 1))) (alike replica within)
       ∙ ap (λ (es : Entries M). taken ks replica before ++ edits_of es) (entries_alike before after block parts alike replica within)
       ∙ sym (taken_block ks replica before block)
-  one_item_more before after item.Show parts alike replica within = taken_show js replica before ∙ alike replica within ∙ sym (taken_show ks replica before)
+  one_item_more before after next parts alike replica within = taken_other js replica before next refl ∙ alike replica within ∙ sym (taken_other ks replica before next refl)
 
   all_items : (before rest : List Item) → session.items ≡ before ++ rest → Alike before → Alike session.items
   all_items before [] parts alike = subst Alike (sym (parts ∙ append-nil before)) alike

@@ -50,7 +50,7 @@ use Rattle.session_report.specs.Journal.{Entries}
 use Rattle.session_answers.specs.Boards.{states_of, states_had, AreHeld}
 use Rattle.session_answers.specs.Running.{stage_of, sources_of, HaveRun}
 use Rattle.session_answers.proofs.Commands.{of_contained}
-use Rattle.session_answers.proofs.OnBoards.{found_at}
+use Rattle.session_answers.proofs.Lists.{some_at}
 
 -- ---- lists
 
@@ -265,7 +265,7 @@ module _ (session : Session) (block : Block) (first_send : ℕ) (firsts : List C
   journal_found =
       let within = slice_get_within firsts number first is_first in
       let many = run.as_many_journals in
-      found_at journals number (omega (arith, within, many))
+      some_at journals number (omega (arith, within, many))
 
   -- a slot that was raised is that of an edge that is deleted
   slot_deleted : (slot : ℕ) → In slot slots → (edit : Edit) × (slice_get first.edits slot ≡ Some edit) × IsAtMost Deleted (graph last.edits (edit_edge edit))

@@ -1,5 +1,5 @@
 -- What the replicas at the end of a session make of its summary is that of the session and its journals.
-use Rattle.std.proofs.Common.{◌≡◌, ℕ, zero, suc, ◌+◌, ◌<◌, Bool, true, IsTrue, List, [], ◌∷◌, length, drop, slice_get, Some, refl, sym, ap, subst, ◌∙◌, arith, add-one}
+use Rattle.std.proofs.Common.{◌≡◌, ℕ, zero, suc, ◌+◌, Bool, true, IsTrue, List, [], ◌∷◌, drop, slice_get, Some, refl, sym, ap, subst, ◌∙◌, arith, add-one}
 use Rattle.std.specs.List.{AllByRecursion}
 use Rattle.std.proofs.lemmas.Option.{slice_get_within}
 use Rattle.grove_edits.specs.declared.edit.Edit.{Edit}
@@ -15,6 +15,7 @@ use Rattle.session_report.specs.Summary.{Summarizes}
 use Rattle.session_answers.specs.declared.running.Running.{Running}
 use Rattle.session_answers.specs.Running.{IsBehind}
 use Rattle.session_answers.specs.Summarizing.{AllPrint, SummarizesReplicas}
+use Rattle.session_answers.proofs.Lists.{some_at}
 use Rattle.session_answers.proofs.Planned.{taken_graph}
 use Rattle.session_answers.proofs.Behind.{canonical_along}
 use Rattle.session_answers.proofs.Items.{of_item}
@@ -35,11 +36,6 @@ taken_prints content edits text is = printed_along (graph edits) (graph content.
 all_from_each : {A : Type 0} (P : A → Type 0) (xs : List A) → ((number : ℕ) (x : A) → slice_get xs number ≡ Some x → P x) → AllByRecursion P xs
 all_from_each P [] each = tt
 all_from_each P (x ∷ xs) each = (each 0 x refl, all_from_each P xs (λ number y at. each (suc number) y at))
-
-some_at : {A : Type 0} (xs : List A) (number : ℕ) → number < length xs → (x : A) × (slice_get xs number ≡ Some x)
-some_at [] number within = absurd (omega arith)
-some_at (x ∷ xs) zero within = (x, refl)
-some_at (x ∷ xs) (suc number) within = some_at xs number (omega arith)
 
 -- the first replica printed this, and so did the others
 all_print : (text : List ℕ) (replicas : List Content) (first : Content) (others : List Content) → replicas ≡ first ∷ others → Prints text first → AllPrint text others → AllByRecursion (Prints text) replicas

@@ -12,9 +12,8 @@ use Rattle.session_run.specs.Boards.{is_line_of}
 
 -- how many lines of an author an item has
 abbrev pub lines_by : ℕ → Item → ℕ
-lines_by author (item.Load replica edit) = 0
 lines_by author (item.Block block) = count_by (is_line_of author) block.lines
-lines_by author item.Show = 0
+lines_by author _ = 0
 
 -- the number of an author's next line behind these items
 abbrev pub next_number : List Item → ℕ → ℕ

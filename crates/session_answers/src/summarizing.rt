@@ -84,7 +84,7 @@ fn is_load(item: &Item) -> bool
 {
     match item {
         Item::Load { .. } => true,
-        Item::Block(_) | Item::Show => false,
+        _ => false,
     }
 }
 

@@ -1,5 +1,5 @@
 -- A session and its journals have one report.
-use Rattle.std.proofs.Common.{◌≡◌, ℕ, ◌+◌, List, [], ◌∷◌, ◌++◌, refl, sym, ap, ◌∙◌}
+use Rattle.std.proofs.Common.{◌≡◌, ℕ, ◌+◌, true, List, [], ◌∷◌, ◌++◌, refl, sym, ap, ◌∙◌}
 use Rattle.grove_sorts.specs.declared.ident.Ident.{Ident}
 use Rattle.grove_edits.specs.declared.edit.Edit.{Edit}
 use Rattle.grove_edits.specs.Graph.{graph, IsSame, HasSameEdits}
@@ -8,9 +8,11 @@ use Rattle.grove_answers.proofs.SameGraph.{printed_along, one_print_text}
 use Rattle.session_script.specs.declared.item.Item.{Item}
 use Rattle.session_script.specs.declared.item.Item.TheVariants as item
 use Rattle.session_script.specs.declared.session.Session.{Session}
+use Rattle.session_script.specs.Session.{is_block}
+use Rattle.session_report.specs.Journal.{Entries}
 use Rattle.session_report.specs.Taken.{Journals, taken}
-use Rattle.session_report.specs.Legal.{next_show}
-use Rattle.session_report.specs.Report.{IsSection, AreSections, IsItemText, AreItemTexts, IsReport, replica_heading, show_heading}
+use Rattle.session_report.specs.Legal.{next_block, next_show}
+use Rattle.session_report.specs.Report.{IsSection, entries_from, AreSections, IsItemText, AreItemTexts, IsReport, replica_heading, block_heading, journals_text, show_heading}
 
 -- graphs that are the same have the same print text
 same_printed : (name other : Ident) (a b : List Edit) (x y : List ℕ) → IsSame (graph a) (graph b) → (of_a : IsSection name a x) → (of_b : IsSection other b y) → of_a.printed ≡ of_b.printed
@@ -42,10 +44,19 @@ module _ {M : Type 0} where
 
   one_item : (names : List Ident) (journals : Journals M) (before : List Item) (next : Item) (x y : List ℕ)
       → IsItemText names journals before next x → IsItemText names journals before next y → x ≡ y
-  one_item names journals before (item.Load number edit) x y a b = a ∙ sym b
-  one_item names journals before (item.Block block) x y a b = a ∙ sym b
   one_item names journals before item.Show x y a b =
       a.2 ∙ ap (λ (t : List ℕ). show_heading (next_show before) ++ t) (one_sections journals before 0 names a.0 b.0 a.1 b.1) ∙ sym b.2
+  one_item names journals before other x y a b = a ∙ sym b
+
+  -- what is written of an item is written of other journals too, where it has the same entries and sections
+  pub item_text-along : (names : List Ident) (js ks : Journals M) (before : List Item) (next : Item) (text : List ℕ)
+      → (is_block next ≡ true → entries_from js (next_block before) 1 names ≡ entries_from ks (next_block before) 1 names)
+      → ((sections : List ℕ) → AreSections js before 0 names sections → AreSections ks before 0 names sections)
+      → IsItemText names js before next text → IsItemText names ks before next text
+  item_text-along names js ks before (item.Block block) text entries sections is =
+      is ∙ ap (λ (es : List (Entries M)). block_heading (next_block before) ++ journals_text names es) (entries refl)
+  item_text-along names js ks before item.Show text entries sections is = (is.0, sections is.0 is.1, is.2)
+  item_text-along names js ks before other text entries sections is = is
 
   one_texts : (names : List Ident) (journals : Journals M) (before items : List Item) (x y : List ℕ)
       → AreItemTexts names journals before items x → AreItemTexts names journals before items y → x ≡ y

@@ -3,7 +3,7 @@
 use Rattle.std.specs.Prelude.{ℕ, List, [], ◌∷◌, ◌++◌, codes, decimal}
 use Rattle.edit_text.specs.Line.{spaced}
 use Rattle.grove_edits.specs.declared.actor.Actor.{Actor}
-use Rattle.grove_edits.specs.declared.actor.Actor.TheVariants.{Host, Author, Send}
+use Rattle.grove_edits.specs.declared.actor.Actor.TheVariants.{Author, Send}
 use Rattle.grove_edits.specs.declared.answer.Answer.{Answer}
 use Rattle.grove_edits.specs.declared.command.Command.{Command}
 use Rattle.grove_edits.specs.declared.command.Command.TheVariants.{Act, Take}

@@ -7,7 +7,7 @@ use Rattle.grove_edits.specs.declared.edit.Edit.{Edit}
 use Rattle.grove_edits.specs.Graph.{Graph, graph}
 use Rattle.grove_edits.specs.declared.action.Action.{Action}
 use Rattle.grove_edits.specs.declared.actor.Actor.{Actor}
-use Rattle.grove_edits.specs.declared.actor.Actor.TheVariants.{Host, Author, Send}
+use Rattle.grove_edits.specs.declared.actor.Actor.TheVariants.{Author, Send}
 use Rattle.grove_edits.specs.declared.answer.Answer.{Answer}
 use Rattle.grove_edits.specs.declared.answer.Answer.TheVariants.{Taken}
 use Rattle.grove_edits.specs.declared.command.Command.{Command}

@@ -43,9 +43,8 @@ pairs_from block replica (name ∷ names) = (block, replica) ∷ pairs_from bloc
 -- the blocks among some items, each with all replicas, by block and then by replica
 abbrev pub places_from : List Ident → ℕ → List Item → List (ℕ × ℕ)
 places_from replicas block [] = []
-places_from replicas block (item.Load number edit ∷ items) = places_from replicas block items
 places_from replicas block (item.Block lines ∷ items) = pairs_from block 1 replicas ++ places_from replicas (block + 1) items
-places_from replicas block (item.Show ∷ items) = places_from replicas block items
+places_from replicas block (other ∷ items) = places_from replicas block items
 
 module _ {M : Type 0} where
   -- the canonical lists of all replicas, in order, at a point

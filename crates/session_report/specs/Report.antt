@@ -66,13 +66,13 @@ module _ {M : Type 0} where
       × AreSections journals before (replica + 1) names rest × (text ≡ section ++ rest)
 
   -- what is written of an item behind others, for replicas with these names: of a block its journals, of a show every replica, and
-  -- of a load nothing
+  -- of another item nothing
   abbrev pub IsItemText : List Ident → Journals M → List Item → Item → List ℕ → Type 0
-  IsItemText names journals before (item.Load number edit) text = text ≡ []
   IsItemText names journals before (item.Block block) text =
       text ≡ block_heading (next_block before) ++ journals_text names (entries_from journals (next_block before) 1 names)
   IsItemText names journals before item.Show text =
       (sections : List ℕ) × AreSections journals before 0 names sections × (text ≡ show_heading (next_show before) ++ sections)
+  IsItemText names journals before other text = text ≡ []
 
   -- what is written of items behind others, in order
   abbrev pub AreItemTexts : List Ident → Journals M → List Item → List Item → List ℕ → Type 0

@@ -18,8 +18,7 @@ use Rattle.session_report.specs.Report.{heading}
 
 abbrev pub is_load : Item → Bool
 is_load (item.Load replica edit) = true
-is_load (item.Block block) = false
-is_load item.Show = false
+is_load _ = false
 
 abbrev pub is_insertion : EditKind → Bool
 is_insertion Insert = true

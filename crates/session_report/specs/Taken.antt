@@ -28,7 +28,7 @@ module _ {M : Type 0} where
       if number == replica then edit ∷ taken_from journals replica block items else taken_from journals replica block items
   taken_from journals replica block (item.Block lines ∷ items) =
       edits_of (entries_at journals block (replica + 1)) ++ taken_from journals replica (block + 1) items
-  taken_from journals replica block (item.Show ∷ items) = taken_from journals replica block items
+  taken_from journals replica block (other ∷ items) = taken_from journals replica block items
 
   -- the edits that it has taken once the items before a point are over
   abbrev pub taken : Journals M → ℕ → List Item → List Edit

@@ -17,7 +17,7 @@ use Rattle.session_script.specs.Statement.{IsReplicaOf}
 use Rattle.session_script.specs.Order.{statement_fault}
 use Rattle.session_script.specs.Script.{IsBad}
 use Rattle.session_script.specs.Session.{Spells}
-use Rattle.session_script.proofs.Good.{same_ident_itself}
+use Rattle.session_script.proofs.Names.{same_ident_itself}
 
 not_lf : (byte : ℕ) → 10 < byte → byte ≢ 10
 not_lf byte above e = omega arith

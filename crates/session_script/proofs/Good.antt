@@ -1,30 +1,28 @@
 -- The statements of a session have no fault, and a session may end behind them.
-use Rattle.std.proofs.Common.{◌≡◌, ℕ, zero, suc, ◌+◌, ◌*◌, ◌<◌, ◌≤◌, Bool, true, false, not, ◌&&◌, ◌||◌, ◌==◌, nat_lt, nat_le, List, [], ◌∷◌, ◌++◌, Some, None, length, map, get_or, slice_get, cond, refl, sym, ap, subst, ◌∙◌, append_assoc, append-nil, length-append, arith}
+use Rattle.std.proofs.Common.{◌≡◌, ℕ, zero, suc, ◌+◌, ◌*◌, ◌<◌, ◌≤◌, Bool, true, false, not, ◌&&◌, ◌||◌, ◌==◌, nat_lt, nat_le, List, [], ◌∷◌, ◌++◌, None, length, map, get_or, cond, inl, inr, refl, sym, ap, subst, ◌∙◌, append_assoc, append-nil, length-append, arith}
 use Rattle.std.specs.List.{list_all, list_any, count_by, sum_by, AllByRecursion}
-use Rattle.std.specs.Cmp.{eq_by_cmp_equiv}
 use Rattle.std.proofs.lemmas.Bool.{eq-eqb}
 use Rattle.std.proofs.lemmas.Bool.Decides.{nat_tests}
 use Rattle.std.proofs.lemmas.List.Sums.{sum_by-cons}
 use Rattle.grove_sorts.specs.declared.ident.Ident.{Ident}
-use Rattle.grove_sorts.specs.Ident.{ident_cmp}
 use Rattle.grove_sorts.specs.declared.version.Version.{Version}
 use Rattle.grove_sorts.proofs.Truths.{or_right, false_from}
-use Rattle.grove_sorts.proofs.Orders.{ident_cmp_total, ident_cmp_exact, equal_from_test}
 use Rattle.session_script.specs.declared.author.Declared.{Declared}
 use Rattle.session_script.specs.declared.line.Line.{Line}
 use Rattle.session_script.specs.declared.line.Line.TheVariants as line
 use Rattle.session_script.specs.declared.line.SendLine.{SendLine}
 use Rattle.session_script.specs.declared.item.Item.{Item}
-use Rattle.session_script.specs.declared.item.Item.TheVariants as item
 use Rattle.session_script.specs.declared.session.Session as sessions
 use Rattle.session_script.specs.declared.statement.Statement.{Statement}
-use Rattle.session_script.specs.declared.statement.Statement.TheVariants.{Session, Replica, Author, Load, Block, End, Act, Send, Show}
+use Rattle.session_script.specs.declared.statement.Statement.TheVariants.{Session, Replica, Author, Block, End, Act, Send}
 use Rattle.session_script.specs.Order.{is_same_ident, is_beyond, named_replicas, is_ended}
 use Rattle.session_script.specs.Script.{BeginSession}
 use Rattle.session_script.specs.Session.{AllDiffer, author_numbers, IsSend, IsLine, IsItem, IsSession, is_send, is_block, is_show, send_count}
 use Rattle.session_script.specs.View.{View, seen, start, after, items_at, place_at, declared_at, repeats_replica_at, unknown_author_at, repeats_author_at, too_many_at, fault_at}
-use Rattle.session_script.proofs.Views.{first_fault, GoesOn, GoOn-view, ended_is}
-use Rattle.session_script.proofs.Told.{AuthorTold, LineTold, ItemsTold, Each, Told, sent, told_in_range, told_known}
+use Rattle.session_script.proofs.Views.{counted-add, first_fault, GoesOn, GoOn-view, ended_is}
+use Rattle.session_script.proofs.Names.{same_ident_exact, declared_name}
+use Rattle.session_script.proofs.OneLine.{with_item, one_line}
+use Rattle.session_script.proofs.Told.{AuthorTold, LineTold, ItemTold, ItemsTold, Each, Told, sent, told_in_range, told_known}
 
 -- ---- where no condition holds there is no fault
 
@@ -70,23 +68,8 @@ none_of_five a b c d e pa pb pc pd pe =
 none_of_two : (a b : Bool) → a ≡ false → b ≡ false → (a || b) ≡ false
 none_of_two a b pa pb = ap (λ x. x || b) pa ∙ pb
 
-pub same_ident_itself : (a : Ident) → is_same_ident a a ≡ true
-same_ident_itself a = (eq_by_cmp_equiv ident_cmp_total).refl a
-
-pub same_ident_exact : (a b : Ident) → is_same_ident a b ≡ true → a ≡ b
-same_ident_exact a b e = ident_cmp_exact a b (equal_from_test (ident_cmp a b) e)
-
 pub same_number_exact : (a b : ℕ) → (b == a) ≡ true → a ≡ b
 same_number_exact a b e = grind (arith, nat_tests)
-
--- a replica with a number is declared
-declared_name : (replicas : List Ident) (number : ℕ) (replica : Ident) → slice_get replicas number ≡ Some replica → list_any (is_same_ident replica) replicas ≡ true
-declared_name [] number replica is = absurd cc
-declared_name (r ∷ replicas) zero replica is =
-    let same : r ≡ replica = cc in
-    ap (λ b. b || list_any (is_same_ident replica) replicas) (ap (is_same_ident replica) same ∙ same_ident_itself replica)
-declared_name (r ∷ replicas) (suc number) replica is =
-    ap (λ b. is_same_ident replica r || b) (declared_name replicas number replica is) ∙ or_right (is_same_ident replica r) true refl
 
 -- a number that stands in a list is found there
 found_number : (numbers : List ℕ) (k author : ℕ) → k < length numbers → get_or numbers k author ≡ author → list_any (λ n. n == author) numbers ≡ true
@@ -201,44 +184,59 @@ Ends v = items_at v ≡ true
 closed : (n : ℕ) → (true && not (nat_lt n n)) ≡ true
 closed n = ap not (not_open n)
 
+-- an item of one line, or a block
+item_go : (P : View → Type 0) (session : sessions.Session) (only declared : Bool) (n sends shows : ℕ) (i : Item) (mine rest : List Statement)
+    → ItemTold session.replicas i mine → IsItem session i → n + cond (is_block i) 1 0 ≤ 64 → sends + send_count i ≤ 32 → shows + cond (is_show i) 1 0 ≤ 8
+    → ((b c : Bool) → Leads P (items_view session.version session.replicas (author_numbers session.authors) b c (n + cond (is_block i) 1 0) (n + cond (is_block i) 1 0) (sends + send_count i) (shows + cond (is_show i) 1 0)) rest)
+    → Leads P (items_view session.version session.replicas (author_numbers session.authors) only declared n n sends shows) (mine ++ rest)
+item_go P session only declared n sends shows i mine rest (inl h) is blocks few many go =
+    let v = items_view session.version session.replicas (author_numbers session.authors) only declared n n sends shows in
+    let law = one_line session.replicas h.0 i h.1 in
+    let same_blocks : n + cond (is_block i) 1 0 ≡ n = omega (arith, law.no_block) in
+    let same_sends : sends + send_count i ≡ sends = omega (arith, law.no_sends) in
+    let more : Leads P (items_view session.version session.replicas (author_numbers session.authors) (only && false) (declared && false) n n sends (shows + cond (is_show i) 1 0)) rest =
+    subst (λ m. Leads P (items_view session.version session.replicas (author_numbers session.authors) (only && false) (declared && false) n n m (shows + cond (is_show i) 1 0)) rest) same_sends
+    (subst (λ m. Leads P (items_view session.version session.replicas (author_numbers session.authors) (only && false) (declared && false) m m (sends + send_count i) (shows + cond (is_show i) 1 0)) rest) same_blocks
+    (go (only && false) (declared && false))) in
+    let counts : Leads P (with_item v i) rest =
+    subst (λ m. Leads P (items_view session.version session.replicas (author_numbers session.authors) (only && false) (declared && false) n n sends m) rest) (sym (counted-add (is_show i) shows)) more in
+    subst (λ (ss : List Statement). Leads P v (ss ++ rest)) (sym h.2) (
+      no_fault_at v h.0 (law.place v ∙ closed n) (law.declared v refl) (law.old_replica v) (law.no_author v) (law.old_author v) (law.few v many),
+      subst (λ (w : View). Leads P w rest) (sym (law.seen_is v)) counts,
+    )
+item_go P session only declared n sends shows i mine rest (inr h) is blocks few many go =
+    let v = items_view session.version session.replicas (author_numbers session.authors) only declared n n sends shows in
+    let block = h.0 in
+    let one_more : n + cond (is_block i) 1 0 ≡ suc n = omega (arith, ap {B = ℕ} (λ (x : Item). cond (is_block x) 1 0) h.2) in
+    let more_sends : sends + send_count i ≡ sends + count_by is_send block.lines = omega (arith, ap send_count h.2) in
+    let same_shows : shows + cond (is_show i) 1 0 ≡ shows = omega (arith, ap {B = ℕ} (λ (x : Item). cond (is_show x) 1 0) h.2) in
+    let more : (b c : Bool) → Leads P (items_view session.version session.replicas (author_numbers session.authors) b c (suc n) (suc n) (sends + count_by is_send block.lines) shows) rest =
+    λ b c.
+    subst (λ m. Leads P (items_view session.version session.replicas (author_numbers session.authors) b c (suc n) (suc n) (sends + count_by is_send block.lines) m) rest) same_shows
+    (subst (λ m. Leads P (items_view session.version session.replicas (author_numbers session.authors) b c (suc n) (suc n) m (shows + cond (is_show i) 1 0)) rest) more_sends
+    (subst (λ m. Leads P (items_view session.version session.replicas (author_numbers session.authors) b c m m (sends + send_count i) (shows + cond (is_show i) 1 0)) rest) one_more (go b c))) in
+    let parts : mine ++ rest ≡ Block ∷ h.1 ++ (End ∷ rest) = ap (λ (ss : List Statement). ss ++ rest) h.4 ∙ ap (λ (t : List Statement). Block ∷ t) (append_assoc h.1 (End ∷ []) rest) in
+    subst (Leads P v) (sym parts) (
+      no_fault_at v Block (closed n) refl refl refl refl (below_limit n 64 (omega arith)),
+      lines_go P session (only && false) (declared && false) n sends shows block.lines h.1 (End ∷ rest) h.3 (subst (IsItem session) h.2 is) (omega arith)
+          (λ b c. (
+            no_fault_at (items_view session.version session.replicas (author_numbers session.authors) b c (suc n) n (sends + count_by is_send block.lines) shows) End (is_open_block n) refl refl refl refl refl,
+            more (b && false) (c && false),
+          )),
+    )
+
 items_go : (session : sessions.Session) (only declared : Bool) (n sends shows : ℕ) (items : List Item) (ss : List Statement)
     → ItemsTold session.replicas items ss → AllByRecursion (IsItem session) items → n + count_by is_block items ≤ 64 → sends + sum_by send_count items ≤ 32 → shows + count_by is_show items ≤ 8
     → Leads Ends (items_view session.version session.replicas (author_numbers session.authors) only declared n n sends shows) ss
 items_go session only declared n sends shows [] ss h is blocks few many =
     subst (Leads Ends (items_view session.version session.replicas (author_numbers session.authors) only declared n n sends shows)) (sym h) (closed n)
-items_go session only declared n sends shows (item.Load number edit ∷ items) ss h is blocks few many =
-    let v = items_view session.version session.replicas (author_numbers session.authors) only declared n n sends shows in
-    let i = item.Load number edit in
-    let known : list_all (declared_at v) (h.2.0 ∷ []) ≡ true = ap (λ b. b && true) (declared_name session.replicas number h.2.0 h.2.1) in
-    subst (Leads Ends v) (sym (h.4 ∙ ap (λ (mine : List Statement). mine ++ h.1) h.2.2)) (
-      no_fault_at v (Load h.2.0 edit) (closed n) known refl refl refl refl,
-      items_go session (only && false) (declared && false) n sends shows items h.1 h.3 is.1
-          (omega (arith, sum_by-cons (λ x. cond (is_block x) 1 0) i items)) (omega (arith, sum_by-cons send_count i items)) (omega (arith, sum_by-cons (λ x. cond (is_show x) 1 0) i items)),
-    )
-items_go session only declared n sends shows (item.Show ∷ items) ss h is blocks few many =
-    let v = items_view session.version session.replicas (author_numbers session.authors) only declared n n sends shows in
-    let one_more : count_by is_show (item.Show ∷ items) ≡ 1 + count_by is_show items = sum_by-cons (λ x. cond (is_show x) 1 0) item.Show items in
-    subst (Leads Ends v) (sym (h.4 ∙ ap (λ (mine : List Statement). mine ++ h.1) h.2)) (
-      no_fault_at v Show (closed n) refl refl refl refl (below_limit shows 8 (omega arith)),
-      items_go session (only && false) (declared && false) n sends (suc shows) items h.1 h.3 is.1
-          (omega (arith, sum_by-cons (λ x. cond (is_block x) 1 0) item.Show items)) (omega (arith, sum_by-cons send_count item.Show items)) (omega arith),
-    )
-items_go session only declared n sends shows (item.Block block ∷ items) ss h is blocks few many =
-    let v = items_view session.version session.replicas (author_numbers session.authors) only declared n n sends shows in
-    let i = item.Block block in
-    let one_more : count_by is_block (i ∷ items) ≡ 1 + count_by is_block items = sum_by-cons (λ x. cond (is_block x) 1 0) i items in
-    let more_sends : sum_by send_count (i ∷ items) ≡ count_by is_send block.lines + sum_by send_count items = sum_by-cons send_count i items in
-    let same_shows : count_by is_show (i ∷ items) ≡ 0 + count_by is_show items = sum_by-cons (λ x. cond (is_show x) 1 0) i items in
-    let after_lines = sends + count_by is_send block.lines in
-    let parts : ss ≡ Block ∷ h.2.0 ++ (End ∷ h.1) = h.4 ∙ ap (λ (mine : List Statement). mine ++ h.1) h.2.2 ∙ ap (λ (t : List Statement). Block ∷ t) (append_assoc h.2.0 (End ∷ []) h.1) in
-    subst (Leads Ends v) (sym parts) (
-      no_fault_at v Block (closed n) refl refl refl refl (below_limit n 64 (omega arith)),
-      lines_go Ends session (only && false) (declared && false) n sends shows block.lines h.2.0 (End ∷ h.1) h.2.1 is.0 (omega arith)
-          (λ b c. (
-            no_fault_at (items_view session.version session.replicas (author_numbers session.authors) b c (suc n) n after_lines shows) End (is_open_block n) refl refl refl refl refl,
-            items_go session (b && false) (c && false) (suc n) after_lines shows items h.1 h.3 is.1 (omega arith) (omega arith) (omega arith),
-          )),
-    )
+items_go session only declared n sends shows (i ∷ items) ss h is blocks few many =
+    let more_blocks : count_by is_block (i ∷ items) ≡ cond (is_block i) 1 0 + count_by is_block items = sum_by-cons (λ x. cond (is_block x) 1 0) i items in
+    let more_sends : sum_by send_count (i ∷ items) ≡ send_count i + sum_by send_count items = sum_by-cons send_count i items in
+    let more_shows : count_by is_show (i ∷ items) ≡ cond (is_show i) 1 0 + count_by is_show items = sum_by-cons (λ x. cond (is_show x) 1 0) i items in
+    subst (Leads Ends (items_view session.version session.replicas (author_numbers session.authors) only declared n n sends shows)) (sym h.4)
+    (item_go Ends session only declared n sends shows i h.0 h.1 h.2 is.0 (omega arith) (omega arith) (omega arith)
+    (λ b c. items_go session b c (n + cond (is_block i) 1 0) (sends + send_count i) (shows + cond (is_show i) 1 0) items h.1 h.3 is.1 (omega arith) (omega arith) (omega arith)))
 
 -- ---- the whole
 

@@ -10,8 +10,6 @@ use Rattle.grove_sorts.specs.declared.ident.Ident.{Ident}
 use Rattle.grove_sorts.specs.Ident.{ident_bytes}
 use Rattle.grove_sorts.specs.declared.version.Version.{Version}
 use Rattle.grove_sorts.proofs.Truths.{both_true, not_true, neither}
-use Rattle.grove_edits.specs.declared.edit.Edit.{Edit}
-use Rattle.grove_edits.specs.Edit.{edit_edge, edit_kind}
 use Rattle.grove_edits.specs.declared.action.Action.{Action}
 use Rattle.edit_text.specs.Line.{spaced}
 use Rattle.session_script.specs.declared.author.Declared.{Declared}
@@ -23,16 +21,18 @@ use Rattle.session_script.specs.declared.item.Block as blocks
 use Rattle.session_script.specs.declared.session.Session as sessions
 use Rattle.session_script.specs.declared.statement.SendText.{SendText}
 use Rattle.session_script.specs.declared.statement.Statement.{Statement}
-use Rattle.session_script.specs.declared.statement.Statement.TheVariants.{Session, Replica, Author, Load, Block, End, Act, Send, Show}
+use Rattle.session_script.specs.declared.statement.Statement.TheVariants.{Session, Replica, Author, Block, End, Act, Send}
 use Rattle.session_script.specs.Action.{IsAuthor, ActionInRange, action_line}
-use Rattle.session_script.specs.Statement.{head_line, statement_text, InRange, IsReplicaOf, IsStatementOf, load_line, send_line}
+use Rattle.session_script.specs.Statement.{head_line, statement_text, InRange, IsReplicaOf, IsStatementOf, send_line}
 use Rattle.session_script.specs.Order.{is_same_ident, is_beyond, named_replicas}
-use Rattle.session_script.specs.Session.{replica_name, replica_line, author_line, line_text, item_lines, session_lines, AllDiffer, author_numbers, IsSend, IsLine, IsItem, IsDeclared, IsLineOf, IsItemOf, IsSession, is_send, is_block, is_show, send_count}
+use Rattle.session_script.specs.Session.{replica_name, replica_line, author_line, line_text, item_lines, session_lines, AllDiffer, author_numbers, IsSend, IsItem, IsDeclared, IsLineOf, IsItemOf, IsSession, is_send, is_block, is_show, send_count}
 use Rattle.session_script.specs.View.{View, seen, start, open_at, items_at, place_at, declared_at, repeats_replica_at, unknown_author_at, repeats_author_at, too_many_at, fault_at}
 use Rattle.session_script.specs.Reading.{numbered, AuthorsAfter, ItemsAfter, LinesAfter}
-use Rattle.session_script.proofs.Views.{first_fault}
-use Rattle.session_script.proofs.Told.{name_is, all_append}
-use Rattle.session_script.proofs.Good.{same_ident_itself, same_number_exact}
+use Rattle.session_script.proofs.Views.{first_fault, counted-add}
+use Rattle.session_script.proofs.Names.{name_is, same_ident_itself}
+use Rattle.session_script.proofs.OneLine.{IsLineIn, IsItemIn, is_item_of, IsOneLine, one_line, item_after}
+use Rattle.session_script.proofs.Told.{all_append}
+use Rattle.session_script.proofs.Good.{same_number_exact}
 
 -- ---- where there is no fault no condition holds
 
@@ -315,34 +315,19 @@ item_lines_more texts v authors items lines i t h place is e =
 still_begun : (begun some_replica : Bool) (P : Type 0) → (some_replica ≡ true → (begun ≡ true) × P) → (some_replica || false) ≡ true → ((begun || false) ≡ true) × P
 still_begun begun some_replica P h e = let yes = h (kept_true some_replica e) in (ap (λ b. b || false) yes.0, yes.1)
 
-load_lines_more : (texts : List (List ℕ)) (v : View) (authors : List Declared) (items : List Item) (lines : List Line) (r : Ident) (edit : Edit) (k : ℕ) → HasLines texts v authors items lines → Fine v (Load r edit)
-    → slice_get v.replicas k ≡ Some r
-    → HasLines (texts ++ statement_text (Load r edit) ∷ []) (seen v (Load r edit)) authors (items ++ item.Load k edit ∷ []) lines
-load_lines_more texts v authors items lines r edit k h fine is =
-    let t = statement_text (Load r edit) in
-    let same : item_lines v.replicas (item.Load k edit) ≡ t ∷ [] = ap (λ (name : List ℕ). load_line name (edit_kind edit) (edit_edge edit) ∷ []) (name_is v.replicas k r is) in record {
+one_lines_more : (texts : List (List ℕ)) (v : View) (authors : List Declared) (items : List Item) (lines : List Line) (s : Statement) (i : Item) → HasLines texts v authors items lines → Fine v s
+    → IsOneLine v.replicas s i → HasLines (texts ++ statement_text s ∷ []) (seen v s) authors (items ++ i ∷ []) lines
+one_lines_more texts v authors items lines s i h fine law =
+    subst (λ (w : View). HasLines (texts ++ statement_text s ∷ []) w authors (items ++ i ∷ []) lines) (sym (law.seen_is v)) (record {
       nothing = λ e. absurd cc;
       only_replicas = λ e. never v.only_replicas e;
       only_declared = λ e. never v.only_declared e;
       begun = still_begun v.begun v.some_replica (1 ≤ length v.replicas) h.begun;
-      told = λ e. item_lines_more texts v authors items lines (item.Load k edit) t h fine.place same (kept_true v.begun e);
+      told = λ e. item_lines_more texts v authors items lines i (statement_text s) h (sym (law.place v) ∙ fine.place) law.text (kept_true v.begun e);
       ended = h.ended;
       one_open = h.one_open;
       between = h.between;
-    }
-
-show_lines_more : (texts : List (List ℕ)) (v : View) (authors : List Declared) (items : List Item) (lines : List Line) → HasLines texts v authors items lines → Fine v Show
-    → HasLines (texts ++ codes "show" ∷ []) (seen v Show) authors (items ++ item.Show ∷ []) lines
-show_lines_more texts v authors items lines h fine = record {
-  nothing = λ e. absurd cc;
-  only_replicas = λ e. never v.only_replicas e;
-  only_declared = λ e. never v.only_declared e;
-  begun = still_begun v.begun v.some_replica (1 ≤ length v.replicas) h.begun;
-  told = λ e. item_lines_more texts v authors items lines item.Show (codes "show") h fine.place refl (kept_true v.begun e);
-  ended = h.ended;
-  one_open = h.one_open;
-  between = h.between;
-}
+    })
 
 block_lines_more : (texts : List (List ℕ)) (v : View) (authors : List Declared) (items : List Item) (lines : List Line) → HasLines texts v authors items lines → Fine v Block
     → HasLines (texts ++ codes "block" ∷ []) (seen v Block) authors items lines
@@ -428,8 +413,6 @@ lines_more (Replica r) texts v authors more_authors items more_items lines more_
     rw (a, i, l) (replica_lines_more texts v authors items lines r h fine)
 lines_more (Author n r) texts v authors more_authors items more_items lines more_lines h fine a i l =
     rw (a.2, i, l) (author_lines_more texts v authors items lines n r a.0 h fine a.1)
-lines_more (Load r edit) texts v authors more_authors items more_items lines more_lines h fine a i l =
-    rw (a, i.2, l) (load_lines_more texts v authors items lines r edit i.0 h fine i.1)
 lines_more Block texts v authors more_authors items more_items lines more_lines h fine a i l =
     rw (a, i, l) (block_lines_more texts v authors items lines h fine)
 lines_more End texts v authors more_authors items more_items lines more_lines h fine a i l =
@@ -438,22 +421,14 @@ lines_more (Act n action) texts v authors more_authors items more_items lines mo
     rw (a, i, l) (act_lines_more texts v authors items lines n action h fine)
 lines_more (Send send) texts v authors more_authors items more_items lines more_lines h fine a i l =
     rw (a, i, l.4) (send_lines_more texts v authors items lines send l.0 l.1 h fine l.2 l.3)
-lines_more Show texts v authors more_authors items more_items lines more_lines h fine a i l =
-    rw (a, i, l) (show_lines_more texts v authors items lines h fine)
+lines_more s texts v authors more_authors items more_items lines more_lines h fine a i l =
+    let more = item_after v.replicas s items lines more_items refl i in
+    rw (a, more.2, l) (one_lines_more texts v authors items lines s more.0 h fine (one_line v.replicas s more.0 more.1))
 
 -- ---- the limits are kept
 
 abbrev pub IsDeclaredIn : ℕ → Declared → Type 0
 IsDeclaredIn replicas declared = IsAuthor declared.author × (declared.replica < replicas)
-
-abbrev pub IsLineIn : ℕ → List ℕ → Line → Type 0
-IsLineIn replicas numbers (line.Author author action) = Contains numbers author × ActionInRange action
-IsLineIn replicas numbers (line.Send send) = IsSend replicas send
-
-abbrev pub IsItemIn : ℕ → List ℕ → Item → Type 0
-IsItemIn replicas numbers (item.Load replica edit) = replica < replicas
-IsItemIn replicas numbers (item.Block block) = AllByRecursion (IsLineIn replicas numbers) block.lines
-IsItemIn replicas numbers item.Show = Unit {0}
 
 pub record IsWithin (v : View) (authors : List Declared) (items : List Item) (lines : List Line) : Type 0 where
   pub numbers : author_numbers authors ≡ v.authors
@@ -538,45 +513,25 @@ author_within texts v authors items lines n r k h fine is_author is w =
       few_shows = w.few_shows;
     }
 
-load_within : (v : View) (authors : List Declared) (items : List Item) (lines : List Line) (r : Ident) (edit : Edit) (k : ℕ) → slice_get v.replicas k ≡ Some r
-    → IsWithin v authors items lines → IsWithin (seen v (Load r edit)) authors (items ++ item.Load k edit ∷ []) lines
-load_within v authors items lines r edit k is w =
-    let i = item.Load k edit in record {
+one_within : (v : View) (authors : List Declared) (items : List Item) (lines : List Line) (s : Statement) (i : Item) → Fine v s → IsOneLine v.replicas s i
+    → IsWithin v authors items lines → IsWithin (seen v s) authors (items ++ i ∷ []) lines
+one_within v authors items lines s i fine law w =
+    subst (λ (x : View). IsWithin x authors (items ++ i ∷ []) lines) (sym (law.seen_is v)) (record {
       numbers = w.numbers;
       few_replicas = w.few_replicas;
       replicas_differ = w.replicas_differ;
       each_author = w.each_author;
       few_authors = w.few_authors;
       authors_differ = w.authors_differ;
-      each_item = all_push (IsItemIn (length v.replicas) v.authors) items i w.each_item (slice_get_within v.replicas k r is);
+      each_item = all_push (IsItemIn (length v.replicas) v.authors) items i w.each_item (law.fits v.authors);
       each_line = w.each_line;
-      blocks = omega (arith, count_push is_block items i, w.blocks);
+      blocks = omega (arith, count_push is_block items i, law.no_block, w.blocks);
       few_blocks = w.few_blocks;
-      sends = omega (arith, sum_push send_count items i, w.sends);
+      sends = omega (arith, sum_push send_count items i, law.no_sends, w.sends);
       few_sends = w.few_sends;
-      shows = omega (arith, count_push is_show items i, w.shows);
-      few_shows = w.few_shows;
-    }
-
-show_within : (v : View) (authors : List Declared) (items : List Item) (lines : List Line) → Fine v Show
-    → IsWithin v authors items lines → IsWithin (seen v Show) authors (items ++ item.Show ∷ []) lines
-show_within v authors items lines fine w =
-    let few : v.shows < 8 = is_below v.shows 8 fine.few in record {
-      numbers = w.numbers;
-      few_replicas = w.few_replicas;
-      replicas_differ = w.replicas_differ;
-      each_author = w.each_author;
-      few_authors = w.few_authors;
-      authors_differ = w.authors_differ;
-      each_item = all_push (IsItemIn (length v.replicas) v.authors) items item.Show w.each_item tt;
-      each_line = w.each_line;
-      blocks = omega (arith, count_push is_block items item.Show, w.blocks);
-      few_blocks = w.few_blocks;
-      sends = omega (arith, sum_push send_count items item.Show, w.sends);
-      few_sends = w.few_sends;
-      shows = omega (arith, count_push is_show items item.Show, w.shows);
-      few_shows = omega arith;
-    }
+      shows = omega (arith, count_push is_show items i, counted-add (is_show i) v.shows, w.shows);
+      few_shows = law.within v fine.few w.few_shows;
+    })
 
 block_within : (v : View) (authors : List Declared) (items : List Item) (lines : List Line) → Fine v Block
     → IsWithin v authors items lines → IsWithin (seen v Block) authors items lines
@@ -714,8 +669,6 @@ within_more (Replica r) texts v authors more_authors items more_items lines more
     rw (a, i, l) (replica_within texts v authors items lines r h fine w)
 within_more (Author n r) texts v authors more_authors items more_items lines more_lines h fine range a i l w =
     rw (a.2, i, l) (author_within texts v authors items lines n r a.0 h fine range a.1 w)
-within_more (Load r edit) texts v authors more_authors items more_items lines more_lines h fine range a i l w =
-    rw (a, i.2, l) (load_within v authors items lines r edit i.0 i.1 w)
 within_more Block texts v authors more_authors items more_items lines more_lines h fine range a i l w =
     rw (a, i, l) (block_within v authors items lines fine w)
 within_more End texts v authors more_authors items more_items lines more_lines h fine range a i l w =
@@ -724,8 +677,9 @@ within_more (Act n action) texts v authors more_authors items more_items lines m
     rw (a, i, l) (act_within v authors items lines n action fine range.1 w)
 within_more (Send send) texts v authors more_authors items more_items lines more_lines h fine range a i l w =
     rw (a, i, l.4) (send_within v authors items lines send l.0 l.1 fine l.2 l.3 w)
-within_more Show texts v authors more_authors items more_items lines more_lines h fine range a i l w =
-    rw (a, i, l) (show_within v authors items lines fine w)
+within_more s texts v authors more_authors items more_items lines more_lines h fine range a i l w =
+    let more = item_after v.replicas s items lines more_items refl i in
+    rw (a, more.2, l) (one_within v authors items lines s more.0 fine (one_line v.replicas s more.0 more.1) w)
 
 -- ---- what the version knows
 
@@ -757,8 +711,6 @@ known_more (Replica r) texts v authors more_authors items more_items lines more_
     rw (i, l) (record { replicas = all_push (IsReplicaOf v.version) v.replicas r k.replicas of; each_item = k.each_item; each_line = k.each_line })
 known_more (Author n r) texts v authors more_authors items more_items lines more_lines h fine of a i l k =
     rw (i, l) (record { replicas = k.replicas; each_item = k.each_item; each_line = k.each_line })
-known_more (Load r edit) texts v authors more_authors items more_items lines more_lines h fine of a i l k =
-    rw (i.2, l) (record { replicas = k.replicas; each_item = all_push (IsItemOf v.version) items (item.Load i.0 edit) k.each_item of.1; each_line = k.each_line })
 known_more Block texts v authors more_authors items more_items lines more_lines h fine of a i l k =
     rw (i, l) (record { replicas = k.replicas; each_item = k.each_item; each_line = k.each_line })
 known_more End texts v authors more_authors items more_items lines more_lines h fine of a i l k =
@@ -768,8 +720,10 @@ known_more (Act n action) texts v authors more_authors items more_items lines mo
     rw (i, l) (record { replicas = k.replicas; each_item = k.each_item; each_line = all_push (IsLineOf v.version) lines (line.Author n action) k.each_line of })
 known_more (Send send) texts v authors more_authors items more_items lines more_lines h fine of a i l k =
     rw (i, l.4) (record { replicas = k.replicas; each_item = k.each_item; each_line = all_push (IsLineOf v.version) lines (line.Send (numbered l.0 l.1 send)) k.each_line tt })
-known_more Show texts v authors more_authors items more_items lines more_lines h fine of a i l k =
-    rw (i, l) (record { replicas = k.replicas; each_item = all_push (IsItemOf v.version) items item.Show k.each_item tt; each_line = k.each_line })
+known_more s texts v authors more_authors items more_items lines more_lines h fine of a i l k =
+    let more = item_after v.replicas s items lines more_items refl i in
+    let law = one_line v.replicas s more.0 more.1 in
+    rw (more.2, l) (record { replicas = k.replicas; each_item = all_push (IsItemOf v.version) items more.0 k.each_item (law.item_of_version v.version of); each_line = k.each_line })
 
 -- ---- the whole
 
@@ -777,16 +731,9 @@ are_declared : (session : sessions.Session) (authors : List Declared) → AllByR
 are_declared session [] h = tt
 are_declared session (d ∷ authors) h = (h.0, are_declared session authors h.1)
 
-are_lines : (session : sessions.Session) (lines : List Line) → AllByRecursion (IsLineIn (length session.replicas) (author_numbers session.authors)) lines → AllByRecursion (IsLine session) lines
-are_lines session [] h = tt
-are_lines session (line.Author n action ∷ lines) h = (h.0, are_lines session lines h.1)
-are_lines session (line.Send send ∷ lines) h = (h.0, are_lines session lines h.1)
-
 are_items : (session : sessions.Session) (items : List Item) → AllByRecursion (IsItemIn (length session.replicas) (author_numbers session.authors)) items → AllByRecursion (IsItem session) items
 are_items session [] h = tt
-are_items session (item.Load number edit ∷ items) h = (h.0, are_items session items h.1)
-are_items session (item.Block block ∷ items) h = (are_lines session block.lines h.0, are_items session items h.1)
-are_items session (item.Show ∷ items) h = (tt, are_items session items h.1)
+are_items session (i ∷ items) h = (is_item_of session i h.0, are_items session items h.1)
 
 -- where a session may end, its parts are a session with the lines that were read
 pub whole_session : (session : sessions.Session) (texts : List (List ℕ)) (v : View) (lines : List Line) → v.version ≡ session.version → v.replicas ≡ session.replicas → items_at v ≡ true

@@ -2,6 +2,8 @@ pub mod Words
 pub mod Statements
 pub mod Scripts
 pub mod Views
+pub mod Names
+pub mod OneLine
 pub mod Told
 pub mod Good
 pub mod OneSession

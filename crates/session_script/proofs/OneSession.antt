@@ -1,9 +1,7 @@
 -- A text spells one session.
-use Rattle.std.proofs.Common.{◌≡◌, ℕ, zero, suc, Bool, List, [], ◌∷◌, ◌++◌, Some, map, slice_get, refl, sym, ap, subst, ◌∙◌, append_assoc, append-nil}
-use Rattle.std.specs.List.{AllByRecursion}
+use Rattle.std.proofs.Common.{◌≡◌, ℕ, Bool, List, [], ◌∷◌, ◌++◌, Some, map, slice_get, inl, inr, refl, sym, ap, subst, ◌∙◌, append_assoc, append-nil}
 use Rattle.grove_sorts.specs.declared.ident.Ident.{Ident}
 use Rattle.grove_sorts.specs.declared.version.Version.{Version}
-use Rattle.grove_edits.specs.declared.edit.Edit.{Edit}
 use Rattle.grove_edits.specs.declared.action.Action.{Action}
 use Rattle.session_script.specs.declared.author.Declared.{Declared}
 use Rattle.session_script.specs.declared.line.Line.{Line}
@@ -16,34 +14,15 @@ use Rattle.session_script.specs.declared.script_kind.ScriptKind.{ScriptKind}
 use Rattle.session_script.specs.declared.session.Session as sessions
 use Rattle.session_script.specs.declared.statement.SendText.{SendText}
 use Rattle.session_script.specs.declared.statement.Statement.{Statement}
-use Rattle.session_script.specs.declared.statement.Statement.TheVariants.{Session, Replica, Author, Load, Block, End, Act, Send, Show}
+use Rattle.session_script.specs.declared.statement.Statement.TheVariants.{Session, Replica, Author, Block, End, Act, Send}
 use Rattle.session_script.specs.Order.{version_of, replicas_of}
 use Rattle.session_script.specs.Script.{script_text, BeginSession, IsBad}
 use Rattle.session_script.specs.Session.{AllDiffer, Spells}
 use Rattle.session_script.proofs.Scripts.{Stopped, Stops-unended, one_stop, ended_or_bad}
-use Rattle.session_script.proofs.Told.{AuthorTold, LineTold, ItemTold, ItemsTold, Each, Told, sent, told, told_text}
+use Rattle.session_script.proofs.Names.{same_number}
+use Rattle.session_script.proofs.OneLine.{SaysItem, one_line, one_item}
+use Rattle.session_script.proofs.Told.{AuthorTold, LineTold, OneTold, BlockTold, ItemTold, ItemsTold, Each, Told, sent, told, told_text}
 use Rattle.session_script.proofs.Good.{told_good}
-
--- ---- numbers of replicas
-
-name_differs : (r : Ident) (replicas : List Ident) (j : ℕ) → AllByRecursion (λ y. r ≡ y → ⊥) replicas → slice_get replicas j ≡ Some r → ⊥
-name_differs r [] j differ is = cc
-name_differs r (s ∷ replicas) zero differ is = differ.0 (let same : s ≡ r = cc in sym same)
-name_differs r (s ∷ replicas) (suc j) differ is = name_differs r replicas j differ.1 is
-
--- a name is that of one replica
-one_number : (replicas : List Ident) (i j : ℕ) (r : Ident) → AllDiffer replicas → slice_get replicas i ≡ Some r → slice_get replicas j ≡ Some r → i ≡ j
-one_number [] i j r differ h k = cc
-one_number (s ∷ replicas) zero zero r differ h k = refl
-one_number (s ∷ replicas) zero (suc j) r differ h k =
-    let same : s ≡ r = cc in absurd (name_differs s replicas j differ.0 (k ∙ ap Some (sym same)))
-one_number (s ∷ replicas) (suc i) zero r differ h k =
-    let same : s ≡ r = cc in absurd (name_differs s replicas i differ.0 (h ∙ ap Some (sym same)))
-one_number (s ∷ replicas) (suc i) (suc j) r differ h k = ap suc (one_number replicas i j r differ.1 h k)
-
--- the same of two names that are one
-same_number : (replicas : List Ident) (i j : ℕ) (r s : Ident) → AllDiffer replicas → r ≡ s → slice_get replicas i ≡ Some r → slice_get replicas j ≡ Some s → i ≡ j
-same_number replicas i j r s differ same h k = one_number replicas i j s differ (h ∙ ap Some same) k
 
 -- ---- the replicas of a session
 
@@ -75,10 +54,9 @@ lines_none replicas (line.Author author action ∷ lines) (s ∷ ss) h = skip_on
 lines_none replicas (line.Send send ∷ lines) (s ∷ ss) h = skip_one s (Send (sent h.0.0 h.0.1 send)) ss h.0.4 (λ xs. refl) ∙ lines_none replicas lines ss h.1
 
 item_none : (replicas : List Ident) (i : Item) (ss : List Statement) → ItemTold replicas i ss → replicas_of ss ≡ []
-item_none replicas (item.Load number edit) ss h = ap replicas_of h.2
-item_none replicas (item.Block block) ss h =
-    ap replicas_of h.2 ∙ replicas_of-append h.0 (End ∷ []) ∙ append-nil (replicas_of h.0) ∙ lines_none replicas block.lines h.0 h.1
-item_none replicas item.Show ss h = ap replicas_of h
+item_none replicas i ss (inl h) = ap replicas_of h.2 ∙ (one_line replicas h.0 i h.1).no_replicas []
+item_none replicas i ss (inr h) =
+    ap replicas_of h.4 ∙ replicas_of-append h.1 (End ∷ []) ∙ append-nil (replicas_of h.1) ∙ lines_none replicas h.0.lines h.1 h.3
 
 items_none : (replicas : List Ident) (items : List Item) (ss : List Statement) → ItemsTold replicas items ss → replicas_of ss ≡ []
 items_none replicas [] ss h = ap replicas_of h
@@ -160,58 +138,55 @@ same_lines replicas (l ∷ ls) (k ∷ ks) (s ∷ xs) (t ∷ ys) x y differ h g s
 
 -- ---- items
 
-loads_injective : (r s : Ident) (a b : Edit) (x y : List Statement) → Load r a ∷ x ≡ Load s b ∷ y → (r ≡ s) × (a ≡ b) × (x ≡ y)
-loads_injective r s a b x y e = (cc, cc, cc)
-
 block_from_lines : (a b : blocks.Block) → a.lines ≡ b.lines → a ≡ b
 block_from_lines a b same = ap (λ (ls : List Line). record { lines = ls }) same
 
 -- what an item's statements are, with others behind them
-load_parts : (replicas : List Ident) (number : ℕ) (edit : Edit) (items : List Item) (ss : List Statement) (h : ItemsTold replicas (item.Load number edit ∷ items) ss) → ss ≡ Load h.2.0 edit ∷ h.1
-load_parts replicas number edit items ss h = h.4 ∙ ap (λ (mine : List Statement). mine ++ h.1) h.2.2
+one_parts : (replicas : List Ident) (i : Item) (mine rest ss : List Statement) (h : OneTold replicas i mine) → ss ≡ mine ++ rest → ss ≡ h.0 ∷ rest
+one_parts replicas i mine rest ss h same = same ∙ ap (λ (xs : List Statement). xs ++ rest) h.2
 
-block_parts : (replicas : List Ident) (block : blocks.Block) (items : List Item) (ss : List Statement) (h : ItemsTold replicas (item.Block block ∷ items) ss) → ss ≡ Block ∷ h.2.0 ++ (End ∷ h.1)
-block_parts replicas block items ss h =
-    h.4 ∙ ap (λ (mine : List Statement). mine ++ h.1) h.2.2 ∙ ap (λ (t : List Statement). Block ∷ t) (append_assoc h.2.0 (End ∷ []) h.1)
+block_parts : (replicas : List Ident) (i : Item) (mine rest ss : List Statement) (h : BlockTold replicas i mine) → ss ≡ mine ++ rest → ss ≡ Block ∷ h.1 ++ (End ∷ rest)
+block_parts replicas i mine rest ss h same =
+    same ∙ ap (λ (xs : List Statement). xs ++ rest) h.4 ∙ ap (λ (t : List Statement). Block ∷ t) (append_assoc h.1 (End ∷ []) rest)
 
-show_parts : (replicas : List Ident) (items : List Item) (ss : List Statement) (h : ItemsTold replicas (item.Show ∷ items) ss) → ss ≡ Show ∷ h.1
-show_parts replicas items ss h = h.4 ∙ ap (λ (mine : List Statement). mine ++ h.1) h.2
+-- a block is no item of one line
+no_block : (replicas : List Ident) (i : Item) (s : Statement) → SaysItem replicas s i → s ≡ Block → ⊥
+no_block replicas i s says is = subst (λ (x : Statement). SaysItem replicas x i) is says
+
+-- an item has some statement
+begins : (replicas : List Ident) (i : Item) (mine rest ss : List Statement) → ItemTold replicas i mine → ss ≡ mine ++ rest → (s : Statement) × (more : List Statement) × (ss ≡ s ∷ more)
+begins replicas i mine rest ss (inl h) same = (h.0, rest, one_parts replicas i mine rest ss h same)
+begins replicas i mine rest ss (inr h) same = (Block, h.1 ++ (End ∷ rest), block_parts replicas i mine rest ss h same)
+
+-- the first item of some statements, and what is behind it
+same_item : (replicas : List Ident) (i j : Item) (xs ys x y ss : List Statement) → AllDiffer replicas → ItemTold replicas i xs → ItemTold replicas j ys → ss ≡ xs ++ x → ss ≡ ys ++ y → (i ≡ j) × (x ≡ y)
+same_item replicas i j xs ys x y ss differ (inl h) (inl g) of_x of_y =
+    let e : h.0 ∷ x ≡ g.0 ∷ y = sym (one_parts replicas i xs x ss h of_x) ∙ one_parts replicas j ys y ss g of_y in
+    let first : h.0 ≡ g.0 = cc in
+    (one_item replicas g.0 i j differ (subst (λ (s : Statement). SaysItem replicas s i) first h.1) g.1, cc)
+same_item replicas i j xs ys x y ss differ (inl h) (inr g) of_x of_y =
+    let e : h.0 ∷ x ≡ Block ∷ g.1 ++ (End ∷ y) = sym (one_parts replicas i xs x ss h of_x) ∙ block_parts replicas j ys y ss g of_y in
+    absurd (no_block replicas i h.0 h.1 (cc))
+same_item replicas i j xs ys x y ss differ (inr h) (inl g) of_x of_y =
+    let e : g.0 ∷ y ≡ Block ∷ h.1 ++ (End ∷ x) = sym (one_parts replicas j ys y ss g of_y) ∙ block_parts replicas i xs x ss h of_x in
+    absurd (no_block replicas j g.0 g.1 (cc))
+same_item replicas i j xs ys x y ss differ (inr h) (inr g) of_x of_y =
+    let e : Block ∷ h.1 ++ (End ∷ x) ≡ Block ∷ g.1 ++ (End ∷ y) = sym (block_parts replicas i xs x ss h of_x) ∙ block_parts replicas j ys y ss g of_y in
+    let inner : h.1 ++ (End ∷ x) ≡ g.1 ++ (End ∷ y) = cc in
+    let parts = same_lines replicas h.0.lines g.0.lines h.1 g.1 x y differ h.3 g.3 inner in
+    (h.2 ∙ ap item.Block (block_from_lines h.0 g.0 parts.0) ∙ sym g.2, parts.1)
 
 same_items : (replicas : List Ident) (is js : List Item) (xs ys : List Statement) → AllDiffer replicas → xs ≡ ys → ItemsTold replicas is xs → ItemsTold replicas js ys → is ≡ js
 same_items replicas [] [] xs ys differ same h g = refl
-same_items replicas [] (item.Load n b ∷ js) xs ys differ same h g = let e : [] ≡ Load g.2.0 b ∷ g.1 = sym h ∙ same ∙ load_parts replicas n b js ys g in absurd cc
-same_items replicas [] (item.Block b ∷ js) xs ys differ same h g = let e : [] ≡ Block ∷ g.2.0 ++ (End ∷ g.1) = sym h ∙ same ∙ block_parts replicas b js ys g in absurd cc
-same_items replicas [] (item.Show ∷ js) xs ys differ same h g = let e : [] ≡ Show ∷ g.1 = sym h ∙ same ∙ show_parts replicas js ys g in absurd cc
-same_items replicas (item.Load m a ∷ is) [] xs ys differ same h g = let e : Load h.2.0 a ∷ h.1 ≡ [] = sym (load_parts replicas m a is xs h) ∙ same ∙ g in absurd cc
-same_items replicas (item.Block a ∷ is) [] xs ys differ same h g = let e : Block ∷ h.2.0 ++ (End ∷ h.1) ≡ [] = sym (block_parts replicas a is xs h) ∙ same ∙ g in absurd cc
-same_items replicas (item.Show ∷ is) [] xs ys differ same h g = let e : Show ∷ h.1 ≡ [] = sym (show_parts replicas is xs h) ∙ same ∙ g in absurd cc
-same_items replicas (item.Load m a ∷ is) (item.Load n b ∷ js) xs ys differ same h g =
-    let e = loads_injective h.2.0 g.2.0 a b h.1 g.1 (sym (load_parts replicas m a is xs h) ∙ same ∙ load_parts replicas n b js ys g) in
-    let number : m ≡ n = same_number replicas m n h.2.0 g.2.0 differ e.0 h.2.1 g.2.1 in
-    let mine : item.Load m a ≡ item.Load n b = ap (λ k. item.Load k a) number ∙ ap (item.Load n) e.1 in
-    ap (λ (i : Item). i ∷ is) mine ∙ ap (λ (more : List Item). item.Load n b ∷ more) (same_items replicas is js h.1 g.1 differ e.2 h.3 g.3)
-same_items replicas (item.Load m a ∷ is) (item.Block b ∷ js) xs ys differ same h g =
-    let e : Load h.2.0 a ∷ h.1 ≡ Block ∷ g.2.0 ++ (End ∷ g.1) = sym (load_parts replicas m a is xs h) ∙ same ∙ block_parts replicas b js ys g in absurd cc
-same_items replicas (item.Load m a ∷ is) (item.Show ∷ js) xs ys differ same h g =
-    let e : Load h.2.0 a ∷ h.1 ≡ Show ∷ g.1 = sym (load_parts replicas m a is xs h) ∙ same ∙ show_parts replicas js ys g in absurd cc
-same_items replicas (item.Block a ∷ is) (item.Load n b ∷ js) xs ys differ same h g =
-    let e : Block ∷ h.2.0 ++ (End ∷ h.1) ≡ Load g.2.0 b ∷ g.1 = sym (block_parts replicas a is xs h) ∙ same ∙ load_parts replicas n b js ys g in absurd cc
-same_items replicas (item.Block a ∷ is) (item.Block b ∷ js) xs ys differ same h g =
-    let e : Block ∷ h.2.0 ++ (End ∷ h.1) ≡ Block ∷ g.2.0 ++ (End ∷ g.1) = sym (block_parts replicas a is xs h) ∙ same ∙ block_parts replicas b js ys g in
-    let inner : h.2.0 ++ (End ∷ h.1) ≡ g.2.0 ++ (End ∷ g.1) = cc in
-    let parts = same_lines replicas a.lines b.lines h.2.0 g.2.0 h.1 g.1 differ h.2.1 g.2.1 inner in
-    ap (λ (i : blocks.Block). item.Block i ∷ is) (block_from_lines a b parts.0)
-    ∙ ap (λ (more : List Item). item.Block b ∷ more) (same_items replicas is js h.1 g.1 differ parts.1 h.3 g.3)
-same_items replicas (item.Block a ∷ is) (item.Show ∷ js) xs ys differ same h g =
-    let e : Block ∷ h.2.0 ++ (End ∷ h.1) ≡ Show ∷ g.1 = sym (block_parts replicas a is xs h) ∙ same ∙ show_parts replicas js ys g in absurd cc
-same_items replicas (item.Show ∷ is) (item.Load n b ∷ js) xs ys differ same h g =
-    let e : Show ∷ h.1 ≡ Load g.2.0 b ∷ g.1 = sym (show_parts replicas is xs h) ∙ same ∙ load_parts replicas n b js ys g in absurd cc
-same_items replicas (item.Show ∷ is) (item.Block b ∷ js) xs ys differ same h g =
-    let e : Show ∷ h.1 ≡ Block ∷ g.2.0 ++ (End ∷ g.1) = sym (show_parts replicas is xs h) ∙ same ∙ block_parts replicas b js ys g in absurd cc
-same_items replicas (item.Show ∷ is) (item.Show ∷ js) xs ys differ same h g =
-    let e : Show ∷ h.1 ≡ Show ∷ g.1 = sym (show_parts replicas is xs h) ∙ same ∙ show_parts replicas js ys g in
-    let rest : h.1 ≡ g.1 = cc in
-    ap (λ (more : List Item). item.Show ∷ more) (same_items replicas is js h.1 g.1 differ rest h.3 g.3)
+same_items replicas [] (j ∷ js) xs ys differ same h g =
+    let some = begins replicas j g.0 g.1 ys g.2 g.4 in
+    let e : [] ≡ some.0 ∷ some.1 = sym h ∙ same ∙ some.2 in absurd cc
+same_items replicas (i ∷ is) [] xs ys differ same h g =
+    let some = begins replicas i h.0 h.1 xs h.2 h.4 in
+    let e : [] ≡ some.0 ∷ some.1 = sym g ∙ sym same ∙ some.2 in absurd cc
+same_items replicas (i ∷ is) (j ∷ js) xs ys differ same h g =
+    let parts = same_item replicas i j h.0 g.0 h.1 g.1 xs differ h.2 g.2 h.4 (same ∙ g.4) in
+    ap (λ (k : Item). k ∷ is) parts.0 ∙ ap (λ (more : List Item). j ∷ more) (same_items replicas is js h.1 g.1 differ parts.1 h.3 g.3)
 
 -- ---- authors
 
@@ -224,11 +199,17 @@ authors_injective : (m n : ℕ) (r s : Ident) → Author m r ≡ Author n s → 
 authors_injective m n r s e = (cc, cc)
 
 -- no item begins with the declaration of an author
+item_no_author : (replicas : List Ident) (i : Item) (mine rest : List Statement) (n : ℕ) (r : Ident) (more : List Statement) → ItemTold replicas i mine → Author n r ∷ more ≡ mine ++ rest → ⊥
+item_no_author replicas i mine rest n r more (inl h) same =
+    let e : Author n r ∷ more ≡ h.0 ∷ rest = one_parts replicas i mine rest (Author n r ∷ more) h same in
+    let first : h.0 ≡ Author n r = cc in
+    subst (λ (x : Statement). SaysItem replicas x i) first h.1
+item_no_author replicas i mine rest n r more (inr h) same =
+    let e : Author n r ∷ more ≡ Block ∷ h.1 ++ (End ∷ rest) = block_parts replicas i mine rest (Author n r ∷ more) h same in cc
+
 no_author : (replicas : List Ident) (items : List Item) (n : ℕ) (r : Ident) (more : List Statement) → ItemsTold replicas items (Author n r ∷ more) → ⊥
 no_author replicas [] n r more h = cc
-no_author replicas (item.Load number edit ∷ items) n r more h = let e : Author n r ∷ more ≡ Load h.2.0 edit ∷ h.1 = load_parts replicas number edit items _ h in cc
-no_author replicas (item.Block block ∷ items) n r more h = let e : Author n r ∷ more ≡ Block ∷ h.2.0 ++ (End ∷ h.1) = block_parts replicas block items _ h in cc
-no_author replicas (item.Show ∷ items) n r more h = let e : Author n r ∷ more ≡ Show ∷ h.1 = show_parts replicas items _ h in cc
+no_author replicas (i ∷ items) n r more h = item_no_author replicas i h.0 h.1 n r more h.2 h.4
 
 -- nor do items whose statements are a declaration and others
 no_author_in : (replicas : List Ident) (items : List Item) (d : Declared) (s : Statement) (more ss : List Statement) → ItemsTold replicas items ss → ss ≡ s ∷ more → AuthorTold replicas d s → ⊥

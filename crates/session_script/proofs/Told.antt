@@ -1,27 +1,28 @@
 -- The statements of a session: their lines are its lines, and they begin a session that may end behind them.
-use Rattle.std.proofs.Common.{◌≡◌, ℕ, zero, suc, ◌<◌, List, [], ◌∷◌, ◌++◌, Option, Some, length, map, codes, decimal, get_or, slice_get, refl, sym, ap, subst, ◌∙◌, arith}
-use Rattle.std.specs.Option.{option_map_or}
+use Rattle.std.proofs.Common.{◌≡◌, ◌⊎◌, ℕ, zero, suc, ◌<◌, List, [], ◌∷◌, ◌++◌, Some, length, map, codes, decimal, get_or, slice_get, inl, inr, refl, sym, ap, subst, ◌∙◌, arith}
 use Rattle.std.specs.List.{flat_map, AllByRecursion}
 use Rattle.std.proofs.lemmas.List.{map-append}
 use Rattle.grove_sorts.specs.declared.ident.Ident.{Ident}
 use Rattle.grove_sorts.specs.Ident.{ident_bytes}
-use Rattle.grove_edits.specs.Edit.{edit_edge, edit_kind}
 use Rattle.grove_sorts.specs.declared.version.Version.{Version}
 use Rattle.edit_text.specs.Line.{spaced}
 use Rattle.session_script.specs.declared.author.Declared.{Declared}
 use Rattle.session_script.specs.declared.line.Line.{Line}
 use Rattle.session_script.specs.declared.line.Line.TheVariants as line
 use Rattle.session_script.specs.declared.line.SendLine.{SendLine}
+use Rattle.session_script.specs.declared.item.Block as blocks
 use Rattle.session_script.specs.declared.item.Item.{Item}
 use Rattle.session_script.specs.declared.item.Item.TheVariants as item
 use Rattle.session_script.specs.declared.session.Session as sessions
 use Rattle.session_script.specs.declared.statement.SendText.{SendText}
 use Rattle.session_script.specs.declared.statement.Statement.{Statement}
-use Rattle.session_script.specs.declared.statement.Statement.TheVariants.{Session, Replica, Author, Load, Block, End, Act, Send, Show}
+use Rattle.session_script.specs.declared.statement.Statement.TheVariants.{Session, Replica, Author, Block, End, Act, Send}
 use Rattle.session_script.specs.Action.{IsAuthor}
-use Rattle.session_script.specs.Statement.{statement_text, head_line, InRange, IsReplicaOf, IsStatementOf, load_line, send_line}
+use Rattle.session_script.specs.Statement.{statement_text, head_line, InRange, IsReplicaOf, IsStatementOf, send_line}
 use Rattle.session_script.specs.Script.{ended_line, script_text, AreKnown}
 use Rattle.session_script.specs.Session.{replica_name, replica_line, author_line, line_text, item_lines, session_lines, session_text, author_numbers, IsSend, IsLine, IsItem, IsDeclared, IsLineOf, IsItemOf, IsSession}
+use Rattle.session_script.proofs.Names.{named, name_is, name_known}
+use Rattle.session_script.proofs.OneLine.{SaysItem, one_line, item_forms}
 
 -- ---- what a session's parts say
 
@@ -44,11 +45,16 @@ Each R [] (y ∷ ys) = ⊥
 Each R (x ∷ xs) [] = ⊥
 Each R (x ∷ xs) (y ∷ ys) = R x y × Each R xs ys
 
+-- an item of one line, and a block
+abbrev pub OneTold : List Ident → Item → List Statement → Type 0
+OneTold replicas i ss = (s : Statement) × SaysItem replicas s i × (ss ≡ s ∷ [])
+
+abbrev pub BlockTold : List Ident → Item → List Statement → Type 0
+BlockTold replicas i ss = (block : blocks.Block) × (inner : List Statement) × (i ≡ item.Block block) × Each (LineTold replicas) block.lines inner × (ss ≡ Block ∷ inner ++ End ∷ [])
+
 -- an item
 abbrev pub ItemTold : List Ident → Item → List Statement → Type 0
-ItemTold replicas (item.Load number edit) ss = (replica : Ident) × (slice_get replicas number ≡ Some replica) × (ss ≡ Load replica edit ∷ [])
-ItemTold replicas (item.Block block) ss = (inner : List Statement) × Each (LineTold replicas) block.lines inner × (ss ≡ Block ∷ inner ++ End ∷ [])
-ItemTold replicas item.Show ss = ss ≡ Show ∷ []
+ItemTold replicas i ss = OneTold replicas i ss ⊎ BlockTold replicas i ss
 
 abbrev pub ItemsTold : List Ident → List Item → List Statement → Type 0
 ItemsTold replicas [] ss = ss ≡ []
@@ -64,11 +70,6 @@ pub record Told (session : sessions.Session) (ss : List Statement) : Type 0 wher
   pub whole : ss ≡ Session session.version ∷ map Replica session.replicas ++ (declared ++ done)
 
 -- ---- each session has statements
-
-named : (replicas : List Ident) (number : ℕ) → number < length replicas → (replica : Ident) × (slice_get replicas number ≡ Some replica)
-named [] number within = absurd (omega arith)
-named (r ∷ replicas) zero within = (r, refl)
-named (r ∷ replicas) (suc number) within = named replicas number (omega arith)
 
 authors_told : (session : sessions.Session) (authors : List Declared) → AllByRecursion (IsDeclared session) authors
     → (ss : List Statement) × Each (AuthorTold session.replicas) authors ss
@@ -89,11 +90,11 @@ lines_told session (line.Send send ∷ lines) h =
     (Send (sent from.0 to.0 send) ∷ rest.0, ((from.0, to.0, from.1, to.1, refl), rest.1))
 
 item_told : (session : sessions.Session) (i : Item) → IsItem session i → (ss : List Statement) × ItemTold session.replicas i ss
-item_told session (item.Load number edit) h =
-    let name = named session.replicas number h in (Load name.0 edit ∷ [], (name.0, name.1, refl))
-item_told session (item.Block block) h =
-    let inner = lines_told session block.lines h in (Block ∷ inner.0 ++ End ∷ [], (inner.0, inner.1, refl))
-item_told session item.Show h = (Show ∷ [], refl)
+item_told session i h = by_form (item_forms session i h) where
+  by_form : ((s : Statement) × SaysItem session.replicas s i) ⊎ ((block : blocks.Block) × (i ≡ item.Block block)) → (ss : List Statement) × ItemTold session.replicas i ss
+  by_form (inl one) = (one.0 ∷ [], inl (one.0, one.1, refl))
+  by_form (inr of) =
+      let inner = lines_told session of.0.lines (subst (IsItem session) of.1 h) in (Block ∷ inner.0 ++ End ∷ [], inr (of.0, inner.0, of.1, inner.1, refl))
 
 items_told : (session : sessions.Session) (items : List Item) → AllByRecursion (IsItem session) items → (ss : List Statement) × ItemsTold session.replicas items ss
 items_told session [] h = ([], refl)
@@ -111,9 +112,6 @@ told session is =
     )
 
 -- ---- their lines are the session's
-
-pub name_is : (replicas : List Ident) (number : ℕ) (replica : Ident) → slice_get replicas number ≡ Some replica → replica_name replicas number ≡ ident_bytes replica
-name_is replicas number replica is = ap (λ (o : Option Ident). option_map_or ident_bytes o []) is
 
 replica_texts : (replicas : List Ident) → map statement_text (map Replica replicas) ≡ map replica_line replicas
 replica_texts [] = refl
@@ -144,12 +142,11 @@ line_texts replicas (l ∷ lines) (s ∷ ss) h =
     ap (λ (t : List ℕ). t ∷ map statement_text ss) (line_is replicas l s h.0) ∙ ap (λ (ts : List (List ℕ)). line_text replicas l ∷ ts) (line_texts replicas lines ss h.1)
 
 item_texts : (replicas : List Ident) (i : Item) (ss : List Statement) → ItemTold replicas i ss → map statement_text ss ≡ item_lines replicas i
-item_texts replicas (item.Load number edit) ss h =
-    ap (map statement_text) h.2 ∙ ap (λ (name : List ℕ). load_line name (edit_kind edit) (edit_edge edit) ∷ []) (sym (name_is replicas number h.0 h.1))
-item_texts replicas (item.Block block) ss h =
-    ap (map statement_text) h.2
-    ∙ ap (λ (ts : List (List ℕ)). codes "block" ∷ ts) (map-append statement_text h.0 (End ∷ []) ∙ ap (λ (ts : List (List ℕ)). ts ++ codes "end" ∷ []) (line_texts replicas block.lines h.0 h.1))
-item_texts replicas item.Show ss h = ap (map statement_text) h
+item_texts replicas i ss (inl h) = ap (map statement_text) h.2 ∙ sym (one_line replicas h.0 i h.1).text
+item_texts replicas i ss (inr h) =
+    ap (map statement_text) h.4
+    ∙ ap (λ (ts : List (List ℕ)). codes "block" ∷ ts) (map-append statement_text h.1 (End ∷ []) ∙ ap (λ (ts : List (List ℕ)). ts ++ codes "end" ∷ []) (line_texts replicas h.0.lines h.1 h.3))
+    ∙ ap (item_lines replicas) (sym h.2)
 
 items_texts : (replicas : List Ident) (items : List Item) (ss : List Statement) → ItemsTold replicas items ss → map statement_text ss ≡ flat_map (item_lines replicas) items
 items_texts replicas [] ss h = ap (map statement_text) h
@@ -219,10 +216,10 @@ lines_in_range session (line.Send send ∷ lines) (s ∷ ss) ds is h =
 
 item_in_range : (session : sessions.Session) (i : Item) (ss : List Statement) → AllByRecursion (IsDeclared session) session.authors → IsItem session i
     → ItemTold session.replicas i ss → AllByRecursion InRange ss
-item_in_range session (item.Load number edit) ss ds is h = subst (AllByRecursion InRange) (sym h.2) (tt, tt)
-item_in_range session (item.Block block) ss ds is h =
-    subst (AllByRecursion InRange) (sym h.2) (tt, all_append InRange h.0 (End ∷ []) (lines_in_range session block.lines h.0 ds is h.1) (tt, tt))
-item_in_range session item.Show ss ds is h = subst (AllByRecursion InRange) (sym h) (tt, tt)
+item_in_range session i ss ds is (inl h) = subst (AllByRecursion InRange) (sym h.2) ((one_line session.replicas h.0 i h.1).in_range, tt)
+item_in_range session i ss ds is (inr h) =
+    subst (AllByRecursion InRange) (sym h.4)
+    (tt, all_append InRange h.1 (End ∷ []) (lines_in_range session h.0.lines h.1 ds (subst (IsItem session) h.2 is) h.3) (tt, tt))
 
 items_in_range : (session : sessions.Session) (items : List Item) (ss : List Statement) → AllByRecursion (IsDeclared session) session.authors → AllByRecursion (IsItem session) items
     → ItemsTold session.replicas items ss → AllByRecursion InRange ss
@@ -244,12 +241,6 @@ told_in_range session ss is h =
 replicas_known : (version : Version) (replicas : List Ident) → AllByRecursion (IsReplicaOf version) replicas → AllByRecursion (IsStatementOf version) (map Replica replicas)
 replicas_known version [] h = tt
 replicas_known version (r ∷ replicas) h = (h.0, replicas_known version replicas h.1)
-
--- a replica with a number is of the version
-name_known : (version : Version) (replicas : List Ident) (number : ℕ) (replica : Ident) → AllByRecursion (IsReplicaOf version) replicas → slice_get replicas number ≡ Some replica → IsReplicaOf version replica
-name_known version [] number replica h is = absurd cc
-name_known version (r ∷ replicas) zero replica h is = let same : r ≡ replica = cc in subst (IsReplicaOf version) same h.0
-name_known version (r ∷ replicas) (suc number) replica h is = name_known version replicas number replica h.1 is
 
 authors_known : (version : Version) (replicas : List Ident) (authors : List Declared) (ss : List Statement) → AllByRecursion (IsReplicaOf version) replicas → Each (AuthorTold replicas) authors ss
     → AllByRecursion (IsStatementOf version) ss
@@ -273,11 +264,11 @@ lines_known version replicas (line.Send send ∷ lines) (s ∷ ss) names is h = 
 
 item_known : (version : Version) (replicas : List Ident) (i : Item) (ss : List Statement) → AllByRecursion (IsReplicaOf version) replicas → IsItemOf version i → ItemTold replicas i ss
     → AllByRecursion (IsStatementOf version) ss
-item_known version replicas (item.Load number edit) ss names is h =
-    subst (AllByRecursion (IsStatementOf version)) (sym h.2) ((name_known version replicas number h.0 names h.1, is), tt)
-item_known version replicas (item.Block block) ss names is h =
-    subst (AllByRecursion (IsStatementOf version)) (sym h.2) (tt, all_append (IsStatementOf version) h.0 (End ∷ []) (lines_known version replicas block.lines h.0 names is h.1) (tt, tt))
-item_known version replicas item.Show ss names is h = subst (AllByRecursion (IsStatementOf version)) (sym h) (tt, tt)
+item_known version replicas i ss names is (inl h) =
+    subst (AllByRecursion (IsStatementOf version)) (sym h.2) ((one_line replicas h.0 i h.1).of_version version names is, tt)
+item_known version replicas i ss names is (inr h) =
+    subst (AllByRecursion (IsStatementOf version)) (sym h.4)
+    (tt, all_append (IsStatementOf version) h.1 (End ∷ []) (lines_known version replicas h.0.lines h.1 names (subst (IsItemOf version) h.2 is) h.3) (tt, tt))
 
 items_known : (version : Version) (replicas : List Ident) (items : List Item) (ss : List Statement) → AllByRecursion (IsReplicaOf version) replicas → AllByRecursion (IsItemOf version) items
     → ItemsTold replicas items ss → AllByRecursion (IsStatementOf version) ss

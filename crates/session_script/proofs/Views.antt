@@ -1,5 +1,5 @@
 -- What the statements before decide of the next one, as they come one after the other.
-use Rattle.std.proofs.Common.{◌≡◌, ℕ, ◌+◌, Bool, true, false, not, ◌&&◌, ◌||◌, ◌==◌, nat_lt, nat_le, cond, List, [], ◌∷◌, ◌++◌, Option, None, length, refl, sym, ap, subst, ◌∙◌, append_assoc, append-nil, arith}
+use Rattle.std.proofs.Common.{◌≡◌, ℕ, ◌+◌, Bool, true, false, not, ◌&&◌, ◌||◌, ◌==◌, nat_lt, cond, List, [], ◌∷◌, ◌++◌, Option, None, length, refl, sym, ap, subst, ◌∙◌, append_assoc, append-nil, arith}
 use Rattle.std.specs.List.{list_all, list_any, count_by}
 use Rattle.std.proofs.lemmas.List.Sums.{sum_by-cons}
 use Rattle.std.proofs.Math.Bool.{or_assoc, and_assoc, or-false, and-true}
@@ -7,9 +7,9 @@ use Rattle.grove_sorts.specs.declared.ident.Ident.{Ident}
 use Rattle.session_script.specs.declared.script_kind.ScriptKind.{ScriptKind}
 use Rattle.session_script.specs.declared.script_kind.ScriptKind.TheVariants.{OutOfPlace, UnknownReplica, RepeatedReplica, UnknownAuthor, RepeatedAuthor, TooMany}
 use Rattle.session_script.specs.declared.statement.Statement.{Statement}
-use Rattle.session_script.specs.declared.statement.Statement.TheVariants.{Session, Replica, Author, Load, Block, End, Act, Send, Show}
-use Rattle.session_script.specs.Order.{version_of, is_session, is_replica, is_author, is_block, is_end, is_send, is_show, is_same_ident, replicas_of, authors_of, has_replica, is_open, items_may_stand, has_place, named_replicas, is_declared, is_declared_author, repeats_replica, has_unknown_author, repeats_author, is_beyond, is_too_many, first_of, statement_fault, GoOn, is_ended}
-use Rattle.session_script.specs.View.{View, version_after, is_heading, is_declaration, counted, with_replica, with_author, seen, start, open_at, items_at, place_at, declared_at, declared_author_at, repeats_replica_at, unknown_author_at, repeats_author_at, too_many_at, fault_at, after, view}
+use Rattle.session_script.specs.declared.statement.Statement.TheVariants.{Session, Replica, Author, Act}
+use Rattle.session_script.specs.Order.{version_of, is_session, is_replica, is_author, is_block, is_end, is_send, is_show, is_same_ident, replicas_of, authors_of, has_replica, is_open, items_may_stand, Place, First, AmongReplicas, AmongAuthors, AmongItems, InBlock, place_of, may_come, has_place, named_replicas, is_declared, is_declared_author, repeats_replica, has_unknown_author, repeats_author, Counts, counts_of, is_beyond_counts, is_too_many, first_of, statement_fault, GoOn, is_ended}
+use Rattle.session_script.specs.View.{View, version_after, is_heading, is_declaration, counted, with_replica, with_author, seen, start, open_at, items_at, may_come_at, place_at, declared_at, declared_author_at, repeats_replica_at, unknown_author_at, repeats_author_at, counts_at, too_many_at, fault_at, after, view}
 
 pub after-append : (v : View) (xs ys : List Statement) → after v (xs ++ ys) ≡ after (after v xs) ys
 after-append v [] ys = refl
@@ -17,7 +17,7 @@ after-append v (x ∷ xs) ys = after-append (seen v x) xs ys
 
 -- ---- a view tells what the statements do
 
-counted-add : (b : Bool) (n : ℕ) → counted b n ≡ n + cond b 1 0
+pub counted-add : (b : Bool) (n : ℕ) → counted b n ≡ n + cond b 1 0
 counted-add true n = omega arith
 counted-add false n = omega arith
 
@@ -121,16 +121,15 @@ items_is before = ap (λ b. b && not (is_open before)) (some_replica_is before) 
 pub ended_is : (before : List Statement) → is_ended before ≡ items_at (view before)
 ended_is before = items_is before
 
+comes_is : (before : List Statement) (place : Place) → may_come before place ≡ may_come_at (view before) place
+comes_is before First = nothing_is before
+comes_is before AmongReplicas = ap (λ b. b && list_all is_heading before) (begun_is before) ∙ ap (λ b. (view before).begun && b) (only_replicas_is before)
+comes_is before AmongAuthors = ap (λ b. b && list_all is_declaration before) (some_replica_is before) ∙ ap (λ b. (view before).some_replica && b) (only_declared_is before)
+comes_is before AmongItems = items_is before
+comes_is before InBlock = open_is before
+
 place_is : (before : List Statement) (s : Statement) → has_place before s ≡ place_at (view before) s
-place_is before (Session version) = nothing_is before
-place_is before (Replica replica) = ap (λ b. b && list_all is_heading before) (begun_is before) ∙ ap (λ b. (view before).begun && b) (only_replicas_is before)
-place_is before (Author author replica) = ap (λ b. b && list_all is_declaration before) (some_replica_is before) ∙ ap (λ b. (view before).some_replica && b) (only_declared_is before)
-place_is before (Load replica edit) = items_is before
-place_is before Show = items_is before
-place_is before Block = items_is before
-place_is before End = open_is before
-place_is before (Act author action) = open_is before
-place_is before (Send send) = open_is before
+place_is before s = comes_is before (place_of s)
 
 declared_is : (before : List Statement) (replica : Ident) → is_declared before replica ≡ declared_at (view before) replica
 declared_is before replica = ap (λ (rs : List Ident). list_any (is_same_ident replica) rs) (replicas_is before)
@@ -155,13 +154,20 @@ repeats_author_is : (before : List Statement) (s : Statement) → repeats_author
 repeats_author_is before (Author author replica) = declared_author_is before author
 repeats_author_is before _ = refl
 
+abbrev counts : ℕ → ℕ → ℕ → ℕ → ℕ → Counts
+counts replicas authors blocks sends shows = record { replicas = replicas; authors = authors; blocks = blocks; sends = sends; shows = shows }
+
+counts_are : (before : List Statement) → counts_of before ≡ counts_at (view before)
+counts_are before =
+    let v = view before in
+    ap (λ n. counts n (count_by is_author before) (count_by is_block before) (count_by is_send before) (count_by is_show before)) (replica_number_is before)
+    ∙ ap (λ n. counts (length v.replicas) n (count_by is_block before) (count_by is_send before) (count_by is_show before)) (author_number_is before)
+    ∙ ap (λ n. counts (length v.replicas) (length v.authors) n (count_by is_send before) (count_by is_show before)) (blocks_is before)
+    ∙ ap (λ n. counts (length v.replicas) (length v.authors) v.blocks n (count_by is_show before)) (sends_is before)
+    ∙ ap (counts (length v.replicas) (length v.authors) v.blocks v.sends) (shows_is before)
+
 too_many_is : (before : List Statement) (s : Statement) → is_too_many before s ≡ too_many_at (view before) s
-too_many_is before (Replica replica) = ap (nat_le 8) (replica_number_is before)
-too_many_is before (Author author replica) = ap (nat_le 64) (author_number_is before)
-too_many_is before Block = ap (nat_le 64) (blocks_is before)
-too_many_is before (Send send) = ap (λ n. nat_le 32 n || is_beyond send) (sends_is before)
-too_many_is before Show = ap (nat_le 8) (shows_is before)
-too_many_is before _ = refl
+too_many_is before s = ap (λ c. is_beyond_counts c s) (counts_are before)
 
 -- the first of the six conditions
 abbrev pub first_fault : Bool → Bool → Bool → Bool → Bool → Bool → Option ScriptKind

@@ -21,7 +21,8 @@ use Rattle.session_script.specs.View.{View, version_after, seen, start, after, v
 use Rattle.session_script.specs.Reading.{numbered, AuthorsAfter, ItemsAfter, LinesAfter}
 use Rattle.session_script.proofs.Views.{GoesOn, fault_is, ended_is, view-push, version_push}
 use Rattle.session_script.proofs.Told.{ended_lines, told, told_text}
-use Rattle.session_script.proofs.Good.{same_ident_exact, told_good}
+use Rattle.session_script.proofs.Good.{told_good}
+use Rattle.session_script.proofs.Names.{same_ident_exact}
 use Rattle.session_script.proofs.Kept.{Fine, fine_at, HasLines, lines_of_nothing, lines_more, IsWithin, nothing_is_within, within_more, IsKnown, nothing_is_known, known_more, whole_session}
 
 -- ---- one more statement can be taken

@@ -12,16 +12,17 @@ use Rattle.edit_text.specs.declared.line_fault.LineFault.{LineFault}
 use Rattle.edit_text.specs.FaultOfEdge.{IsFaultBy}
 use Rattle.session_script.specs.declared.statement.SendText.{SendText}
 use Rattle.session_script.specs.declared.statement.Statement.{Statement}
-use Rattle.session_script.specs.declared.statement.Statement.TheVariants.{Session, Replica, Author, Block, End, Act, Send, Show}
+use Rattle.session_script.specs.declared.statement.Statement.TheVariants.{Replica, Author, Load, Act, Send}
 use Rattle.session_script.specs.Statement.{send_terms, IsReplicaOf}
 
 -- a statement of one word
 abbrev pub IsOneWord : Statement → Type 0
-IsOneWord (Session version) = Unit {0}
-IsOneWord Block = Unit {0}
-IsOneWord End = Unit {0}
-IsOneWord Show = Unit {0}
-IsOneWord _ = ⊥
+IsOneWord (Replica replica) = ⊥
+IsOneWord (Author author replica) = ⊥
+IsOneWord (Load replica edit) = ⊥
+IsOneWord (Act author action) = ⊥
+IsOneWord (Send send) = ⊥
+IsOneWord _ = Unit {0}
 
 -- one of several words that loads no edit
 abbrev pub IsOther : Statement → Type 0

@@ -72,18 +72,36 @@ is_open before = nat_lt (count_by is_end before) (count_by is_block before)
 abbrev pub items_may_stand : List Statement → Bool
 items_may_stand before = has_replica before && not (is_open before)
 
--- The statement may stand behind those before: `session` first; then replicas, and then authors, with nothing else before them;
--- then items; and what stands in a block, while one is open.
+-- the places of statements: `session` stands first; then replicas, and then authors; then items; and in a block its lines and its end
+pub data Place : Type 0 where
+  First : Place
+  AmongReplicas : Place
+  AmongAuthors : Place
+  AmongItems : Place
+  InBlock : Place
+
+-- the place of a statement: all that neither declares anything nor stands in a block stands among items
+abbrev pub place_of : Statement → Place
+place_of (Session version) = First
+place_of (Replica replica) = AmongReplicas
+place_of (Author author replica) = AmongAuthors
+place_of End = InBlock
+place_of (Act author action) = InBlock
+place_of (Send send) = InBlock
+place_of _ = AmongItems
+
+-- A place may come behind some statements: the first behind none; that of replicas, and then that of authors, with nothing else before
+-- them; and a block's while one is open.
+abbrev pub may_come : List Statement → Place → Bool
+may_come before First = list_all (λ _. false) before
+may_come before AmongReplicas = list_any is_session before && list_all (λ s. is_session s || is_replica s) before
+may_come before AmongAuthors = has_replica before && list_all (λ s. is_session s || is_replica s || is_author s) before
+may_come before AmongItems = items_may_stand before
+may_come before InBlock = is_open before
+
+-- the statement may stand behind those before
 abbrev pub has_place : List Statement → Statement → Bool
-has_place before (Session version) = list_all (λ _. false) before
-has_place before (Replica replica) = list_any is_session before && list_all (λ s. is_session s || is_replica s) before
-has_place before (Author author replica) = has_replica before && list_all (λ s. is_session s || is_replica s || is_author s) before
-has_place before (Load replica edit) = items_may_stand before
-has_place before Show = items_may_stand before
-has_place before Block = items_may_stand before
-has_place before End = is_open before
-has_place before (Act author action) = is_open before
-has_place before (Send send) = is_open before
+has_place before statement = may_come before (place_of statement)
 
 -- the replicas that a statement names as declared before
 abbrev pub named_replicas : Statement → List Ident
@@ -115,14 +133,34 @@ abbrev pub is_beyond : SendText → Bool
 is_beyond send =
     nat_lt 1000000 send.skip || nat_lt 1000000 send.take || send.cut == 0 || nat_lt 65536 send.cut || nat_lt (4096 * send.cut) send.take
 
--- it is the 9th replica, the 65th author, the 65th block, the 33rd send or the 9th show, or a send beyond the limits
+-- how many statements of each limited kind there are
+pub record Counts : Type 0 where
+  pub replicas : ℕ
+  pub authors : ℕ
+  pub blocks : ℕ
+  pub sends : ℕ
+  pub shows : ℕ
+
+abbrev pub counts_of : List Statement → Counts
+counts_of before = record {
+  replicas = count_by is_replica before;
+  authors = count_by is_author before;
+  blocks = count_by is_block before;
+  sends = count_by is_send before;
+  shows = count_by is_show before;
+}
+
+-- behind so many it is the 9th replica, the 65th author, the 65th block, the 33rd send or the 9th show, or it is a send beyond the limits
+abbrev pub is_beyond_counts : Counts → Statement → Bool
+is_beyond_counts counts (Replica replica) = nat_le 8 counts.replicas
+is_beyond_counts counts (Author author replica) = nat_le 64 counts.authors
+is_beyond_counts counts Block = nat_le 64 counts.blocks
+is_beyond_counts counts (Send send) = nat_le 32 counts.sends || is_beyond send
+is_beyond_counts counts Show = nat_le 8 counts.shows
+is_beyond_counts counts _ = false
+
 abbrev pub is_too_many : List Statement → Statement → Bool
-is_too_many before (Replica replica) = nat_le 8 (count_by is_replica before)
-is_too_many before (Author author replica) = nat_le 64 (count_by is_author before)
-is_too_many before Block = nat_le 64 (count_by is_block before)
-is_too_many before (Send send) = nat_le 32 (count_by is_send before) || is_beyond send
-is_too_many before Show = nat_le 8 (count_by is_show before)
-is_too_many before _ = false
+is_too_many before statement = is_beyond_counts (counts_of before) statement
 
 -- the first kind whose condition holds
 abbrev pub first_of : List (Bool × ScriptKind) → Option ScriptKind

@@ -1,5 +1,5 @@
 -- What is kept of the statements before to read and judge the next one.
-use Rattle.std.specs.Prelude.{ℕ, suc, ◌==◌, Bool, true, false, not, ◌&&◌, ◌||◌, nat_lt, nat_le, List, [], ◌∷◌, ◌++◌, Option, length}
+use Rattle.std.specs.Prelude.{ℕ, suc, ◌==◌, Bool, true, false, not, ◌&&◌, ◌||◌, nat_lt, List, [], ◌∷◌, ◌++◌, Option, length}
 use Rattle.std.specs.List.{list_all, list_any}
 use Rattle.grove_sorts.specs.declared.ident.Ident.{Ident}
 use Rattle.grove_sorts.specs.declared.version.Version.{Version}
@@ -9,8 +9,8 @@ use Rattle.session_script.specs.declared.phase.Phase.TheVariants.{Nothing, Begun
 use Rattle.session_script.specs.declared.script_kind.ScriptKind.{ScriptKind}
 use Rattle.session_script.specs.declared.script_kind.ScriptKind.TheVariants.{OutOfPlace, UnknownReplica, RepeatedReplica, UnknownAuthor, RepeatedAuthor, TooMany}
 use Rattle.session_script.specs.declared.statement.Statement.{Statement}
-use Rattle.session_script.specs.declared.statement.Statement.TheVariants.{Session, Replica, Author, Load, Block, End, Act, Send, Show}
-use Rattle.session_script.specs.Order.{is_session, is_replica, is_author, is_block, is_end, is_send, is_show, is_same_ident, named_replicas, is_beyond, first_of}
+use Rattle.session_script.specs.declared.statement.Statement.TheVariants.{Session, Replica, Author, Act}
+use Rattle.session_script.specs.Order.{is_session, is_replica, is_author, is_block, is_end, is_send, is_show, is_same_ident, Place, First, AmongReplicas, AmongAuthors, AmongItems, InBlock, place_of, named_replicas, Counts, is_beyond_counts, first_of}
 
 -- what is kept of some statements
 pub record View : Type 0 where
@@ -75,16 +75,15 @@ open_at v = nat_lt v.ends v.blocks
 abbrev pub items_at : View → Bool
 items_at v = v.some_replica && not (open_at v)
 
+abbrev pub may_come_at : View → Place → Bool
+may_come_at v First = v.nothing
+may_come_at v AmongReplicas = v.begun && v.only_replicas
+may_come_at v AmongAuthors = v.some_replica && v.only_declared
+may_come_at v AmongItems = items_at v
+may_come_at v InBlock = open_at v
+
 abbrev pub place_at : View → Statement → Bool
-place_at v (Session version) = v.nothing
-place_at v (Replica replica) = v.begun && v.only_replicas
-place_at v (Author author replica) = v.some_replica && v.only_declared
-place_at v (Load replica edit) = items_at v
-place_at v Show = items_at v
-place_at v Block = items_at v
-place_at v End = open_at v
-place_at v (Act author action) = open_at v
-place_at v (Send send) = open_at v
+place_at v s = may_come_at v (place_of s)
 
 abbrev pub declared_at : View → Ident → Bool
 declared_at v replica = list_any (is_same_ident replica) v.replicas
@@ -104,13 +103,11 @@ abbrev pub repeats_author_at : View → Statement → Bool
 repeats_author_at v (Author author replica) = declared_author_at v author
 repeats_author_at v _ = false
 
+abbrev pub counts_at : View → Counts
+counts_at v = record { replicas = length v.replicas; authors = length v.authors; blocks = v.blocks; sends = v.sends; shows = v.shows }
+
 abbrev pub too_many_at : View → Statement → Bool
-too_many_at v (Replica replica) = nat_le 8 (length v.replicas)
-too_many_at v (Author author replica) = nat_le 64 (length v.authors)
-too_many_at v Block = nat_le 64 v.blocks
-too_many_at v (Send send) = nat_le 32 v.sends || is_beyond send
-too_many_at v Show = nat_le 8 v.shows
-too_many_at v _ = false
+too_many_at v s = is_beyond_counts (counts_at v) s
 
 -- the first fault of the next statement
 abbrev pub fault_at : View → Statement → Option ScriptKind

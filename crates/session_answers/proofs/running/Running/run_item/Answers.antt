@@ -1,10 +1,12 @@
-use Rattle.std.proofs.Common.{ℕ, ◌+◌, List, length, take, Some, ap, ◌∙◌}
+use Rattle.std.proofs.Common.{ℕ, ◌+◌, List, length, take, Some, refl, ap, ◌∙◌}
 use Rattle.std.proofs.lemmas.List.{length-map}
 use Rattle.session_script.specs.declared.author.Declared.{Declared}
 use Rattle.session_script.specs.declared.item.Item.{Item}
+use Rattle.session_script.specs.declared.item.Item.TheVariants as item
 use Rattle.session_answers.specs.Numbers.{next_number}
 use Rattle.session_answers.specs.Running.{IsBehind, HasLoaded, HasRunBlock, HasShown}
-use Rattle.session_answers.proofs.Items.{if_ok, load_within, block_within, show_within, lines_can_run, few_sends, block_numbers, after_load, after_block, after_show}
+use Rattle.session_answers.proofs.Behind.{show_behind}
+use Rattle.session_answers.proofs.Items.{if_ok, load_within, block_within, show_within, lines_can_run, few_sends, block_numbers, after_item, after_load, after_block}
 use Rattle.session_answers.proofs.running.Running.run_item.Goals as goal
 
 pub load-requires : goal.load-requires
@@ -33,7 +35,7 @@ run_block-requires-clause-asked g c κs within = λ author number is.
     (block_numbers c.args.session.now c.args.index c.args.self c.requires.session c.requires.behind c.in-Block.block (c.requires.item ∙ ap (λ (x : Item). Some x) c.in-Block.is) author number is)
 
 pub show-requires : goal.show-requires
-show-requires g c = show_within c.args.session.now c.args.index c.args.self c.requires.session c.requires.behind (c.requires.item ∙ ap (λ (x : Item). Some x) c.in-Show.is)
+show-requires g c = show_within c.args.session.now c.args.index c.args.self c.requires.session c.requires.behind item.Show refl (c.requires.item ∙ ap (λ (x : Item). Some x) c.in-Show.is)
 
 pub returns-in-Load : goal.returns-in-Load
 returns-in-Load g c =
@@ -50,5 +52,7 @@ returns-in-Block g c =
 pub returns-in-Show : goal.returns-in-Show
 returns-in-Show g c =
     if_ok (HasShown c.args.session.now c.args.self) (IsBehind c.args.session.now (take (c.args.index + 1) c.args.session.now.items)) c.show.result
-    (λ new has. after_show c.args.session.now c.args.index c.args.self c.requires.session c.requires.behind new (c.requires.item ∙ ap (λ (x : Item). Some x) c.in-Show.is) has)
+    (λ new has.
+    after_item c.args.session.now c.args.index c.args.self c.requires.session c.requires.behind item.Show new (c.requires.item ∙ ap (λ (x : Item). Some x) c.in-Show.is)
+    (show_behind c.args.session.now (take c.args.index c.args.session.now.items) c.args.self new c.requires.behind has))
     c.show.ensures
