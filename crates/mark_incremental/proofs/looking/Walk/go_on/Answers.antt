@@ -16,7 +16,7 @@ at_next-requires-clause-state g c =
 
 pub returns-clause-was : goal.returns-clause-was
 returns-clause-was g c =
-    subst (IsOpenOf c.args.types.now c.args.ctxs.now) (sym (c.in_ok-at_next.ensures.state ∙ c.fill.ensures))
+    subst (IsOpenOf c.args.types.now c.args.ctxs.now) (sym (c.in_ok-frame.ensures.state ∙ c.fill.ensures))
     (is_filled c.args.types.now c.args.ctxs.now c.args.frame.now.given c.args.frame.now.state c.requires.frame.state
     (subst (λ ctor. c.args.frame.now.state.next < length (positions ctor)) (sym c.requires.frame.ctor) c.requires.next) c.requires.frame.given)
 
@@ -26,8 +26,8 @@ returns-clause-at_most g c =
     let behind : c.fill.new.vertex.next ≡ suc c.args.frame.now.state.next = omega (arith, next) in
     subst (λ (n : ℕ). c.at_next.new.steps ≤ c.args.steps.now + places_cost (live c.args.self.now.graph.now) c.args.frame.now.vertex.now (drop n (positions c.args.frame.now.vertex.now.ctor))) behind c.at_next.ensures.at_most
 
-pub returns-in_err-at_next-clause-at_most : goal.returns-in_err-at_next-clause-at_most
-returns-in_err-at_next-clause-at_most g c =
+pub returns-in_err-frame-clause-at_most : goal.returns-in_err-frame-clause-at_most
+returns-in_err-frame-clause-at_most g c =
     let next = ap (λ (o : OpenVertex). o.next) c.fill.ensures in
     let behind : c.fill.new.vertex.next ≡ suc c.args.frame.now.state.next = omega (arith, next) in
     subst (λ (n : ℕ). c.at_next.new.steps ≤ c.args.steps.now + places_cost (live c.args.self.now.graph.now) c.args.frame.now.vertex.now (drop n (positions c.args.frame.now.vertex.now.ctor))) behind c.at_next.ensures.at_most

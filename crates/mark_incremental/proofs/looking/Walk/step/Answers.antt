@@ -16,38 +16,38 @@ use Rattle.mark_incremental.proofs.looking.Walk.step.Goals as goal
 
 -- ---- a child is taken
 
-pub returns-in_ok-take-clause-way : goal.returns-in_ok-take-clause-way
-returns-in_ok-take-clause-way g c = λ from before way. c.in_ok-take.ensures.way from before c.args.made.now.items c.requires.made way
+pub returns-in-Some-clause-way : goal.returns-in-Some-clause-way
+returns-in-Some-clause-way g c = λ from before way. c.in_ok-take.ensures.way from before c.args.made.now.items c.requires.made way
 
-pub returns-in_ok-take-clause-made : goal.returns-in_ok-take-clause-made
-returns-in_ok-take-clause-made g c =
+pub returns-in-Some-clause-made : goal.returns-in-Some-clause-made
+returns-in-Some-clause-made g c =
     made_kept c.args.types.now c.take.new.types c.args.ctxs.now c.take.new.ctxs c.in_ok-take.ensures.types c.in_ok-take.ensures.contexts c.args.made.now.items c.requires.made
 
-pub returns-in_ok-take-clause-counted : goal.returns-in_ok-take-clause-counted
-returns-in_ok-take-clause-counted g c = λ start paid counted. c.in_ok-take.ensures.counted start paid c.args.made.now.items counted
+pub returns-in-Some-clause-counted : goal.returns-in-Some-clause-counted
+returns-in-Some-clause-counted g c = λ start paid counted. c.in_ok-take.ensures.counted start paid c.args.made.now.items counted
 
 -- ---- the next position is begun
 
-pub returns-in_ok-go_on-clause-way : goal.returns-in_ok-go_on-clause-way
-returns-in_ok-go_on-clause-way g c = λ from before way.
-    let some : c.args.innermost.now.state.next < length (positions c.args.innermost.now.state.ctor.now) = omega (arith, c.if-position_count.true, c.position_count.ensures) in
+pub returns-then-innermost-position_count-clause-way : goal.returns-then-innermost-position_count-clause-way
+returns-then-innermost-position_count-clause-way g c = λ from before way.
+    let some : c.args.innermost.now.state.next < length (positions c.args.innermost.now.state.ctor.now) = omega (arith, c.if-innermost-position_count.true, c.position_count.ensures) in
     went_on (live c.args.self.now.graph.now) c.args.self.now.well_formed c.args.types.now c.go_on.new.types c.args.ctxs.now c.go_on.new.ctxs c.in_ok-go_on.ensures.types c.in_ok-go_on.ensures.contexts
     c.args.self.now.records.now c.requires.records (on c.args.self.now.whole c.args.self.now.passed.now) from before c.args.innermost.now c.go_on.new.frame (reverse c.args.outer.now.items) c.args.made.now.items
     c.in_default.ensures.none (subst (λ ctor. c.args.innermost.now.state.next < length (positions ctor)) c.requires.frames.0.ctor some) c.requires.frames c.requires.made
     c.in_ok-go_on.ensures.was c.in_ok-go_on.ensures.vertex c.in_ok-go_on.ensures.filled c.in_ok-go_on.ensures.begun way
 
-pub returns-in_ok-go_on-clause-made : goal.returns-in_ok-go_on-clause-made
-returns-in_ok-go_on-clause-made g c =
+pub returns-then-innermost-position_count-clause-made : goal.returns-then-innermost-position_count-clause-made
+returns-then-innermost-position_count-clause-made g c =
     made_kept c.args.types.now c.go_on.new.types c.args.ctxs.now c.go_on.new.ctxs c.in_ok-go_on.ensures.types c.in_ok-go_on.ensures.contexts c.args.made.now.items c.requires.made
 
-pub returns-in_ok-go_on-clause-frames : goal.returns-in_ok-go_on-clause-frames
-returns-in_ok-go_on-clause-frames g c = (
+pub returns-then-innermost-position_count-clause-frames : goal.returns-then-innermost-position_count-clause-frames
+returns-then-innermost-position_count-clause-frames g c = (
   c.in_ok-go_on.ensures.numbers,
   frames_kept c.args.types.now c.go_on.new.types c.args.ctxs.now c.go_on.new.ctxs c.in_ok-go_on.ensures.types c.in_ok-go_on.ensures.contexts (reverse c.args.outer.now.items) c.requires.frames.1,
 )
 
-pub returns-in_ok-go_on-clause-counted : goal.returns-in_ok-go_on-clause-counted
-returns-in_ok-go_on-clause-counted g c = λ start paid counted.
+pub returns-then-innermost-position_count-clause-counted : goal.returns-then-innermost-position_count-clause-counted
+returns-then-innermost-position_count-clause-counted g c = λ start paid counted.
     let ticks = c.in_ok-go_on.ensures.ticks in
     counted_on (live c.args.self.now.graph.now) start paid c.args.innermost.now c.go_on.new.frame (reverse c.args.outer.now.items) c.args.made.now.items c.args.steps.now c.go_on.new.steps c.in_ok-go_on.ensures.vertex
     (next_costs (live c.args.self.now.graph.now) c.args.types.now c.go_on.new.types c.args.ctxs.now c.go_on.new.ctxs c.go_on.new.frame c.in_ok-go_on.ensures.begun c.args.innermost.now c.in_ok-go_on.ensures.vertex
@@ -59,7 +59,7 @@ returns-in_ok-go_on-clause-counted g c = λ start paid counted.
 pub returns-clause-way : goal.returns-clause-way
 returns-clause-way g c = λ from before way.
     let within = c.requires.frames.0.state.filled.within in
-    let whole : c.args.innermost.now.state.next ≡ length (positions c.args.innermost.now.state.ctor.now) = omega (arith, within, c.if-position_count.false, c.position_count.ensures) in
+    let whole : c.args.innermost.now.state.next ≡ length (positions c.args.innermost.now.state.ctor.now) = omega (arith, within, c.if-innermost-position_count.false, c.position_count.ensures) in
     settled_up (live c.args.self.now.graph.now) c.args.self.now.well_formed c.args.types.now c.settle.new.types c.args.ctxs.now c.args.ctxs.now c.in_ok-given.ensures.kept (contexts-itself c.args.ctxs.now)
     c.args.self.now.records.now c.requires.records (on c.args.self.now.whole c.args.self.now.passed.now) from before c.args.innermost.now (reverse c.args.outer.now.items) (still_open c.hand_on.result c.hand_on.new.innermost c.hand_on.new.outer.items) c.args.made.now.items
     c.settle.new.made.items c.in_ok-given.given c.in_default.ensures.none whole c.requires.frames c.requires.made c.in_ok-given.ensures.settled c.in_ok-given.ensures.given c.hand_on.ensures.handed way
@@ -96,12 +96,12 @@ pub returns-in_err-go_on-clause-paid : goal.returns-in_err-go_on-clause-paid
 returns-in_err-go_on-clause-paid g c = λ from before start paid way counted.
     paid_on (live c.args.self.now.graph.now) c.args.types.now c.args.ctxs.now c.args.self.now.records.now (on c.args.self.now.whole c.args.self.now.passed.now) from before c.args.made.now.items start paid c.args.steps.now c.go_on.new.steps c.args.innermost.now (reverse c.args.outer.now.items) way counted c.go_on.ensures.at_most
 
-pub returns-in_ok-go_on-clause-paid : goal.returns-in_ok-go_on-clause-paid
-returns-in_ok-go_on-clause-paid g c = λ from before start paid way counted.
+pub returns-then-innermost-position_count-clause-paid : goal.returns-then-innermost-position_count-clause-paid
+returns-then-innermost-position_count-clause-paid g c = λ from before start paid way counted.
     paid_on (live c.args.self.now.graph.now) c.args.types.now c.args.ctxs.now c.args.self.now.records.now (on c.args.self.now.whole c.args.self.now.passed.now) from before c.args.made.now.items start paid c.args.steps.now c.go_on.new.steps c.args.innermost.now (reverse c.args.outer.now.items) way counted c.go_on.ensures.at_most
 
 pub returns-in_err-take-clause-paid : goal.returns-in_err-take-clause-paid
 returns-in_err-take-clause-paid g c = λ from before start paid way counted. c.take.ensures.paid from before c.args.made.now.items start paid way counted
 
-pub returns-in_ok-take-clause-paid : goal.returns-in_ok-take-clause-paid
-returns-in_ok-take-clause-paid g c = λ from before start paid way counted. c.take.ensures.paid from before c.args.made.now.items start paid way counted
+pub returns-in-Some-clause-paid : goal.returns-in-Some-clause-paid
+returns-in-Some-clause-paid g c = λ from before start paid way counted. c.take.ensures.paid from before c.args.made.now.items start paid way counted
