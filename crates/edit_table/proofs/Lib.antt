@@ -7,7 +7,7 @@ pub mod Made
 pub mod Records
 pub mod Growing
 pub mod Orders
-pub mod Reading
+pub mod Tables
 pub mod KeptRecords
 pub mod Canonical
 pub mod Renumbered

@@ -7,3 +7,4 @@ pub mod Renumbered
 pub mod Waiting
 pub mod Ranks
 pub mod TableVertex
+pub mod Spelled

@@ -5,13 +5,12 @@ ghost use Rattle.grove_sorts.specs.declared.version.Version.{Version};
 ghost use Rattle.grove_calls.specs.Due.{most_bytes};
 ghost use Rattle.grove_calls.specs.Spelled.{IsListOf};
 
-use edit_table::EditTable;
+use edit_table::{EditTable, read_table};
 use edit_text::{TextFault, header_lines, read_line, split_version};
 use grove_edits::EditList;
 use grove_sorts::Version;
 use seeded_hash::HashSeed;
 use std::alloc::Global;
-use table_text::read_table;
 use text_parts::split_at_first;
 
 /// The edits that a text spells, in the order of its lines, or the first line that spells none.

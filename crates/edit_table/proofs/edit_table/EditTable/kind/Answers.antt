@@ -1,4 +1,4 @@
-use Rattle.edit_table.proofs.Reading.{kind_read}
+use Rattle.edit_table.proofs.Tables.{kind_read}
 use Rattle.edit_table.proofs.edit_table.EditTable.kind.Goals as goal
 
 pub returns : goal.returns

@@ -1,6 +1,6 @@
 use Rattle.std.proofs.Common.{ap}
 use Rattle.grove_edits.specs.declared.edge.Edge.{Edge}
-use Rattle.edit_table.proofs.Reading.{edge_read}
+use Rattle.edit_table.proofs.Tables.{edge_read}
 use Rattle.edit_table.proofs.edit_table.EditTable.name.Goals as goal
 
 pub returns : goal.returns

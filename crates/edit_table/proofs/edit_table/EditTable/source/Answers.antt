@@ -1,4 +1,4 @@
-use Rattle.edit_table.proofs.Reading.{source_read}
+use Rattle.edit_table.proofs.Tables.{source_read}
 use Rattle.edit_table.proofs.edit_table.EditTable.source.Goals as goal
 
 pub returns-clause-source : goal.returns-clause-source

@@ -1,4 +1,4 @@
-use Rattle.edit_table.proofs.Reading.{target_read}
+use Rattle.edit_table.proofs.Tables.{target_read}
 use Rattle.edit_table.proofs.edit_table.EditTable.target.Goals as goal
 
 pub returns-clause-target : goal.returns-clause-target

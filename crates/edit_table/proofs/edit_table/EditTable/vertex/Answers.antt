@@ -1,5 +1,5 @@
 use Rattle.std.proofs.Common.{rules}
-use Rattle.edit_table.proofs.Reading.{number_fits}
+use Rattle.edit_table.proofs.Tables.{number_fits}
 use Rattle.edit_table.proofs.edit_table.EditTable.vertex.Goals as goal
 
 pub overflow_cast-number : goal.overflow_cast-number

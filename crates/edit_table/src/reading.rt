@@ -1,13 +1,14 @@
 ghost use Rattle.std.specs.Prelude.{◌≡◌, ◌+◌, [], length, IfOk, IfErr};
 ghost use Rattle.edit_text.specs.Text.{HasTextFault, SpellsAll};
-ghost use Rattle.table_text.specs.Spelled.{IsListOfLines};
+ghost use Rattle.edit_table.specs.Spelled.{IsListOfLines};
 
-use edit_table::{EditTable, EditTableBuilder, NoMemory};
+use crate::edit_table::EditTable;
+use crate::edit_table_builder::EditTableBuilder;
 use edit_text::{TextFault, read_spelled_line};
 use grove_sorts::Version;
 use seeded_hash::HashSeed;
 use std::alloc::Global;
-use text_parts::split_at_first;
+use text_parts::{NoMemory, split_at_first};
 
 /// The table of the canonical list of the edits that lines of the version spell, or the first line that spells none. The table tells its
 /// vertices apart by their hash under a seed.
