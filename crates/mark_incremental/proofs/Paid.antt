@@ -1,6 +1,5 @@
 -- What was counted is within what a walk may count, also where it is cut off: there is a walk down that goes on from what is open.
 use Rattle.std.proofs.Common.{◌≡◌, ◌⊎◌, inl, inr, ℕ, suc, ◌+◌, ◌*◌, ◌≤◌, Bool, true, false, None, List, [], ◌∷◌, ◌++◌, drop, length, refl, sym, ap, subst, ◌∙◌, append_assoc, add-zero, arith}
-use Rattle.std.specs.Prelude.{reverse}
 use Rattle.std.specs.List.{AllByRecursion}
 use Rattle.std.proofs.lemmas.List.Sums.{sum_by-append, sum_by-cons}
 use Rattle.grove_sorts.specs.declared.position.Position.{Position}
@@ -32,7 +31,7 @@ use Rattle.mark_incremental.specs.Walking.{Level, demands, made_of, behind, Awai
 use Rattle.mark_incremental.specs.Ticks.{weight, weight_of, weight_open, places_cost, after_next, open_cost, AreCounted, IsPaid, IsPaidFor, IsWalkPaid, AreTreesPaid}
 use Rattle.mark_incremental.proofs.Tails.{BeginsWithTree, first_tree, down}
 use Rattle.mark_incremental.proofs.Trees.{as_tree}
-use Rattle.mark_incremental.proofs.Steps.{are_left, edges_left, child_agrees, child_stands_there, again, on_top}
+use Rattle.mark_incremental.proofs.Steps.{are_left, edges_left, child_agrees, child_stands_there, again}
 
 -- ---- weights
 
@@ -197,11 +196,9 @@ module _ (live : List Edge) (types : List Typ) (ctxs : List Context) (places : P
       record { all = end.all; made = end.done; within = omega (arith, same, as_made, within, in_all, more) }
 
   -- positions of the innermost vertex that are left are begun
-  pub paid_on : (old off : List Frame) (fr : Frame) → old ≡ off ++ fr ∷ [] → IsUnderWay live types ctxs places judged from before (reverse old) made → AreCounted live start paid count (reverse old) made
+  pub paid_on : (fr : Frame) (frames : List Frame) → IsUnderWay live types ctxs places judged from before (fr ∷ frames) made → AreCounted live start paid count (fr ∷ frames) made
       → steps ≤ count + places_cost live fr.vertex.now (after_next fr) → IsPaidFor live types ctxs places judged from before start paid steps
-  paid_on old off fr was way counted more =
-      let top : open_cost live (reverse old) ≡ open_cost live (fr ∷ reverse off) = ap (open_cost live) (on_top off old fr was) in
-      paid_now (reverse old) way counted (omega (arith, top, more))
+  paid_on fr frames way counted more = paid_now (fr ∷ frames) way counted (omega (arith, more))
 
   -- positions of the first child that is left are begun
   pub paid_down : AllByRecursion IsWellFormed live → AreRecordsOf types ctxs places → (fr : Frame) (frames : List Frame) (e : Edge) (rest : List Edge) → fr.left ≡ e ∷ rest → IsFound live types ctxs places judged fr.demand e.target None

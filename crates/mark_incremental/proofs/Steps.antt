@@ -600,25 +600,3 @@ first_is (y ∷ ys) x is = ap (λ z. z ∷ ys) (some_part y x is)
 -- the innermost frame is the last that was put on
 pub on_top : (frames new : List Frame) (fr : Frame) → new ≡ frames ++ fr ∷ [] → reverse new ≡ fr ∷ reverse frames
 on_top frames new fr pushed = ap reverse pushed ∙ reverse-append frames (fr ∷ [])
-
-pub two_on_top : (frames one two : List Frame) (fr child : Frame) → one ≡ frames ++ fr ∷ [] → two ≡ one ++ child ∷ [] → reverse two ≡ child ∷ fr ∷ reverse frames
-two_on_top frames one two fr child first second = on_top one two child second ∙ ap (λ frs. child ∷ frs) (on_top frames one fr first)
-
--- what hands something on, where a frame is the innermost
-pub handed_top : (types : List Typ) (g : Given) (fr : Frame) (frames before now : List Frame) → before ≡ fr ∷ frames → IsHanded types g before now → (taken : Frame) × (now ≡ taken ∷ frames) × (0 < length fr.left → IsAccepted types fr g taken)
-handed_top types g fr frames before now is handed = subst (λ (frs : List Frame). IsHanded types g frs now) is handed
-
-module _ (live : List Edge) (well : AllByRecursion IsWellFormed live) (types : List Typ) (ctxs : List Context) (places : Places Record) (judged : Vertex → Bool) (from : Start) (before : List (Vertex × Kept)) where
-  -- what a child that is not judged again gives is handed on
-  pub handed_passes : (fr : Frame) (frames pushed now : List Frame) (made : List (Vertex × Record)) (e : Edge) (rest : List Edge) (g : Given) → fr.left ≡ e ∷ rest
-      → IsFound live types ctxs places judged fr.demand e.target (Some g) → pushed ≡ fr ∷ frames → IsHanded types g pushed now
-      → IsUnderWay live types ctxs places judged from before (fr ∷ frames) made → IsUnderWay live types ctxs places judged from before now made
-  handed_passes fr frames pushed now made e rest g first found top handed way =
-      by (handed_top types g fr frames pushed now top handed) where
-        some : 0 < length fr.left
-        some = let len : length fr.left ≡ suc (length rest) = ap length first in omega (arith, len)
-
-        by : (taken : Frame) × (now ≡ taken ∷ frames) × (0 < length fr.left → IsAccepted types fr g taken) → IsUnderWay live types ctxs places judged from before now made
-        by (taken, is, accepts) =
-            subst (λ (frs : List Frame). IsUnderWay live types ctxs places judged from before frs made) (sym is)
-            (passed live well types ctxs places judged from before fr taken frames made e rest g first found (accepts some) way)

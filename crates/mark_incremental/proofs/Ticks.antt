@@ -1,5 +1,5 @@
 -- What the steps of a walk down a tree count.
-use Rattle.std.proofs.Common.{◌≡◌, ◌⊎◌, inl, inr, ℕ, zero, suc, ◌+◌, ◌*◌, ◌<◌, ◌≤◌, List, [], ◌∷◌, ◌++◌, take, drop, length, None, Some, refl, sym, ap, ◌∙◌, length-append, arith}
+use Rattle.std.proofs.Common.{◌≡◌, ◌⊎◌, inl, inr, ℕ, zero, suc, ◌+◌, ◌*◌, ◌<◌, ◌≤◌, List, [], ◌∷◌, ◌++◌, take, drop, length, None, Some, refl, sym, ap, subst, ◌∙◌, length-append, arith}
 use Rattle.std.specs.Prelude.{reverse, slice_get}
 use Rattle.std.proofs.lemmas.List.Sums.{sum_by-append}
 use Rattle.grove_sorts.specs.declared.position.Position.{Position}
@@ -20,7 +20,7 @@ use Rattle.mark_incremental.specs.Walking.{IsBegun}
 use Rattle.mark_incremental.specs.Ticks.{weight, weight_of, weight_open, from_next, places_cost, after_next, begun_cost, still_costs, waiting_cost, open_cost, AreCounted, IsMoved, AreMoved}
 use Rattle.mark_incremental.proofs.Levels.{drop_cases}
 use Rattle.mark_incremental.proofs.Steps.{on_top}
-use Rattle.mark_incremental.proofs.Stack.{empty, none_off}
+use Rattle.mark_incremental.proofs.Stack.{empty}
 
 drop_next : (n : ℕ) (row : List (Position × Sort)) (p : Position × Sort) (ps : List (Position × Sort)) → drop n row ≡ p ∷ ps → drop (suc n) row ≡ ps
 drop_next zero [] p ps is = absurd cc
@@ -192,20 +192,15 @@ module _ (live : List Edge) where
       is.vertex
       ∙ ap (λ (es : List Edge). still_costs live fr es) is.left
 
-  pub one_moved : (old off new : List Frame) (fr taken : Frame) → old ≡ off ++ fr ∷ [] → new ≡ off ++ taken ∷ [] → IsMoved fr taken → AreMoved live (reverse old) (reverse new)
-  one_moved old off new fr taken was is moved = record {
-    costs =
-        ap (open_cost live) (on_top off new taken is) ∙ ap (λ n. n + waiting_cost live (reverse off)) (moved_costs fr taken moved) ∙ sym (ap (waiting_cost live) (on_top off old fr was));
-    weighs =
-        ap (weight_open live) (on_top off new taken is) ∙ ap (λ (v : Vertex). weight live v + weight_open live (reverse off)) moved.vertex
-        ∙ sym (ap (weight_open live) (on_top off old fr was));
+  pub taken_moved : (fr taken : Frame) (frames : List Frame) → IsMoved fr taken → AreMoved live (fr ∷ frames) (taken ∷ frames)
+  taken_moved fr taken frames moved = record {
+    costs = ap (λ n. n + waiting_cost live frames) (moved_costs fr taken moved);
+    weighs = ap (λ (v : Vertex). weight live v + weight_open live frames) moved.vertex;
   }
 
-  pub none_moved : (old new : List Frame) → old ≡ new ++ [] → length old ≡ 0 → AreMoved live (reverse old) (reverse new)
-  none_moved old new is none =
-      let nothing : old ≡ [] = empty old none in
-      let nothing_now : reverse new ≡ [] = sym (none_off old new is) ∙ ap reverse nothing in
-      record {
-        costs = ap (open_cost live) nothing_now ∙ sym (ap (λ (frs : List Frame). waiting_cost live (reverse frs)) nothing);
-        weighs = ap (weight_open live) nothing_now ∙ sym (ap (λ (frs : List Frame). weight_open live (reverse frs)) nothing);
-      }
+  pub one_moved : (old off : List Frame) (fr taken : Frame) → old ≡ off ++ fr ∷ [] → IsMoved fr taken → AreMoved live (reverse old) (taken ∷ reverse off)
+  one_moved old off fr taken was moved =
+      subst (λ (frs : List Frame). AreMoved live frs (taken ∷ reverse off)) (sym (on_top off old fr was)) (taken_moved fr taken (reverse off) moved)
+
+  pub none_moved : (old : List Frame) → length old ≡ 0 → AreMoved live (reverse old) []
+  none_moved old none = subst (λ (frs : List Frame). AreMoved live (reverse frs) []) (sym (empty old none)) record { costs = refl; weighs = refl }

@@ -1,5 +1,5 @@
 -- Inner model, which no public contract cites: a walk down a tree, by the vertices that are open.
-use Rattle.std.specs.Prelude.{◌≡◌, ◌⊎◌, ◌↔◌, ◌<◌, ℕ, suc, Bool, IsTrue, Some, List, [], ◌∷◌, ◌++◌, length, take, drop, map, if◌then◌else◌}
+use Rattle.std.specs.Prelude.{◌≡◌, ◌⊎◌, ◌↔◌, ◌<◌, ℕ, suc, Bool, IsTrue, Some, List, [], ◌∷◌, ◌++◌, length, take, drop, map, reverse, if◌then◌else◌}
 use Rattle.grove_sorts.specs.declared.position.Position.{Position}
 use Rattle.grove_sorts.specs.declared.sort.Sort.{Sort}
 use Rattle.grove_sorts.specs.Ctor.{positions, sort_of_ctor}
@@ -201,6 +201,10 @@ pub record IsSettled (types : List Typ) (ctxs : List Context) (v : Vertex) (open
   pub numbers : IsRecordOf types ctxs kept
 
 -- ---- the walk
+
+-- the vertices that are open, innermost first: none once the walk has ended
+abbrev pub still_open : Bool → Frame → List Frame → List Frame
+still_open ended innermost outer = if ended then [] else innermost ∷ reverse outer
 
 -- what the records that are made stand for
 abbrev pub meant : List Typ → List Context → List (Vertex × Record) → List (Vertex × Kept)

@@ -178,7 +178,8 @@ impl<'t> Walk<'t> {
             let Some(passed) = self.pass(types, ctxs, frame, steps) else {
                 return Ok(None);
             };
-            frame = self.go_on(alloc, types, ctxs, &passed, steps)?;
+            frame = passed;
+            self.go_on(alloc, types, ctxs, &mut frame, steps)?;
         }
         Ok(None)
     }

@@ -1,4 +1,4 @@
-ghost use Rattle.std.specs.Prelude.{◌≡◌, ◌+◌, ◌<◌, ◌≤◌, List, drop, length, IfOk, if◌then◌else◌};
+ghost use Rattle.std.specs.Prelude.{◌≡◌, ◌+◌, ◌<◌, ◌≤◌, List, drop, length, IfOk, OnOk, if◌then◌else◌};
 ghost use Rattle.grove_sorts.specs.Ctor.{positions};
 ghost use Rattle.live_graph.specs.Live.{live};
 ghost use Rattle.type_core.specs.Typ.{Typ};
@@ -149,29 +149,30 @@ impl<'t> Walk<'t> {
         self.at_next(alloc, types, ctxs, vertex, state, steps)
     }
 
-    /// A vertex all of whose children at a position are judged, at the position that comes after it.
+    /// Brings a vertex all of whose children at a position are judged to the position that comes after it.
     pub(crate) fn go_on<L: Ledger>(
         &self,
         alloc: Global,
         types: &mut TypeTable,
         ctxs: &mut CtxTable,
-        frame: &Frame<'t>,
+        frame: &mut Frame<'t>,
         steps: &mut Steps<L>,
-    ) -> Result<Frame<'t>, NoMemory>
-        requires frame { IsFrameOf types.old ctxs.old frame.now }
-        requires next { frame.now.state.next < length (positions frame.now.vertex.now.ctor) }
-        ensures vertex { IfOk result (λ fr. fr.vertex.now ≡ frame.now.vertex.now) }
-        ensures filled { IfOk result (λ fr. fr.state ≡ filled_with frame.now.given frame.now.state) }
-        ensures was { IfOk result (λ fr. IsOpenOf types.old ctxs.old fr.state) }
-        ensures begun { IfOk result (IsBegun (live self.now.graph.now) types.old types.new ctxs.old ctxs.new) }
-        ensures numbers { IfOk result (IsFrameOf types.new ctxs.new) }
-        ensures ticks { IfOk result (λ fr. steps.new ≡ steps.old + begun_cost fr) }
-        ensures at_most { steps.new ≤ steps.old + places_cost (live self.now.graph.now) frame.now.vertex.now (after_next frame.now) }
+    ) -> Result<(), NoMemory>
+        requires frame { IsFrameOf types.old ctxs.old frame.old }
+        requires next { frame.old.state.next < length (positions frame.old.vertex.now.ctor) }
+        ensures vertex { OnOk result (frame.new.vertex.now ≡ frame.old.vertex.now) }
+        ensures filled { OnOk result (frame.new.state ≡ filled_with frame.old.given frame.old.state) }
+        ensures was { OnOk result (IsOpenOf types.old ctxs.old frame.new.state) }
+        ensures begun { OnOk result (IsBegun (live self.now.graph.now) types.old types.new ctxs.old ctxs.new frame.new) }
+        ensures numbers { OnOk result (IsFrameOf types.new ctxs.new frame.new) }
+        ensures ticks { OnOk result (steps.new ≡ steps.old + begun_cost frame.new) }
+        ensures at_most { steps.new ≤ steps.old + places_cost (live self.now.graph.now) frame.old.vertex.now (after_next frame.old) }
         ensures types { KeepsTypes types.old types.new }
         ensures contexts { KeepsContexts ctxs.old ctxs.new }
     {
         let mut state = frame.state;
         fill(&mut state, frame.given);
-        self.at_next(alloc, types, ctxs, frame.vertex, state, steps)
+        *frame = self.at_next(alloc, types, ctxs, frame.vertex, state, steps)?;
+        Ok(())
     }
 }

@@ -15,7 +15,7 @@ ghost use Rattle.kept_records.specs.Kept.{Kept};
 ghost use Rattle.mark_store.specs.declared.record.Record.{Record};
 ghost use Rattle.mark_incremental.specs.Reading.{AreRecordsOf};
 ghost use Rattle.mark_incremental.specs.Looking.{on, IsFound};
-ghost use Rattle.mark_incremental.specs.Walking.{AreFramesOf, AreMadeOf, IsFrameOf, IsHanded, IsAccepted, Start, start_at, IsStart, IsUnderWay, HasMadeFrom, HasMadeTree};
+ghost use Rattle.mark_incremental.specs.Walking.{AreFramesOf, AreMadeOf, IsFrameOf, IsHanded, IsAccepted, Start, start_at, IsStart, still_open, IsUnderWay, HasMadeFrom, HasMadeTree};
 ghost use Rattle.mark_incremental.specs.Ticks.{weight_of, AreCounted, AreMoved, IsPaidFor, IsWalkPaidFor, IsTreePaidFor};
 
 use crate::frame::{Frame, accept};
@@ -30,27 +30,29 @@ use live_graph::LiveEdge;
 use mark_step::Demand;
 use mark_store::Record;
 use std::alloc::Global;
+use std::mem;
 use std::sync::ledger::Ledger;
 use text_parts::NoMemory;
 use type_core::TypeTable;
 
-// Gives something to the innermost vertex, if there is one: its first child that is left has given it.
+// Takes the innermost vertex away, which gives this to the one around it, if there is one. Whether there was none.
 fn hand_on<'t>(
     types: &TypeTable,
-    stack: &mut Vec<Frame<'t>>,
+    innermost: &mut Frame<'t>,
+    outer: &mut Vec<Frame<'t>>,
     given: Given<'t>,
-) -> Result<(), NoMemory>
+) -> bool
     requires { IsGivenOf types.now given }
-    ensures handed { OnOk result (IsHanded types.now given.entry (reverse stack.old.items) (reverse stack.new.items)) }
-    ensures moved { (live : List Edge) → OnOk result (AreMoved live (reverse stack.old.items) (reverse stack.new.items)) }
-    ensures numbers { (ctxs : List Context) → AreFramesOf types.now ctxs (reverse stack.old.items) → OnOk result (AreFramesOf types.now ctxs (reverse stack.new.items)) }
+    ensures handed { IsHanded types.now given.entry (reverse outer.old.items) (still_open result innermost.new outer.new.items) }
+    ensures moved { (live : List Edge) → AreMoved live (reverse outer.old.items) (still_open result innermost.new outer.new.items) }
+    ensures numbers { (ctxs : List Context) → AreFramesOf types.now ctxs (reverse outer.old.items) → AreFramesOf types.now ctxs (still_open result innermost.new outer.new.items) }
 {
-    let Some(mut frame) = stack.pop() else {
-        return Ok(());
+    let Some(around) = outer.pop() else {
+        return true;
     };
-    accept(types, &mut frame, given);
-    stack.push(frame)?;
-    Ok(())
+    *innermost = around;
+    accept(types, innermost, given);
+    false
 }
 
 impl<'t> Walk<'t> {
@@ -60,32 +62,31 @@ impl<'t> Walk<'t> {
         alloc: Global,
         types: &mut TypeTable,
         ctxs: &mut CtxTable,
-        stack: &mut Vec<Frame<'t>>,
-        frame: Frame<'t>,
+        innermost: &mut Frame<'t>,
+        outer: &mut Vec<Frame<'t>>,
         edge: &LiveEdge<'t>,
         steps: &mut Steps<L>,
     ) -> Result<(), NoMemory>
         requires records { AreRecordsOf types.old ctxs.old self.now.records.now }
-        requires frames { AreFramesOf types.old ctxs.old (frame ∷ reverse stack.old.items) }
-        requires first { slice_get frame.left 0 ≡ Some edge.now }
-        requires found { IsFound (live self.now.graph.now) types.old ctxs.old self.now.records.now (on self.now.whole self.now.passed.now) frame.demand edge.now.target None }
+        requires frames { AreFramesOf types.old ctxs.old (innermost.old ∷ reverse outer.old.items) }
+        requires first { slice_get innermost.old.left 0 ≡ Some edge.now }
+        requires found { IsFound (live self.now.graph.now) types.old ctxs.old self.now.records.now (on self.now.whole self.now.passed.now) innermost.old.demand edge.now.target None }
         ensures way { (from : Start) (before : List (Vertex × Kept)) (made : List (Vertex × Record)) → AreMadeOf types.old ctxs.old made
-            → IsUnderWay (live self.now.graph.now) types.old ctxs.old self.now.records.now (on self.now.whole self.now.passed.now) from before (frame.entry ∷ reverse stack.old.items) made
-            → OnOk result (IsUnderWay (live self.now.graph.now) types.new ctxs.new self.now.records.now (on self.now.whole self.now.passed.now) from before (reverse stack.new.items) made) }
-        ensures frames { OnOk result (AreFramesOf types.new ctxs.new (reverse stack.new.items)) }
-        ensures counted { (start paid count : ℕ) (made : List (Vertex × Record)) → steps.old ≤ count + 3 → AreCounted (live self.now.graph.now) start paid count (frame.entry ∷ reverse stack.old.items) made
-            → OnOk result (AreCounted (live self.now.graph.now) start paid steps.new (reverse stack.new.items) made) }
+            → IsUnderWay (live self.now.graph.now) types.old ctxs.old self.now.records.now (on self.now.whole self.now.passed.now) from before (innermost.old ∷ reverse outer.old.items) made
+            → OnOk result (IsUnderWay (live self.now.graph.now) types.new ctxs.new self.now.records.now (on self.now.whole self.now.passed.now) from before (innermost.new ∷ reverse outer.new.items) made) }
+        ensures frames { OnOk result (AreFramesOf types.new ctxs.new (innermost.new ∷ reverse outer.new.items)) }
+        ensures counted { (start paid count : ℕ) (made : List (Vertex × Record)) → steps.old ≤ count + 3 → AreCounted (live self.now.graph.now) start paid count (innermost.old ∷ reverse outer.old.items) made
+            → OnOk result (AreCounted (live self.now.graph.now) start paid steps.new (innermost.new ∷ reverse outer.new.items) made) }
         ensures paid { (from : Start) (before : List (Vertex × Kept)) (made : List (Vertex × Record)) (start paid count : ℕ) → steps.old ≤ count + 3
-            → IsUnderWay (live self.now.graph.now) types.old ctxs.old self.now.records.now (on self.now.whole self.now.passed.now) from before (frame.entry ∷ reverse stack.old.items) made
-            → AreCounted (live self.now.graph.now) start paid count (frame.entry ∷ reverse stack.old.items) made
+            → IsUnderWay (live self.now.graph.now) types.old ctxs.old self.now.records.now (on self.now.whole self.now.passed.now) from before (innermost.old ∷ reverse outer.old.items) made
+            → AreCounted (live self.now.graph.now) start paid count (innermost.old ∷ reverse outer.old.items) made
             → IsPaidFor (live self.now.graph.now) types.old ctxs.old self.now.records.now (on self.now.whole self.now.passed.now) from before start paid steps.new }
         ensures types { KeepsTypes types.old types.new }
         ensures contexts { KeepsContexts ctxs.old ctxs.new }
     {
-        let demand = frame.demand;
-        stack.push(frame)?;
+        let demand = innermost.demand;
         let child = self.begin(alloc, types, ctxs, edge.target(), demand, steps)?;
-        stack.push(child)?;
+        outer.push(mem::replace(innermost, child))?;
         Ok(())
     }
 
@@ -95,75 +96,75 @@ impl<'t> Walk<'t> {
         alloc: Global,
         types: &mut TypeTable,
         ctxs: &mut CtxTable,
-        stack: &mut Vec<Frame<'t>>,
-        frame: Frame<'t>,
+        innermost: &mut Frame<'t>,
+        outer: &mut Vec<Frame<'t>>,
         edge: &LiveEdge<'t>,
         steps: &mut Steps<L>,
     ) -> Result<(), NoMemory>
         requires records { AreRecordsOf types.old ctxs.old self.now.records.now }
-        requires frames { AreFramesOf types.old ctxs.old (frame ∷ reverse stack.old.items) }
-        requires first { slice_get frame.left 0 ≡ Some edge.now }
+        requires frames { AreFramesOf types.old ctxs.old (innermost.old ∷ reverse outer.old.items) }
+        requires first { slice_get innermost.old.left 0 ≡ Some edge.now }
         ensures way { (from : Start) (before : List (Vertex × Kept)) (made : List (Vertex × Record)) → AreMadeOf types.old ctxs.old made
-            → IsUnderWay (live self.now.graph.now) types.old ctxs.old self.now.records.now (on self.now.whole self.now.passed.now) from before (frame.entry ∷ reverse stack.old.items) made
-            → OnOk result (IsUnderWay (live self.now.graph.now) types.new ctxs.new self.now.records.now (on self.now.whole self.now.passed.now) from before (reverse stack.new.items) made) }
-        ensures frames { OnOk result (AreFramesOf types.new ctxs.new (reverse stack.new.items)) }
-        ensures counted { (start paid : ℕ) (made : List (Vertex × Record)) → AreCounted (live self.now.graph.now) start paid steps.old (frame.entry ∷ reverse stack.old.items) made
-            → OnOk result (AreCounted (live self.now.graph.now) start paid steps.new (reverse stack.new.items) made) }
+            → IsUnderWay (live self.now.graph.now) types.old ctxs.old self.now.records.now (on self.now.whole self.now.passed.now) from before (innermost.old ∷ reverse outer.old.items) made
+            → OnOk result (IsUnderWay (live self.now.graph.now) types.new ctxs.new self.now.records.now (on self.now.whole self.now.passed.now) from before (innermost.new ∷ reverse outer.new.items) made) }
+        ensures frames { OnOk result (AreFramesOf types.new ctxs.new (innermost.new ∷ reverse outer.new.items)) }
+        ensures counted { (start paid : ℕ) (made : List (Vertex × Record)) → AreCounted (live self.now.graph.now) start paid steps.old (innermost.old ∷ reverse outer.old.items) made
+            → OnOk result (AreCounted (live self.now.graph.now) start paid steps.new (innermost.new ∷ reverse outer.new.items) made) }
         ensures paid { (from : Start) (before : List (Vertex × Kept)) (made : List (Vertex × Record)) (start paid : ℕ)
-            → IsUnderWay (live self.now.graph.now) types.old ctxs.old self.now.records.now (on self.now.whole self.now.passed.now) from before (frame.entry ∷ reverse stack.old.items) made
-            → AreCounted (live self.now.graph.now) start paid steps.old (frame.entry ∷ reverse stack.old.items) made
+            → IsUnderWay (live self.now.graph.now) types.old ctxs.old self.now.records.now (on self.now.whole self.now.passed.now) from before (innermost.old ∷ reverse outer.old.items) made
+            → AreCounted (live self.now.graph.now) start paid steps.old (innermost.old ∷ reverse outer.old.items) made
             → IsPaidFor (live self.now.graph.now) types.old ctxs.old self.now.records.now (on self.now.whole self.now.passed.now) from before start paid steps.new }
         ensures types { KeepsTypes types.old types.new }
         ensures contexts { KeepsContexts ctxs.old ctxs.new }
     {
-        match self.look(types, ctxs, &frame.demand, edge.target(), steps) {
+        match self.look(types, ctxs, &innermost.demand, edge.target(), steps) {
             Some(given) => {
-                stack.push(frame)?;
-                hand_on(types, stack, given)
+                accept(types, innermost, given);
+                Ok(())
             }
-            None => self.descend(alloc, types, ctxs, stack, frame, edge, steps),
+            None => self.descend(alloc, types, ctxs, innermost, outer, edge, steps),
         }
     }
 
-    // Takes the innermost vertex one step further: a child is taken, the next position is begun, or its record is made.
+    // Takes the innermost vertex one step further: a child is taken, the next position is begun, or its record is made. Whether no vertex
+    // is open any more.
     fn step<L: Ledger>(
         &self,
         alloc: Global,
         types: &mut TypeTable,
         ctxs: &mut CtxTable,
-        stack: &mut Vec<Frame<'t>>,
+        innermost: &mut Frame<'t>,
+        outer: &mut Vec<Frame<'t>>,
         made: &mut Vec<(Vertex, Record)>,
         steps: &mut Steps<L>,
-    ) -> Result<(), NoMemory>
+    ) -> Result<bool, NoMemory>
         requires records { AreRecordsOf types.old ctxs.old self.now.records.now }
-        requires frames { AreFramesOf types.old ctxs.old (reverse stack.old.items) }
+        requires frames { AreFramesOf types.old ctxs.old (innermost.old ∷ reverse outer.old.items) }
         requires made { AreMadeOf types.old ctxs.old made.old.items }
         ensures way { (from : Start) (before : List (Vertex × Kept))
-            → IsUnderWay (live self.now.graph.now) types.old ctxs.old self.now.records.now (on self.now.whole self.now.passed.now) from before (reverse stack.old.items) made.old.items
-            → OnOk result (IsUnderWay (live self.now.graph.now) types.new ctxs.new self.now.records.now (on self.now.whole self.now.passed.now) from before (reverse stack.new.items) made.new.items) }
+            → IsUnderWay (live self.now.graph.now) types.old ctxs.old self.now.records.now (on self.now.whole self.now.passed.now) from before (innermost.old ∷ reverse outer.old.items) made.old.items
+            → IfOk result (λ ended. IsUnderWay (live self.now.graph.now) types.new ctxs.new self.now.records.now (on self.now.whole self.now.passed.now) from before (still_open ended innermost.new outer.new.items) made.new.items) }
         ensures made { OnOk result (AreMadeOf types.new ctxs.new made.new.items) }
-        ensures frames { OnOk result (AreFramesOf types.new ctxs.new (reverse stack.new.items)) }
-        ensures counted { (start paid : ℕ) → AreCounted (live self.now.graph.now) start paid steps.old (reverse stack.old.items) made.old.items
-            → OnOk result (AreCounted (live self.now.graph.now) start paid steps.new (reverse stack.new.items) made.new.items) }
+        ensures frames { IfOk result (λ ended. AreFramesOf types.new ctxs.new (still_open ended innermost.new outer.new.items)) }
+        ensures counted { (start paid : ℕ) → AreCounted (live self.now.graph.now) start paid steps.old (innermost.old ∷ reverse outer.old.items) made.old.items
+            → IfOk result (λ ended. AreCounted (live self.now.graph.now) start paid steps.new (still_open ended innermost.new outer.new.items) made.new.items) }
         ensures paid { (from : Start) (before : List (Vertex × Kept)) (start paid : ℕ)
-            → IsUnderWay (live self.now.graph.now) types.old ctxs.old self.now.records.now (on self.now.whole self.now.passed.now) from before (reverse stack.old.items) made.old.items
-            → AreCounted (live self.now.graph.now) start paid steps.old (reverse stack.old.items) made.old.items
+            → IsUnderWay (live self.now.graph.now) types.old ctxs.old self.now.records.now (on self.now.whole self.now.passed.now) from before (innermost.old ∷ reverse outer.old.items) made.old.items
+            → AreCounted (live self.now.graph.now) start paid steps.old (innermost.old ∷ reverse outer.old.items) made.old.items
             → IsPaidFor (live self.now.graph.now) types.old ctxs.old self.now.records.now (on self.now.whole self.now.passed.now) from before start paid steps.new }
         ensures types { KeepsTypes types.old types.new }
         ensures contexts { KeepsContexts ctxs.old ctxs.new }
     {
-        let Some(frame) = stack.pop() else {
-            return Ok(());
-        };
-        if let Some((edge, _)) = frame.left.split_first() {
-            return self.take(alloc, types, ctxs, stack, frame, &edge, steps);
+        if let Some((edge, _)) = innermost.left.split_first() {
+            self.take(alloc, types, ctxs, innermost, outer, &edge, steps)?;
+            return Ok(false);
         }
-        if frame.state.next < position_count(frame.state.ctor) {
-            stack.push(self.go_on(alloc, types, ctxs, &frame, steps)?)?;
-            return Ok(());
+        if innermost.state.next < position_count(innermost.state.ctor) {
+            self.go_on(alloc, types, ctxs, innermost, steps)?;
+            return Ok(false);
         }
-        let given = settle(alloc, types, ctxs, &frame, made)?;
-        hand_on(types, stack, given)
+        let given = settle(alloc, types, ctxs, innermost, made)?;
+        Ok(hand_on(types, innermost, outer, given))
     }
 
     /// Lists the records that a walk down from a vertex makes, of which this is demanded. It ticks at most five times for each of their
@@ -191,13 +192,14 @@ impl<'t> Walk<'t> {
         ensures types { KeepsTypes types.old types.new }
         ensures contexts { KeepsContexts ctxs.old ctxs.new }
     {
-        let mut stack = Vec::new(alloc);
-        stack.push(self.begin(alloc, types, ctxs, start, demand, steps)?)?;
+        // The innermost open vertex stays in place; those around it wait, innermost last.
+        let mut innermost = self.begin(alloc, types, ctxs, start, demand, steps)?;
+        let mut outer = Vec::new(alloc);
         for _ in 0..u64::MAX {
-            if stack.is_empty() {
+            let ended = self.step(alloc, types, ctxs, &mut innermost, &mut outer, made, steps)?;
+            if ended {
                 return Ok(());
             }
-            self.step(alloc, types, ctxs, &mut stack, made, steps)?;
         }
         // A tree is no larger than memory.
         Err(NoMemory)
