@@ -1,0 +1,6 @@
+use Rattle.std.proofs.Common.{refl}
+use Rattle.kept_printer.proofs.Places.{bare}
+use Rattle.kept_printer.proofs.laws.probe.Goals as goal
+
+pub returns : goal.returns
+returns c = λ n. refl
