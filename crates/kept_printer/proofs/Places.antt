@@ -137,7 +137,7 @@ tree_leads e b children p depth d below top is =
     (vertex_under e.target b children d (depth + 1) (with_type s (type_of x b) top ∷ below) (omega arith))
 
 -- where no child stands at a position
-pub record IsBare (f : Forest) (p : Position) : Type 0 where
+record IsBare (f : Forest) (p : Position) : Type 0 where
   pub nodes : (depth : ℕ) (d : Demanded) → marked_children f depth p d ≡ []
   pub typ : (d : Demanded) → judged_child f p d ≡ Unknown
 
@@ -146,7 +146,7 @@ not_here : (b : Bool) (n : ℕ) → cond b (suc n) n ≡ 0 → (b ≡ false) × 
 not_here true n h = absurd (omega (arith, h))
 not_here false n h = (refl, h)
 
-pub bare : (f : Forest) (p : Position) → count_at f p ≡ 0 → IsBare f p
+bare : (f : Forest) (p : Position) → count_at f p ≡ 0 → IsBare f p
 bare none p count = record { nodes = λ depth d. refl; typ = λ d. refl }
 bare (multi_ref e rest) p count =
     let other = not_here (is_same_position e.position p) (count_at rest p) count in
@@ -173,3 +173,101 @@ bare (tree e below rest) p count =
       (marked_children rest depth p d)) other.0 ∙ later.nodes depth d;
       typ = λ d. ap (λ b. cond b (type_of (expression e.target.ctor d.scope d.wanted below) below) (judged_child rest p d)) other.0 ∙ later.typ d;
     }
+
+-- a reference to a vertex
+multi_plain : (depth : ℕ) (p : Position) (e : Edge) → IsPlain (sort_of_ctor e.target.ctor) (child_node depth p e (MultiRef e.target)).what []
+multi_plain depth p e = record { explains = λ w m. refl; opened = λ m. refl }
+
+cycle_plain : (depth : ℕ) (p : Position) (e : Edge) → IsPlain (sort_of_ctor e.target.ctor) (child_node depth p e (CycleRef e.target)).what []
+cycle_plain depth p e = record { explains = λ w m. refl; opened = λ m. refl }
+
+-- The first child stands at the position, with such nodes and of this type where it is a sole one, or it does not. Here b says which,
+-- own are its nodes and rest those of the others.
+sole_by : (s : Sort) (below : List Above) (top : Above) (b : Bool) (n : ℕ) (t later : Typ) (own rest : List MarkedNode) → cond b (suc n) n ≡ 1
+    → (b ≡ true → Lead below top (with_type s t top) own) → (n ≡ 0 → rest ≡ []) → (n ≡ 1 → Lead below top (with_type s later top) rest)
+    → Lead below top (with_type s (cond b t later) top) (cond b (own ++ rest) rest)
+sole_by s below top true n t later own rest count first others next =
+    let alone : own ++ rest ≡ own = ap (λ (ms : List MarkedNode). own ++ ms) (others (omega (arith, count))) ∙ append-nil own in
+    subst (Lead below top (with_type s t top)) (sym alone) (first refl)
+sole_by s below top false n t later own rest count first others next = next count
+
+-- the same where the first child is a reference
+sole_reference : (s : Sort) (below : List Above) (top : Above) (b : Bool) (n : ℕ) (later : Typ) (own rest : List MarkedNode) → cond b (suc n) n ≡ 1
+    → (b ≡ true → Lead below top (with_type s Unknown top) own) → (n ≡ 0 → rest ≡ []) → (n ≡ 0 → later ≡ Unknown) → (n ≡ 1 → Lead below top (with_type s later top) rest)
+    → Lead below top (with_type s later top) (cond b (own ++ rest) rest)
+sole_reference s below top b n later own rest count first others unknown next =
+    subst (λ t. Lead below top (with_type s t top) (cond b (own ++ rest) rest)) (same b count) (sole_by s below top b n Unknown later own rest count first others next) where
+      same : (a : Bool) → cond a (suc n) n ≡ 1 → cond a Unknown later ≡ later
+      same true h = sym (unknown (omega (arith, h)))
+      same false h = refl
+
+several_by : (below : List Above) (b : Bool) (own rest : List MarkedNode) → Lead below Several Several own → Lead below Several Several rest → Lead below Several Several (cond b (own ++ rest) rest)
+several_by below true own rest first later = leads_then below Several Several Several own rest first later
+several_by below false own rest first later = later
+
+forest_leads : (v : VertexOf) (f : Forest) → IsWellSorted v f → ChildrenLead v f
+forest_leads v none sorted = record {
+  sole = λ p s known one depth d below top is wants. absurd (no_child p one);
+  several = λ p depth d below is wants more go. go;
+} where
+  no_child : (p : Position) → count_at none p ≡ 1 → ⊥
+  no_child p h = omega arith
+forest_leads v (multi_ref e rest) sorted = by_rest (forest_leads v rest sorted.1) where
+  by_rest : ChildrenLead v rest → ChildrenLead v (multi_ref e rest)
+  by_rest later = record {
+    sole = λ p s known one depth d below top is wants.
+        sole_reference s below top (is_same_position e.position p) (count_at rest p) (judged_child rest p d)
+        (marked_plain (sort_of_ctor e.target.ctor) d.wanted (child_node depth p e (MultiRef e.target)) ∷ []) (marked_children rest depth p d) one
+        (λ here. subst (λ k. Lead below top (with_type k Unknown top) (marked_plain (sort_of_ctor e.target.ctor) d.wanted (child_node depth p e (MultiRef e.target)) ∷ [])) (child_has_sort v e (child_edges rest) p s sorted.0 here known)
+        (plain_leads (sort_of_ctor e.target.ctor) (child_node depth p e (MultiRef e.target)) d.wanted below top (multi_plain depth p e) is wants))
+        (λ empty. (bare rest p empty).nodes depth d) (λ empty. (bare rest p empty).typ d) (λ one_later. later.sole p s known one_later depth d below top is wants);
+    several = λ p depth d below is wants.
+        several_by below (is_same_position e.position p) (marked_plain (sort_of_ctor e.target.ctor) d.wanted (child_node depth p e (MultiRef e.target)) ∷ []) (marked_children rest depth p d)
+        (plain_leads (sort_of_ctor e.target.ctor) (child_node depth p e (MultiRef e.target)) d.wanted below Several (multi_plain depth p e) is (sym wants)) (later.several p depth d below is wants);
+  }
+forest_leads v (cycle_ref e rest) sorted = by_rest (forest_leads v rest sorted.1) where
+  by_rest : ChildrenLead v rest → ChildrenLead v (cycle_ref e rest)
+  by_rest later = record {
+    sole = λ p s known one depth d below top is wants.
+        sole_reference s below top (is_same_position e.position p) (count_at rest p) (judged_child rest p d)
+        (marked_plain (sort_of_ctor e.target.ctor) d.wanted (child_node depth p e (CycleRef e.target)) ∷ []) (marked_children rest depth p d) one
+        (λ here. subst (λ k. Lead below top (with_type k Unknown top) (marked_plain (sort_of_ctor e.target.ctor) d.wanted (child_node depth p e (CycleRef e.target)) ∷ [])) (child_has_sort v e (child_edges rest) p s sorted.0 here known)
+        (plain_leads (sort_of_ctor e.target.ctor) (child_node depth p e (CycleRef e.target)) d.wanted below top (cycle_plain depth p e) is wants))
+        (λ empty. (bare rest p empty).nodes depth d) (λ empty. (bare rest p empty).typ d) (λ one_later. later.sole p s known one_later depth d below top is wants);
+    several = λ p depth d below is wants.
+        several_by below (is_same_position e.position p) (marked_plain (sort_of_ctor e.target.ctor) d.wanted (child_node depth p e (CycleRef e.target)) ∷ []) (marked_children rest depth p d)
+        (plain_leads (sort_of_ctor e.target.ctor) (child_node depth p e (CycleRef e.target)) d.wanted below Several (cycle_plain depth p e) is (sym wants)) (later.several p depth d below is wants);
+  }
+forest_leads v (tree e below rest) sorted = by_both (forest_leads e.target below sorted.1) (forest_leads v rest sorted.2) where
+  by_both : ChildrenLead e.target below → ChildrenLead v rest → ChildrenLead v (tree e below rest)
+  by_both inner later = record { sole = sole; several = several } where
+    sole : (p : Position) (s : Sort) → sort_at v.ctor p ≡ Some s → count_at (tree e below rest) p ≡ 1 → (depth : ℕ) (d : Demanded) (above : List Above) (top : Above) → depth ≡ suc (length above) → wanted_under top ≡ d.wanted
+        → Lead above top (with_type s (judged_child (tree e below rest) p d) top) (marked_children (tree e below rest) depth p d)
+    sole p s known one depth d above top is wants =
+        sole_by s above top (is_same_position e.position p) (count_at rest p) (type_of (expression e.target.ctor d.scope d.wanted below) below) (judged_child rest p d)
+        (marked_vertex (sort_of_ctor e.target.ctor) (expression e.target.ctor d.scope d.wanted below) below (child_node depth p e (Vertex e.target))
+        ∷ marked_places (expression e.target.ctor d.scope d.wanted below) (count_at below) (marked_children below) (judged_in below) (depth + 1) (positions e.target.ctor) []) (marked_children rest depth p d) one
+        (λ here. subst (λ k. Lead above top (with_type k (type_of (expression e.target.ctor d.scope d.wanted below) below) top)
+        (marked_vertex (sort_of_ctor e.target.ctor) (expression e.target.ctor d.scope d.wanted below) below (child_node depth p e (Vertex e.target))
+        ∷ marked_places (expression e.target.ctor d.scope d.wanted below) (count_at below) (marked_children below) (judged_in below) (depth + 1) (positions e.target.ctor) []))
+        (child_has_sort v e (child_edges rest) p s sorted.0 here known)
+        (tree_leads e below inner p depth d above top is))
+        (λ empty. (bare rest p empty).nodes depth d) (λ one_later. later.sole p s known one_later depth d above top is wants)
+
+    several : (p : Position) (depth : ℕ) (d : Demanded) (above : List Above) → depth ≡ suc (length above) → d.wanted ≡ Synthesise → Lead above Several Several (marked_children (tree e below rest) depth p d)
+    several p depth d above is wants =
+        several_by above (is_same_position e.position p)
+        (marked_vertex (sort_of_ctor e.target.ctor) (expression e.target.ctor d.scope d.wanted below) below (child_node depth p e (Vertex e.target))
+        ∷ marked_places (expression e.target.ctor d.scope d.wanted below) (count_at below) (marked_children below) (judged_in below) (depth + 1) (positions e.target.ctor) []) (marked_children rest depth p d)
+        (tree_leads e below inner p depth d above Several is) (later.several p depth d above is wants)
+
+-- ---- a whole tree
+
+pub tree_explained : (v : VertexOf) (f : Forest) → IsWellSorted v f → AreExplained [] (marked_tree v f)
+tree_explained v f sorted =
+    let x : Expression = by_itself v.ctor f in
+    let ms : List MarkedNode = marked_places x (count_at f) (marked_children f) (judged_in f) 1 (positions v.ctor) [] in
+    let d : Demanded = record { scope = []; wanted = Synthesise } in
+    vertex_explained v (sort_of_ctor v.ctor) x f (head_node v) [] [] ms refl refl
+    (subst (λ (ns : List MarkedNode). AreExplained (opened_by (sort_of_ctor v.ctor) v.ctor Synthesise ∷ []) ns) (append-nil ms)
+    (vertex_under v f (forest_leads v f sorted) d 1 [] refl [] (λ rest. tt) []))

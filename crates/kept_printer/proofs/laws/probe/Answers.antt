@@ -1,5 +1,5 @@
 use Rattle.std.proofs.Common.{refl}
-use Rattle.kept_printer.proofs.Places.{bare}
+use Rattle.kept_printer.proofs.Places.{tree_explained}
 use Rattle.kept_printer.proofs.laws.probe.Goals as goal
 
 pub returns : goal.returns
