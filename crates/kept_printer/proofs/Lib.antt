@@ -1,2 +1,3 @@
-pub mod Explained
-pub mod Places
+mod Explained
+mod Places
+mod Told

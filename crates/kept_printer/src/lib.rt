@@ -3,4 +3,4 @@
 
 mod laws;
 
-pub use laws::probe;
+pub use laws::records_tell_the_marking;
