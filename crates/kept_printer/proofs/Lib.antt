@@ -1,3 +1,5 @@
 mod Explained
 mod Places
 mod Told
+mod Stack
+mod Listed

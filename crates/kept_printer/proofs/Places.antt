@@ -167,10 +167,10 @@ bare (tree e below rest) p count =
     let later : IsBare rest p = bare rest p other.1 in
     record {
       nodes = λ depth d.
-      ap (λ b. cond b
-      (marked_vertex (sort_of_ctor e.target.ctor) (expression e.target.ctor d.scope d.wanted below) below (child_node depth p e (Vertex e.target))
-      ∷ (marked_places (expression e.target.ctor d.scope d.wanted below) (count_at below) (marked_children below) (judged_in below) (depth + 1) (positions e.target.ctor) [] ++ marked_children rest depth p d))
-      (marked_children rest depth p d)) other.0 ∙ later.nodes depth d;
+          ap (λ b. cond b
+          (marked_vertex (sort_of_ctor e.target.ctor) (expression e.target.ctor d.scope d.wanted below) below (child_node depth p e (Vertex e.target))
+          ∷ (marked_places (expression e.target.ctor d.scope d.wanted below) (count_at below) (marked_children below) (judged_in below) (depth + 1) (positions e.target.ctor) [] ++ marked_children rest depth p d))
+          (marked_children rest depth p d)) other.0 ∙ later.nodes depth d;
       typ = λ d. ap (λ b. cond b (type_of (expression e.target.ctor d.scope d.wanted below) below) (judged_child rest p d)) other.0 ∙ later.typ d;
     }
 
