@@ -50,7 +50,7 @@ told_more types records ns added above then left rest n a whole next is_left tol
     let before : List MarkedNode = meant_nodes types (marked_nodes ns added) in
     let at : List Above = up_to (node_of n).depth above in
     let step : m ∷ nodes_told records then rest ≡ nodes_told records above left =
-    ap (λ (as : List Above). m ∷ nodes_told records as rest) is_then ∙ ap (λ (k : MarkedNode). k ∷ nodes_told records (above_after k at) rest) told ∙ ap (nodes_told records above) (sym is_left) in
+    ap (λ (xs : List Above). m ∷ nodes_told records xs rest) is_then ∙ ap (λ (k : MarkedNode). k ∷ nodes_told records (above_after k at) rest) told ∙ ap (nodes_told records above) (sym is_left) in
     ap (λ (ms : List MarkedNode). ms ++ nodes_told records then rest) (marked_more types ns added n a next)
     ∙ (append_assoc before (m ∷ []) (nodes_told records then rest) ∙ (ap (λ (ms : List MarkedNode). before ++ ms) step ∙ so_far))
 

@@ -41,11 +41,11 @@ fn plain(types: &TypeTable, sort: Sort, mode: Mode) -> Added
 }
 
 // What is added to the node of a vertex that has this record.
-fn kept(record: Option<Record>) -> Added
-    ensures node { (types : List Typ) (ctxs : List Context) (node : LentNode) → meant types (with_added node result) ≡ node_kept (node_of node) (option_map (kept_by types ctxs) record) }
-    ensures numbers { (types : List Typ) (ctxs : List Context) → IfSome record (IsRecordOf types ctxs) → IsAddedOf types result }
+fn kept(found: Option<Record>) -> Added
+    ensures node { (types : List Typ) (ctxs : List Context) (node : LentNode) → meant types (with_added node result) ≡ node_kept (node_of node) (option_map (kept_by types ctxs) found) }
+    ensures numbers { (types : List Typ) (ctxs : List Context) → IfSome found (IsRecordOf types ctxs) → IsAddedOf types result }
 {
-    match record {
+    match found {
         Some(record) => Added {
             mode: record.mode,
             typ: record.typ,

@@ -31,10 +31,10 @@ loop-node-preserved c =
     ap (slice_get nodes) before.invariant.count ∙ slice_get_read nodes (length nodes) before.node-index node refl c.loop-node-test.true c.node-item.is in
     let added : Added = c.in_ok-next.next in
     record {
-      count = ap (λ (as : List Added). length as) c.in_ok-list.ensures ∙ length-append before.added.items (added ∷ []) ∙ ap (λ n. n + 1) before.invariant.count;
+      count = ap (λ (xs : List Added). length xs) c.in_ok-list.ensures ∙ length-append before.added.items (added ∷ []) ∙ ap (λ n. n + 1) before.invariant.count;
       parents = c.in_ok-next.ensures.parents;
       added = subst (AreAddedOf types) (sym c.in_ok-list.ensures) (added_more types before.added.items added before.invariant.added c.in_ok-next.ensures.numbers);
-      told = subst (λ (as : List Added). meant_nodes types (marked_nodes nodes as) ++ nodes_told (records_in c.args.marks.now) (parents_at types c.take-next.new.parents.items) (nodes_of rest) ≡ nodes_told (records_in c.args.marks.now) [] (nodes_of nodes)) (sym c.in_ok-list.ensures)
+      told = subst (λ (xs : List Added). meant_nodes types (marked_nodes nodes xs) ++ nodes_told (records_in c.args.marks.now) (parents_at types c.take-next.new.parents.items) (nodes_of rest) ≡ nodes_told (records_in c.args.marks.now) [] (nodes_of nodes)) (sym c.in_ok-list.ensures)
           (told_more types (records_in c.args.marks.now) nodes before.added.items (parents_at types before.parents.items) (parents_at types c.take-next.new.parents.items) (nodes_of (drop before.node-index nodes)) (nodes_of rest) node added
           (nodes_told (records_in c.args.marks.now) [] (nodes_of nodes)) next (ap nodes_of left) c.in_ok-next.ensures.told c.in_ok-next.ensures.above before.invariant.told);
     }
