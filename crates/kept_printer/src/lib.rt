@@ -6,9 +6,11 @@ mod added;
 mod laws;
 mod marking_trees;
 mod parent;
+mod printing;
 mod taking;
 mod wanted;
 
 pub use laws::records_tell_the_marking;
 pub use marking_trees::marked_by_records;
+pub use printing::append_print_text;
 pub use text_parts::NoMemory;

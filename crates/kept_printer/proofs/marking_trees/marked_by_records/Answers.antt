@@ -34,8 +34,8 @@ loop-node-preserved c =
       count = ap (λ (xs : List Added). length xs) c.in_ok-list.ensures ∙ length-append before.added.items (added ∷ []) ∙ ap (λ n. n + 1) before.invariant.count;
       parents = c.in_ok-next.ensures.parents;
       added = subst (AreAddedOf types) (sym c.in_ok-list.ensures) (added_more types before.added.items added before.invariant.added c.in_ok-next.ensures.numbers);
-      told = subst (λ (xs : List Added). meant_nodes types (marked_nodes nodes xs) ++ nodes_told (records_in c.args.marks.now) (parents_at types c.take-next.new.parents.items) (nodes_of rest) ≡ nodes_told (records_in c.args.marks.now) [] (nodes_of nodes)) (sym c.in_ok-list.ensures)
-          (told_more types (records_in c.args.marks.now) nodes before.added.items (parents_at types before.parents.items) (parents_at types c.take-next.new.parents.items) (nodes_of (drop before.node-index nodes)) (nodes_of rest) node added
+      told = subst (λ (xs : List Added). meant_nodes types (marked_nodes nodes xs) ++ nodes_told (records_in c.args.marks.now) (parents_at types c.take.new.parents.items) (nodes_of rest) ≡ nodes_told (records_in c.args.marks.now) [] (nodes_of nodes)) (sym c.in_ok-list.ensures)
+          (told_more types (records_in c.args.marks.now) nodes before.added.items (parents_at types before.parents.items) (parents_at types c.take.new.parents.items) (nodes_of (drop before.node-index nodes)) (nodes_of rest) node added
           (nodes_told (records_in c.args.marks.now) [] (nodes_of nodes)) next (ap nodes_of left) c.in_ok-next.ensures.told c.in_ok-next.ensures.above before.invariant.told);
     }
 
