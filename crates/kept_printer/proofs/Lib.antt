@@ -3,3 +3,4 @@ mod Places
 mod Told
 mod Stack
 mod Listed
+mod Heads
