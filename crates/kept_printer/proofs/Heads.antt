@@ -1,5 +1,5 @@
 -- Vertices of a graph that head its trees, and the text of all of them.
-use Rattle.std.proofs.Common.{◌≡◌, ℕ, suc, List, [], ◌∷◌, ◌++◌, length, refl, sym, ap, subst, ◌∙◌, append_assoc, append-nil, take, Result, Ok, Err, OnOk, OnErr}
+use Rattle.std.proofs.Common.{◌≡◌, ℕ, List, [], ◌∷◌, ◌++◌, length, refl, sym, ap, subst, ◌∙◌, append_assoc, append-nil, take, Result, Ok, Err, OnOk, OnErr}
 use Rattle.std.specs.Prelude.{true}
 use Rattle.std.specs.List.{AllByRecursion}
 use Rattle.std.proofs.lemmas.Bool.{or_left, or_right}
@@ -13,7 +13,7 @@ use Rattle.graph_words.specs.declared.class.Class.{Class}
 use Rattle.graph_words.specs.declared.class.Class.TheVariants.{Inner, NoParent as NoParentClass, Multi as MultiClass, Cycle as CycleClass}
 use Rattle.graph_words.specs.Class.{of_class}
 use Rattle.graph_words.specs.Whole.{IsVertexOf, AreVertices, AreLive}
-use Rattle.graph_table.specs.Table.{Table, live, vertex_at, IsNumber}
+use Rattle.graph_table.specs.Table.{Table, live, IsNumber}
 use Rattle.grove_decompose.specs.Trees.{vertices_of}
 use Rattle.grove_decompose.proofs.ByNumber.{all_of}
 use Rattle.grove_decompose.proofs.Going.{trees_along}

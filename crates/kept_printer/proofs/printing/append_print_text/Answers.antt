@@ -1,4 +1,4 @@
-use Rattle.std.proofs.Common.{List, subst}
+use Rattle.std.proofs.Common.{◌≡◌, List, subst, length, arith}
 use Rattle.std.specs.Prelude.{OnOk}
 use Rattle.grove_edits.specs.declared.edit.Edit.{Edit}
 use Rattle.grove_edits.specs.Graph.{graph}
@@ -15,5 +15,6 @@ returns-clause-appended c =
 
 pub returns-clause-unchanged : goal.returns-clause-unchanged
 returns-clause-unchanged c =
-    taken_off c.args.out.now.items c.append_grove-written.new.out.items c.whole_or_nothing.new.out.items c.len-start.result c.append_grove-written.result c.whole_or_nothing.result c.len-start.ensures
+    let starts : c.len-start.result ≡ length c.args.out.now.items = omega (arith, c.len-start.ensures, c.args.out.now.ok.0) in
+    taken_off c.args.out.now.items c.append_grove-written.new.out.items c.whole_or_nothing.new.out.items c.len-start.result c.append_grove-written.result c.whole_or_nothing.result starts
     c.whole_or_nothing.ensures.same c.whole_or_nothing.ensures.nothing c.append_grove-written.ensures.in_part
