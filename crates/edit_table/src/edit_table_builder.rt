@@ -6,10 +6,8 @@ ghost use Rattle.grove_edits.specs.Vertex.{root};
 use crate::edit_table::EditTable;
 use crate::likely_ends::WAITING;
 use crate::numbering::{plain_ctors, push_records};
-use crate::ranking::rank_ctors;
 use crate::record::Record;
-use crate::renumbering::renumber;
-use crate::sorting::make_canonical;
+use crate::settling::settle;
 use crate::vertex_key::{CtorKey, VertexKey};
 use grove_edits::{EditList, SpelledEdit, Vertex};
 use grove_sorts::Ctor;
@@ -72,11 +70,20 @@ impl<'t> EditTableBuilder<'t> {
         ensures edits { IfOk result (λ table. table.edits ≡ edits.now) }
     {
         let mut table = EditTableBuilder::with_seed(alloc, seed)?;
-        table.reserve(edits.len())?;
-        for edit in edits.as_slice() {
-            table.push(&SpelledEdit::of(edit))?;
-        }
+        table.push_list(edits)?;
         Ok(table)
+    }
+
+    // Appends the edits of a list.
+    fn push_list(&mut self, edits: &'t EditList) -> Result<(), NoMemory>
+        requires { self.old.edits ≡ [] }
+        ensures edits { OnOk result (self.new.edits ≡ edits.now) }
+    {
+        self.reserve(edits.len())?;
+        for edit in edits.as_slice() {
+            self.push(&SpelledEdit::of(edit))?;
+        }
+        Ok(())
     }
 
     /// Makes room for so many further edits, where their number is known, so that none is moved as they are pushed.
@@ -138,10 +145,13 @@ impl<'t> EditTableBuilder<'t> {
             mut records,
             waiting,
         } = self;
-        push_records(&mut ctors, &mut keys, &mut records, waiting.as_slice())?;
-        let ranks = rank_ctors(alloc, ctors.as_slice())?;
-        make_canonical(ctors.as_slice(), &ranks, keys.as_slice(), &mut records);
-        let keys = renumber(alloc, keys.as_slice(), &mut records)?;
+        let keys = settle(
+            alloc,
+            &mut ctors,
+            &mut keys,
+            &mut records,
+            waiting.as_slice(),
+        )?;
         Ok(EditTable {
             ctors,
             keys,

@@ -17,6 +17,7 @@ mod ranking;
 mod reading;
 mod record;
 mod renumbering;
+mod settling;
 mod sorting;
 mod table_vertex;
 mod vertex_key;

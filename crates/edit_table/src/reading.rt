@@ -1,4 +1,4 @@
-ghost use Rattle.std.specs.Prelude.{◌≡◌, ◌+◌, [], length, IfOk, IfErr};
+ghost use Rattle.std.specs.Prelude.{◌≡◌, ◌+◌, [], length, IfOk, IfErr, OnOk};
 ghost use Rattle.edit_text.specs.Text.{HasTextFault, SpellsAll};
 ghost use Rattle.edit_table.specs.Spelled.{IsListOfLines};
 
@@ -41,6 +41,20 @@ fn read_lines(
     let Ok(mut table) = table_with_room(alloc, most_lines(lines), seed) else {
         return Err(TextFault::NoMemory);
     };
+    push_lines(version, lines, &mut table)?;
+    Ok(table)
+}
+
+// Appends the edits of lines to a table that has none.
+fn push_lines<'t>(
+    version: Version,
+    lines: &'t [u8],
+    table: &mut EditTableBuilder<'t>,
+) -> Result<(), TextFault>
+    requires { table.old.edits ≡ [] }
+    ensures spelled { OnOk result (SpellsAll version lines.now table.new.edits) }
+    ensures fault { IfErr result (HasTextFault version lines.now) }
+{
     let mut rest = lines;
     while let Some((line, after)) = split_at_first(rest, b'\n') {
         match read_spelled_line(version, line) {
@@ -50,7 +64,7 @@ fn read_lines(
             },
             Err(fault) => {
                 return Err(TextFault::Malformed {
-                    line: next_line(&table),
+                    line: next_line(table),
                     fault,
                 });
             }
@@ -58,10 +72,10 @@ fn read_lines(
         rest = after;
     }
     if rest.is_empty() {
-        Ok(table)
+        Ok(())
     } else {
         Err(TextFault::Rest {
-            line: next_line(&table),
+            line: next_line(table),
         })
     }
 }

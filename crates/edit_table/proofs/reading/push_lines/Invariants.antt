@@ -1,6 +1,6 @@
 use Rattle.std.proofs.Common.{◌≡◌, ◌++◌, length}
 use Rattle.edit_text.specs.Text.{text_of, AreOf}
-use Rattle.edit_table.proofs.reading.read_lines.Given as goal
+use Rattle.edit_table.proofs.reading.push_lines.Given as goal
 
 abbrev pub invariant-loop-line : goal.invariant-loop-line
 invariant-loop-line l = record {
