@@ -1,5 +1,5 @@
 -- A table that grows, whose last edits have no records yet.
-use Rattle.std.proofs.Common.{◌≡◌, ◌++◌, List, map, length, ap, subst, ◌∙◌, arith}
+use Rattle.std.proofs.Common.{◌≡◌, ◌++◌, List, map, length, append_assoc, ap, subst, ◌∙◌, arith}
 use Rattle.grove_sorts.specs.declared.ctor.Ctor.{Ctor}
 use Rattle.grove_edits.specs.declared.edit.Edit.{Edit}
 use Rattle.grove_edits.specs.declared.spelled.SpelledEdit.{SpelledEdit}
@@ -33,3 +33,8 @@ pub canonical_grown : (edits : List Edit) (ctors met : List Ctor) (keys more : L
     → growing_table ctors keys records waiting ≡ t → edits_of (vertices_of met more) pushed ≡ edits_of (vertices_of ctors keys) records ++ map spelled_edit waiting
     → IsCanonical (graph (edits_of (vertices_of met more) pushed)) edits → IsCanonical (graph t.edits) edits
 canonical_grown edits ctors met keys more records pushed waiting t is pushed_is = subst (λ es. IsCanonical (graph es) edits) (pushed_is ∙ ap (λ (s : Table). s.edits) is)
+
+-- records, and behind them the edits of another table that grows
+pub grown_behind : (before pushed joined all records waiting others : List Edit) → pushed ≡ before → joined ≡ pushed ++ records → all ≡ joined ++ waiting → records ++ waiting ≡ others → all ≡ before ++ others
+grown_behind before pushed joined all records waiting others first then last is =
+    last ∙ ap (λ xs. xs ++ waiting) (then ∙ ap (λ xs. xs ++ records) first) ∙ append_assoc before records waiting ∙ ap (λ xs. before ++ xs) is

@@ -12,3 +12,5 @@ pub mod KeptRecords
 pub mod Canonical
 pub mod Renumbered
 pub mod Ranks
+pub mod Moved
+pub mod InParts

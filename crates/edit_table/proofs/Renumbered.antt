@@ -28,7 +28,7 @@ use Rattle.edit_table.proofs.Records.{first_records, pushed_edits, pushed_record
 
 -- ---- lists
 
-same_or_not : (m n : ℕ) → (m ≡ n) ⊎ (m ≢ n)
+pub same_or_not : (m n : ℕ) → (m ≡ n) ⊎ (m ≢ n)
 same_or_not zero zero = inl refl
 same_or_not zero (suc n) = inr (λ is. omega (arith, is))
 same_or_not (suc m) zero = inr (λ is. omega (arith, is))
@@ -37,12 +37,12 @@ same_or_not (suc m) (suc n) = by_rest (same_or_not m n) where
   by_rest (inl is) = inl (ap suc is)
   by_rest (inr not) = inr (λ is. not (omega (arith, is)))
 
-set_at : {X : Type 0} (xs : List X) (i : ℕ) (x : X) → i < length xs → slice_get (set xs i x) i ≡ Some x
+pub set_at : {X : Type 0} (xs : List X) (i : ℕ) (x : X) → i < length xs → slice_get (set xs i x) i ≡ Some x
 set_at [] i x within = absurd (omega (arith, within))
 set_at (y ∷ xs) zero x within = refl
 set_at (y ∷ xs) (suc i) x within = set_at xs i x (omega (arith, within))
 
-set_other : {X : Type 0} (xs : List X) (i n : ℕ) (x : X) → n ≢ i → slice_get (set xs i x) n ≡ slice_get xs n
+pub set_other : {X : Type 0} (xs : List X) (i n : ℕ) (x : X) → n ≢ i → slice_get (set xs i x) n ≡ slice_get xs n
 set_other [] i n x not = refl
 set_other (y ∷ xs) zero zero x not = absurd (not refl)
 set_other (y ∷ xs) zero (suc n) x not = refl
@@ -74,17 +74,17 @@ any_found key (k ∷ ks) any = by_test (key_eq key k) refl any (any_found key ks
       let found = rest any in
       (suc found.0, found.1, found.2, found.3)
 
-some_injective : {X : Type 0} (a b : X) → Some a ≡ Some b → a ≡ b
+pub some_injective : {X : Type 0} (a b : X) → Some a ≡ Some b → a ≡ b
 some_injective a b is = cc
 
 -- ---- no vertex has a number
 
-all_none : (count n m : ℕ) → slice_get (replicate count no_number) n ≡ Some m → m ≡ no_number
+pub all_none : (count n m : ℕ) → slice_get (replicate count no_number) n ≡ Some m → m ≡ no_number
 all_none zero n m at = absurd cc
 all_none (suc count) zero m at = sym (some_injective no_number m at)
 all_none (suc count) (suc n) m at = all_none count n m at
 
-length_replicated : (count n : ℕ) → length (replicate count n) ≡ count
+pub length_replicated : (count n : ℕ) → length (replicate count n) ≡ count
 length_replicated zero n = refl
 length_replicated (suc count) n = ap suc (length_replicated count n)
 

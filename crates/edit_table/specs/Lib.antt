@@ -8,3 +8,5 @@ pub mod Waiting
 pub mod Ranks
 pub mod TableVertex
 pub mod Spelled
+pub mod Moved
+pub mod InParts

@@ -1,13 +1,16 @@
-ghost use Rattle.std.specs.Prelude.{◌≡◌, ◌<◌, ◌^◌, [], ◌∷◌, ◌++◌, length, IfOk, OnOk, OnErr};
+ghost use Rattle.std.specs.Prelude.{◌≡◌, ◌<◌, ◌^◌, [], ◌∷◌, ◌++◌, map, length, IfOk, OnOk, OnErr};
 ghost use Rattle.grove_edits.specs.Graph.{graph, IsCanonical};
 ghost use Rattle.grove_edits.specs.SpelledEdit.{spelled_edit};
 ghost use Rattle.grove_edits.specs.Vertex.{root};
+ghost use Rattle.edit_table.specs.Keys.{vertices_of};
+ghost use Rattle.edit_table.specs.Records.{edits_of, AreRecords};
 
 use crate::edit_table::EditTable;
+use crate::joining::append_records;
 use crate::likely_ends::WAITING;
 use crate::numbering::{plain_ctors, push_records};
 use crate::record::Record;
-use crate::settling::settle;
+use crate::settling::{settle, settle_in_parts};
 use crate::vertex_key::{CtorKey, VertexKey};
 use grove_edits::{EditList, SpelledEdit, Vertex};
 use grove_sorts::Ctor;
@@ -15,6 +18,7 @@ use indexmap::IndexSet;
 use seeded_hash::HashSeed;
 use std::alloc::Global;
 use std::marker::Model;
+use std::thread::Threads;
 use text_parts::NoMemory;
 
 /// A table of edits that grows. Contracts see what they see of a table that is read.
@@ -134,6 +138,64 @@ impl<'t> EditTableBuilder<'t> {
         self.records.len() + self.waiting.len()
     }
 
+    /// The table of these edits, and behind them those of another. Each vertex of the other is looked up once here.
+    pub fn joined(
+        self,
+        alloc: Global,
+        other: &EditTableBuilder<'t>,
+    ) -> Result<EditTableBuilder<'t>, NoMemory>
+        ensures { IfOk result (λ table. table.edits ≡ self.entry.edits ++ other.now.edits) }
+    {
+        let EditTableBuilder {
+            mut ctors,
+            mut keys,
+            mut records,
+            mut waiting,
+        } = self;
+        other.append_to(
+            alloc,
+            &mut ctors,
+            &mut keys,
+            &mut records,
+            waiting.as_slice(),
+        )?;
+        waiting.clear();
+        Ok(EditTableBuilder {
+            ctors,
+            keys,
+            records,
+            waiting,
+        })
+    }
+
+    // Appends the records of edits that wait, and behind them those of the table.
+    fn append_to(
+        &self,
+        alloc: Global,
+        ctors: &mut IndexSet<Ctor, HashSeed>,
+        keys: &mut IndexSet<VertexKey, HashSeed>,
+        records: &mut Vec<Record>,
+        waiting: &[SpelledEdit],
+    ) -> Result<(), NoMemory>
+        requires { AreRecords ctors.old.keys keys.old.keys records.old.items }
+        ensures records { OnOk result (AreRecords ctors.new.keys keys.new.keys records.new.items) }
+        ensures edits { OnOk result (edits_of (vertices_of ctors.new.keys keys.new.keys) records.new.items
+            ≡ (edits_of (vertices_of ctors.old.keys keys.old.keys) records.old.items ++ map spelled_edit waiting.now) ++ self.now.edits) }
+    {
+        push_records(ctors, keys, records, waiting)?;
+        append_records(
+            alloc,
+            ctors,
+            keys,
+            records,
+            self.ctors.as_slice(),
+            self.keys.as_slice(),
+            &self.records,
+        )?;
+        push_records(ctors, keys, records, self.waiting.as_slice())?;
+        Ok(())
+    }
+
     /// The table of the canonical list of the graph that the edits make: one edit for each edge that they name, in edge order. Vertices
     /// are numbered anew, in the order of that list, so that what goes over it in order reads memory in order.
     pub fn into_table(self, alloc: Global) -> Result<EditTable, NoMemory>
@@ -146,6 +208,35 @@ impl<'t> EditTableBuilder<'t> {
             waiting,
         } = self;
         let keys = settle(
+            alloc,
+            &mut ctors,
+            &mut keys,
+            &mut records,
+            waiting.as_slice(),
+        )?;
+        Ok(EditTable {
+            ctors,
+            keys,
+            records,
+        })
+    }
+
+    /// The same, its records sorted in parts side by side.
+    pub fn into_table_in_parts<R: Threads + Sync>(
+        self,
+        rt: &R,
+        alloc: Global,
+    ) -> Result<EditTable, NoMemory>
+        ensures { IfOk result (λ table. IsCanonical (graph self.entry.edits) table.edits) }
+    {
+        let EditTableBuilder {
+            mut ctors,
+            mut keys,
+            mut records,
+            waiting,
+        } = self;
+        let keys = settle_in_parts(
+            rt,
             alloc,
             &mut ctors,
             &mut keys,

@@ -227,8 +227,8 @@ fn ctor_key(ctors: &mut IndexSet<Ctor, HashSeed>, ctor: &SpelledCtor) -> Result<
     }
 }
 
-// The number of a vertex that may have this one. It gets the next one where it has none.
-fn target_number(
+/// The number of a vertex that may have this one. It gets the next one where it has none.
+pub(crate) fn target_number(
     ctors: &mut IndexSet<Ctor, HashSeed>,
     keys: &mut IndexSet<VertexKey, HashSeed>,
     vertex: &SpelledVertex,

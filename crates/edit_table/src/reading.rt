@@ -28,8 +28,8 @@ pub fn read_table(
     }
 }
 
-// The edits in the order of their lines.
-fn read_lines(
+/// The edits in the order of their lines, or the first line that spells none.
+pub(crate) fn read_lines(
     alloc: Global,
     version: Version,
     lines: &[u8],

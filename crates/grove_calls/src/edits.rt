@@ -5,12 +5,13 @@ ghost use Rattle.grove_sorts.specs.declared.version.Version.{Version};
 ghost use Rattle.grove_calls.specs.Due.{most_bytes};
 ghost use Rattle.grove_calls.specs.Spelled.{IsListOf};
 
-use edit_table::{EditTable, read_table};
+use edit_table::{EditTable, read_table, read_table_in_parts};
 use edit_text::{TextFault, header_lines, read_line, split_version};
 use grove_edits::EditList;
 use grove_sorts::Version;
 use seeded_hash::HashSeed;
 use std::alloc::Global;
+use std::thread::Threads;
 use text_parts::split_at_first;
 
 /// The edits that a text spells, in the order of its lines, or the first line that spells none.
@@ -35,6 +36,25 @@ pub fn read_edit_table(alloc: Global, text: &[u8], seed: HashSeed) -> Result<Edi
 {
     let (version, lines) = split_version(text);
     match read_table(alloc, version, lines, seed) {
+        Ok(table) => Ok(table),
+        Err(fault) => Err(fault_of_text(version, fault)),
+    }
+}
+
+/// The same, its lines read in so many parts side by side.
+pub fn read_edit_table_in_parts<R: Threads + Sync>(
+    rt: &R,
+    alloc: Global,
+    text: &[u8],
+    seed: HashSeed,
+    parts: usize,
+) -> Result<EditTable, TextFault>
+    requires { length text.now ≤ most_bytes }
+    ensures list { IfOk result (λ table. IsListOf text.now table.edits) }
+    ensures fault { IfErr result (HasWholeFault text.now) }
+{
+    let (version, lines) = split_version(text);
+    match read_table_in_parts(rt, alloc, version, lines, seed, parts) {
         Ok(table) => Ok(table),
         Err(fault) => Err(fault_of_text(version, fault)),
     }

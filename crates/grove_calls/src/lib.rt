@@ -12,7 +12,7 @@ mod refusal;
 mod serving;
 mod words;
 
-pub use edits::{fault_of_text, read_edit_table, read_edits};
+pub use edits::{fault_of_text, read_edit_table, read_edit_table_in_parts, read_edits};
 pub use ending::{Ending, exit_status};
 pub use fault::Fault;
 pub use form::{Form, Formed};

@@ -17,7 +17,7 @@ use edit_merge::{merge_lines, merge_lines_in_parts};
 use edit_table::EditTable;
 use edit_text::{TextFault, split_version, write_version};
 use grove_answers::{check_text, check_text_in_parts, print_text, print_text_in_parts};
-use grove_calls::{Formed, Refusal, fault_of_text, read_edit_table};
+use grove_calls::{Formed, Refusal, fault_of_text, read_edit_table, read_edit_table_in_parts};
 use grove_io::Gate;
 use grove_sorts::Version;
 use replica_core::Replica;
@@ -112,11 +112,11 @@ fn answer_in_parts<R: Threads + Sync>(
     match question {
         Question::Merge => merge_text_in_parts(rt, alloc, text, parts),
         Question::Show => {
-            let table = read_edit_table(alloc, text, seed)?;
+            let table = read_edit_table_in_parts(rt, alloc, text, seed, parts)?;
             Ok(show_in_parts(rt, alloc, seed, table, parts)?)
         }
         Question::Check => {
-            let table = read_edit_table(alloc, text, seed)?;
+            let table = read_edit_table_in_parts(rt, alloc, text, seed, parts)?;
             Ok(check_in_parts(rt, alloc, seed, table, parts)?)
         }
     }
