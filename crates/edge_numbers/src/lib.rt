@@ -6,7 +6,9 @@
 mod edge_numbers;
 mod ends;
 mod narrow_edge;
+mod numbered_edge;
 mod order;
 
 pub use edge_numbers::EdgeNumbers;
+pub use numbered_edge::NumberedEdge;
 pub use text_parts::NoMemory;

@@ -3,6 +3,7 @@ use Rattle.std.specs.Prelude.{List, map, Option, Some, None}
 use Rattle.grove_sorts.specs.declared.position.Position.{Position}
 use Rattle.grove_edits.specs.declared.edge.Edge.{Edge}
 use Rattle.grove_edits.specs.declared.vertex.Vertex.{Vertex}
+use Rattle.edge_numbers.specs.NumberedEdge.{numbered_edge}
 use Rattle.edit_table.specs.Lent.{lent_vertex}
 use Rattle.edit_table.specs.TableVertex.{table_vertex}
 use Rattle.graph_table.specs.GraphEdge.{graph_edge}
@@ -30,6 +31,7 @@ what_of (lent.CycleRef v) = whats.CycleRef (lent_vertex v)
 abbrev pub edge_of : LentEdge → Edge
 edge_of (edges.Whole e) = e.now
 edge_of (edges.OfGraph e) = graph_edge e
+edge_of (edges.Numbered e) = numbered_edge e
 
 -- what a child is in a role, where its edge leads to this vertex
 abbrev pub what_as : Role → Vertex → What
@@ -43,6 +45,7 @@ position_in (places.Head v) = None
 position_in (places.HeadAt v) = None
 position_in (places.Whole role e) = Some e.now.position
 position_in (places.OfGraph role e) = Some (graph_edge e).position
+position_in (places.Numbered role e) = Some (numbered_edge e).position
 position_in (places.Hole p sort) = Some p
 position_in (places.Conflict p sort count) = Some p
 
@@ -50,6 +53,7 @@ position_in (places.Conflict p sort count) = Some p
 abbrev pub edge_in : Place → Option Edge
 edge_in (places.Whole role e) = Some e.now
 edge_in (places.OfGraph role e) = Some (graph_edge e)
+edge_in (places.Numbered role e) = Some (numbered_edge e)
 edge_in _ = None
 
 -- what stands at a place: the target of its edge in its role, for a child
@@ -58,6 +62,7 @@ what_in (places.Head v) = whats.Vertex v.now
 what_in (places.HeadAt v) = whats.Vertex (table_vertex v)
 what_in (places.Whole role e) = what_as role e.now.target
 what_in (places.OfGraph role e) = what_as role (graph_edge e).target
+what_in (places.Numbered role e) = what_as role (numbered_edge e).target
 what_in (places.Hole p sort) = whats.Hole sort
 what_in (places.Conflict p sort count) = whats.Conflict sort count
 

@@ -2,6 +2,7 @@ ghost use Rattle.std.specs.Prelude.{◌≡◌};
 ghost use Rattle.std.specs.Option.{option_map};
 ghost use Rattle.grove_terms.specs.Lent.{edge_of};
 
+use edge_numbers::NumberedEdge;
 use edit_table::{LentVertex, TableVertex};
 use graph_table::GraphEdge;
 use grove_edits::{Edge, Vertex};
@@ -48,6 +49,8 @@ pub enum LentEdge<'g> {
     Whole(&'g Edge),
     /// An edge of a graph by numbers, which is kept in parts.
     OfGraph(GraphEdge<'g>),
+    /// An edge of a live graph, which has a number there.
+    Numbered(NumberedEdge<'g>),
 }
 
 impl<'g> LentEdge<'g> {
@@ -61,6 +64,7 @@ impl<'g> LentEdge<'g> {
         match self {
             LentEdge::Whole(edge) => **edge,
             LentEdge::OfGraph(edge) => edge.edge(),
+            LentEdge::Numbered(edge) => edge.edge(),
         }
     }
 
@@ -71,6 +75,7 @@ impl<'g> LentEdge<'g> {
         match self {
             LentEdge::Whole(edge) => edge.name,
             LentEdge::OfGraph(edge) => edge.name(),
+            LentEdge::Numbered(edge) => edge.name(),
         }
     }
 
@@ -81,6 +86,7 @@ impl<'g> LentEdge<'g> {
         match self {
             LentEdge::Whole(edge) => edge.position,
             LentEdge::OfGraph(edge) => edge.position(),
+            LentEdge::Numbered(edge) => edge.position(),
         }
     }
 
@@ -91,6 +97,7 @@ impl<'g> LentEdge<'g> {
         match self {
             LentEdge::Whole(edge) => LentVertex::of(&edge.target),
             LentEdge::OfGraph(edge) => edge.target(),
+            LentEdge::Numbered(edge) => LentVertex::of(edge.target()),
         }
     }
 }
@@ -142,7 +149,7 @@ pub struct LentNode<'g> {
 }
 
 // Where a node stands, and what it is. A child stands at the position of its edge, and its vertex is the target of its edge, so it tells
-// the edge alone. The two forms of an edge stand here, and no `LentEdge`, whose tag would make each node a word wider; so do the two forms
+// the edge alone. The three forms of an edge stand here, and no `LentEdge`, whose tag would make each node a word wider; so do the two forms
 // of a head. A role comes first, where it has room beside the tag.
 #[derive(Clone, Copy, Debug)]
 enum Place<'g> {
@@ -150,6 +157,7 @@ enum Place<'g> {
     HeadAt(TableVertex<'g>),
     Whole(Role, &'g Edge),
     OfGraph(Role, GraphEdge<'g>),
+    Numbered(Role, NumberedEdge<'g>),
     Hole(Position, Sort),
     Conflict(Position, Sort, u64),
 }
@@ -190,6 +198,7 @@ impl<'g> LentNode<'g> {
         let place = match edge {
             LentEdge::Whole(edge) => Place::Whole(role, edge),
             LentEdge::OfGraph(edge) => Place::OfGraph(role, edge),
+            LentEdge::Numbered(edge) => Place::Numbered(role, edge),
         };
         LentNode { depth, place }
     }
@@ -233,6 +242,7 @@ impl<'g> LentNode<'g> {
             Place::Head(_) | Place::HeadAt(_) => None,
             Place::Whole(_, edge) => Some(edge.position),
             Place::OfGraph(_, edge) => Some(edge.position()),
+            Place::Numbered(_, edge) => Some(edge.position()),
             Place::Hole(position, _) | Place::Conflict(position, _, _) => Some(position),
         }
     }
@@ -245,6 +255,7 @@ impl<'g> LentNode<'g> {
         match self.place {
             Place::Whole(_, edge) => Some(LentEdge::Whole(edge)),
             Place::OfGraph(_, edge) => Some(LentEdge::OfGraph(edge)),
+            Place::Numbered(_, edge) => Some(LentEdge::Numbered(edge)),
             Place::Head(_) | Place::HeadAt(_) | Place::Hole(_, _) | Place::Conflict(_, _, _) => {
                 None
             }
@@ -260,6 +271,7 @@ impl<'g> LentNode<'g> {
             Place::HeadAt(vertex) => LentWhat::Vertex(vertex.lent()),
             Place::Whole(role, edge) => LentWhat::in_role(role, LentVertex::of(&edge.target)),
             Place::OfGraph(role, edge) => LentWhat::in_role(role, edge.target()),
+            Place::Numbered(role, edge) => LentWhat::in_role(role, LentVertex::of(edge.target())),
             Place::Hole(_, sort) => LentWhat::Hole(sort),
             Place::Conflict(_, sort, count) => LentWhat::Conflict(sort, count),
         }
