@@ -1,7 +1,7 @@
 ghost use Rattle.std.specs.Prelude.{◌≡◌, ◌==◌, ◌∷◌, [], length, slice_get, IfSome, IfNone};
 
 use edge_lists::LentNumbers;
-use edge_numbers::EdgeNumbers;
+use edge_numbers::{EdgeNumbers, NumberedEdge};
 use grove_edits::{Edge, Vertex};
 use grove_sorts::Position;
 use std::marker::Model;
@@ -25,6 +25,15 @@ impl<'g> Model for LiveEdge<'g> {
 }
 
 impl<'g> LiveEdge<'g> {
+    ghost use Rattle.edge_numbers.specs.NumberedEdge.{numbered_edge};
+
+    /// The edge by its number, which can be copied.
+    pub fn numbered(&self) -> NumberedEdge<'g>
+        ensures { numbered_edge result ≡ self.now }
+    {
+        NumberedEdge::at(self.edges, self.number)
+    }
+
     /// The edge itself, which is wide.
     pub fn edge(&self) -> Edge
         ensures { result ≡ self.now }

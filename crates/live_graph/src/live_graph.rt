@@ -331,8 +331,19 @@ impl LiveGraph {
         }
     }
 
-    // The live parent edges of a vertex, uncounted.
-    fn parents_told(&self, vertex: &Vertex) -> Edges<'_>
+    /// The live edges from a position of a vertex, in edge order, uncounted.
+    pub fn children_told(&self, vertex: &Vertex, position: Position) -> Edges<'_>
+        ensures children { result ≡ children_of vertex.now position (live self.now) }
+        ensures in_order { IsInEdgeOrder (live self.now) }
+    {
+        Edges {
+            edges: &self.edges,
+            numbers: children_at(&self.edges, &self.children, vertex, position),
+        }
+    }
+
+    /// The live parent edges of a vertex, in edge order, uncounted.
+    pub fn parents_told(&self, vertex: &Vertex) -> Edges<'_>
         ensures parents { result ≡ parents_of vertex.now (live self.now) }
         ensures in_order { IsInEdgeOrder (live self.now) }
     {
