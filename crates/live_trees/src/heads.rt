@@ -36,20 +36,22 @@ pub struct LiveHeads {
 }
 
 // The class of a vertex.
+#[tactic(auto, using(crate::proofs::Classes::none_class, crate::proofs::Classes::multi_class, crate::proofs::Classes::cycle_class, crate::proofs::Classes::inner_class))]
 fn class_of<R: CycleRoots>(vertex: &Vertex, graph: &LiveGraph, roots: &R) -> Class
     requires { R.AreOf roots.now (live graph.now) }
     ensures { result ≡ class (live graph.now) vertex.now }
 {
-    match graph.parents_told(vertex).len() {
-        0 => Class::NoParent,
-        1 => {
-            if roots.is_root(vertex) {
-                Class::Cycle
-            } else {
-                Class::Inner
-            }
-        }
-        _several => Class::Multi,
+    let parents = graph.parents_told(vertex).len();
+    if parents == 0 {
+        return Class::NoParent;
+    }
+    if parents > 1 {
+        return Class::Multi;
+    }
+    if roots.is_root(vertex) {
+        Class::Cycle
+    } else {
+        Class::Inner
     }
 }
 
