@@ -20,3 +20,4 @@ pub mod LeastTwo
 pub mod VertexNames
 pub mod WalkLengths
 pub mod Maxima
+pub mod Used

@@ -1,5 +1,5 @@
 -- Inner model, which no public contract cites: how often the edges that are not Absent name each vertex, and the numbers of vertices by their names.
-use Rattle.std.specs.Prelude.{◌≡◌, ℕ, ◌+◌, ◌<◌, ◌≤◌, Bool, true, ◌&&◌, List, length, take, slice_index, nat_lt}
+use Rattle.std.specs.Prelude.{◌≡◌, ℕ, zero, suc, ◌+◌, ◌<◌, ◌≤◌, Bool, true, ◌&&◌, List, [], ◌∷◌, length, take, slice_index, nat_lt}
 use Rattle.std.specs.List.{AllByRecursion}
 use Rattle.edge_lattice.specs.declared.state.State.{State}
 use Rattle.grove_names.specs.declared.name.Name.{Name}
@@ -37,3 +37,10 @@ is_vertex_named edges uses name n = nat_lt n (length uses) && (nat_lt 0 (slice_i
 -- the number is that of this vertex, which has the name and is used
 abbrev pub is_named_vertex : Numbered → List ℕ → Name → Vertex → ℕ → Bool
 is_named_vertex edges uses name v n = is_vertex_named edges uses name n && is_same_vertex (vertex_at edges n) v
+
+-- those of the first vertices that are used, in the order of their numbers
+abbrev pub used : List Vertex → List ℕ → List Vertex
+used [] uses = []
+used (v ∷ vs) [] = []
+used (v ∷ vs) (zero ∷ uses) = used vs uses
+used (v ∷ vs) (suc n ∷ uses) = v ∷ used vs uses
