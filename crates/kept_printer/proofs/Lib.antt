@@ -1,0 +1,6 @@
+mod Explained
+mod Places
+mod Told
+mod Stack
+mod Listed
+mod Heads
