@@ -1,5 +1,5 @@
 -- Marked nodes that what stands above each explains.
-use Rattle.std.proofs.Common.{◌≡◌, ℕ, suc, ◌+◌, ◌-◌, Bool, true, false, cond, List, [], ◌∷◌, ◌++◌, drop, length, refl, sym, ap, subst, ◌∙◌, arith, append_assoc, length-append}
+use Rattle.std.proofs.Common.{◌≡◌, ◌-◌, cond, List, [], ◌∷◌, ◌++◌, drop, length, refl, sym, ap, subst, ◌∙◌, arith, length-append}
 use Rattle.std.specs.Prelude.{Option, None, Some, unwrap_or}
 use Rattle.std.proofs.Math.Seq.{drop-append_seam}
 use Rattle.grove_sorts.specs.declared.ctor.Ctor.{Ctor}
@@ -17,7 +17,7 @@ use Rattle.mark_step.specs.Expression.{Wanted, Synthesise, Analyse, Expression}
 use Rattle.mark_step.specs.Step.{wanted_next, settled}
 use Rattle.mark_step.specs.Rows.{is_exp}
 use Rattle.marking.specs.Marking.{MarkedNode, marked_plain, marked_vertex, children_types}
-use Rattle.kept_printer.specs.Above.{Above, Of, Several, as_list, wanted_under, wanted_below, up_to, either, first_after, after, counted, own, above_after}
+use Rattle.kept_printer.specs.Above.{Above, Of, Several, as_list, wanted_below, up_to, either, counted, own, above_after}
 
 -- ---- which of those above are left
 

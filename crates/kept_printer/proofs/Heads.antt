@@ -1,9 +1,11 @@
 -- Vertices of a graph that head its trees, and the text of all of them.
-use Rattle.std.proofs.Common.{◌≡◌, ℕ, suc, List, [], ◌∷◌, ◌++◌, length, refl, sym, ap, subst, ◌∙◌, append_assoc, append-nil, Result, Ok, Err, OnOk}
+use Rattle.std.proofs.Common.{◌≡◌, ℕ, List, [], ◌∷◌, ◌++◌, length, refl, sym, ap, subst, ◌∙◌, append_assoc, append-nil, take, Result, Ok, Err, OnOk, OnErr}
 use Rattle.std.specs.Prelude.{true}
 use Rattle.std.specs.List.{AllByRecursion}
 use Rattle.std.proofs.lemmas.Bool.{or_left, or_right}
+use Rattle.std.proofs.Math.Seq.{take-append_seam}
 use Rattle.grove_edits.specs.declared.vertex.Vertex.{Vertex}
+use Rattle.grove_edits.specs.declared.edge.Edge.{Edge}
 use Rattle.grove_edits.specs.Graph.{Graph, graph}
 use Rattle.grove_edits.specs.Vertex.{is_same_vertex, stands_in}
 use Rattle.grove_edits.proofs.Vertices.{same_vertex_itself}
@@ -11,11 +13,13 @@ use Rattle.graph_words.specs.declared.class.Class.{Class}
 use Rattle.graph_words.specs.declared.class.Class.TheVariants.{Inner, NoParent as NoParentClass, Multi as MultiClass, Cycle as CycleClass}
 use Rattle.graph_words.specs.Class.{of_class}
 use Rattle.graph_words.specs.Whole.{IsVertexOf, AreVertices, AreLive}
-use Rattle.graph_table.specs.Table.{Table, live, vertex_at, IsNumber}
+use Rattle.graph_table.specs.Table.{Table, live, IsNumber}
 use Rattle.grove_decompose.specs.Trees.{vertices_of}
 use Rattle.grove_decompose.proofs.ByNumber.{all_of}
 use Rattle.grove_decompose.proofs.Going.{trees_along}
+use Rattle.grove_printer.specs.declared.section.Section.{Section}
 use Rattle.grove_printer.specs.declared.section.Section.TheVariants.{NoParent, Multi, Cycle}
+use Rattle.grove_printer.proofs.Extending.{extends_further}
 use Rattle.grove_printer.specs.Print.{Extends, heading, trees_text, print_text}
 use Rattle.grove_answers.specs.Program.{IsHead}
 use Rattle.grove_answers.specs.Reports.{AreReported, TakesSection, IsReported}
@@ -98,3 +102,16 @@ written_whole g before between after (Err e) result same whole reported = subst 
 
 pub itself : (bytes : List ℕ) → Extends bytes bytes
 itself bytes = ([], sym (append-nil bytes))
+
+-- a text begins with what stood there before a section
+pub section_extends : (section : Section) (live : List Edge) (vs : List Vertex) (before after : List ℕ) → AreReported (TakesSection begins takes section) live vs before after → Extends before after
+section_extends section live vs before after reported =
+    extends_further before reported.taken.begun after (heading section (length reported.trees), reported.taken.begin) (trees_text reported.marked, reported.taken.taken)
+
+-- what was taken off after an error is what was appended
+pub taken_off : {T E : Type 0} (before between after : List ℕ) (start : ℕ) (written result : Result T E) → start ≡ length before → result ≡ written → OnErr written (after ≡ take start between) → OnErr written (Extends before between)
+    → OnErr result (after ≡ before)
+taken_off before between after start (Ok x) result is_start same nothing part = subst (λ r. OnErr r (after ≡ before)) (sym same) tt
+taken_off before between after start (Err e) result is_start same nothing part =
+    subst (λ r. OnErr r (after ≡ before)) (sym same)
+    (nothing ∙ ap (λ n. take n between) is_start ∙ ap (take (length before)) part.1 ∙ take-append_seam before part.0)

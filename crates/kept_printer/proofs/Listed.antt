@@ -1,5 +1,5 @@
 -- Trees whose nodes are told one by one are marked.
-use Rattle.std.proofs.Common.{◌≡◌, ℕ, suc, List, [], ◌∷◌, ◌++◌, length, map, Some, None, refl, sym, ap, subst, ◌∙◌, append-nil, append_assoc}
+use Rattle.std.proofs.Common.{◌≡◌, List, [], ◌∷◌, ◌++◌, length, Some, sym, ap, subst, ◌∙◌, append_assoc}
 use Rattle.std.specs.Prelude.{slice_get}
 use Rattle.std.specs.List.{AllByRecursion}
 use Rattle.grove_edits.specs.declared.edge.Edge.{Edge}
@@ -10,7 +10,6 @@ use Rattle.grove_terms.specs.declared.node.Node.{Node}
 use Rattle.grove_terms.specs.declared.node.LentNode.{LentNode}
 use Rattle.grove_terms.specs.Lent.{node_of}
 use Rattle.grove_terms.specs.Forest.{IsWellSorted}
-use Rattle.grove_terms.specs.Nodes.{tree_nodes}
 use Rattle.grove_terms.proofs.OneGrove.{one_live}
 use Rattle.grove_terms.proofs.WellSorted.{live_well_formed, stands_sorted}
 use Rattle.type_core.specs.Typ.{Typ}

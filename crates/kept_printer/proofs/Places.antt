@@ -1,5 +1,5 @@
 -- The marking of a tree is explained by what stands above each of its nodes.
-use Rattle.std.proofs.Common.{◌≡◌, ℕ, zero, suc, ◌+◌, Bool, true, false, cond, List, [], ◌∷◌, ◌++◌, length, Some, None, refl, sym, ap, subst, ◌∙◌, append_assoc, append-nil, arith}
+use Rattle.std.proofs.Common.{◌≡◌, ℕ, zero, suc, ◌+◌, Bool, true, false, cond, List, [], ◌∷◌, ◌++◌, length, Some, refl, sym, ap, subst, ◌∙◌, append_assoc, append-nil, arith}
 use Rattle.std.specs.Prelude.{if◌then◌else◌, unwrap_or}
 use Rattle.std.specs.List.{AllByRecursion}
 use Rattle.grove_sorts.specs.declared.ctor.Ctor.{Ctor}
@@ -22,8 +22,8 @@ use Rattle.mark_step.specs.Rows.{is_exp}
 use Rattle.marking.specs.Types.{if_sole}
 use Rattle.marking.specs.Marking.{MarkedNode, expression, by_itself, judged_in, judged_child, marked_plain, marked_vertex, marked_place, marked_places, marked_children, marked_tree, synthesised_in}
 use Rattle.marking.proofs.Judged.{child_has_sort}
-use Rattle.kept_printer.specs.Above.{Above, Of, Several, wanted_under, up_to, either}
-use Rattle.kept_printer.proofs.Explained.{up_to-rest, first_of, first_alone, first_then, wanted_as, wanted_alike, AreExplained, with_type, all_with_type, type_of, IsPlain, plain_explained, opened_by, vertex_explained}
+use Rattle.kept_printer.specs.Above.{Above, Of, Several, wanted_under, up_to}
+use Rattle.kept_printer.proofs.Explained.{up_to-rest, first_of, first_alone, first_then, wanted_as, wanted_alike, AreExplained, with_type, type_of, IsPlain, plain_explained, opened_by, vertex_explained}
 
 -- ---- nodes that lead from one state of the vertex above them to another
 

@@ -1,6 +1,5 @@
 -- The nodes of a tree, told by the records of a graph, are those of its marking.
-use Rattle.std.proofs.Common.{◌≡◌, ℕ, zero, suc, ◌+◌, Bool, true, false, cond, List, [], ◌∷◌, ◌++◌, map, Some, None, refl, sym, ap, subst, ◌∙◌}
-use Rattle.std.specs.Prelude.{Option, if◌then◌else◌}
+use Rattle.std.proofs.Common.{◌≡◌, ℕ, zero, suc, ◌+◌, Bool, true, false, cond, List, [], ◌∷◌, ◌++◌, map, Some, refl, sym, ap, subst, ◌∙◌}
 use Rattle.std.specs.List.{AllByRecursion}
 use Rattle.grove_sorts.specs.declared.position.Position.{Position}
 use Rattle.grove_sorts.specs.declared.sort.Sort.{Sort}
@@ -18,18 +17,18 @@ use Rattle.grove_terms.specs.declared.node.Node.{Node}
 use Rattle.grove_terms.specs.declared.node.What.{What}
 use Rattle.grove_terms.specs.declared.node.What.TheVariants.{Vertex, Hole, Conflict, MultiRef, CycleRef}
 use Rattle.grove_terms.specs.Forest.{Forest, none, multi_ref, cycle_ref, tree, child_edges, edges_under, AreChildren, StandsUnder}
-use Rattle.grove_terms.specs.Nodes.{node_at, child_node, head_node, place_nodes, places_nodes, count_at, child_nodes, nodes_under, tree_nodes}
+use Rattle.grove_terms.specs.Nodes.{child_node, place_nodes, places_nodes, count_at, child_nodes, nodes_under, tree_nodes}
 use Rattle.grove_terms.proofs.InLive.{IsFrom, under_lead}
 use Rattle.grove_terms.proofs.WellSorted.{live_well_formed, stands_sorted}
 use Rattle.mark_step.specs.Expression.{Wanted}
 use Rattle.marking.specs.Marking.{MarkedNode, marked_tree}
 use Rattle.marking.proofs.Erased.{marked_erased}
-use Rattle.kept_records.specs.Kept.{Kept, Records, IsKeptOf, AreKept}
+use Rattle.kept_records.specs.Kept.{Records, AreKept}
 use Rattle.kept_records.specs.Told.{IsToldOf, TellsAs, Tells}
 use Rattle.kept_records.proofs.Standing.{one_kept}
 use Rattle.kept_records.proofs.Scratch.{target_vertex}
 use Rattle.kept_records.proofs.Told.{tree_tells}
-use Rattle.kept_printer.specs.Above.{Above, wanted_below, up_to, node_kept, node_told_as, node_told, above_after, nodes_told}
+use Rattle.kept_printer.specs.Above.{Above, wanted_below, up_to, node_kept, node_told_as, above_after, nodes_told}
 use Rattle.kept_printer.proofs.Explained.{explained_as, AreExplained}
 use Rattle.kept_printer.proofs.Places.{tree_explained}
 

@@ -1,4 +1,4 @@
--- The stack of open vertices, innermost last, where one is taken off and others are put on; and results that are one step further.
+-- The vertices around the innermost open one, innermost last, of which the last is taken off; and results that are one step further.
 use Rattle.std.proofs.Common.{◌≡◌, ◌<◌, List, [], ◌∷◌, ◌++◌, length, refl, sym, subst}
 use Rattle.std.specs.Prelude.{reverse, Result, Ok, Err, IfOk}
 use Rattle.grove_edits.specs.declared.vertex.Vertex.{Vertex}

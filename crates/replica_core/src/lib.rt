@@ -17,4 +17,3 @@ pub use laws::{
 pub use planning::{due, planned};
 pub use replica::Replica;
 pub use text_parts::NoMemory;
-pub use texts::append_print_text;

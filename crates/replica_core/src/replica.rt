@@ -223,13 +223,13 @@ impl Replica {
         Ok(self.graph.is_listed(alloc, edits)?)
     }
 
-    /// Appends the print text of the graph.
+    /// Appends the print text of the graph, by the marks that are kept: nothing is judged again.
     pub fn print(&self, alloc: Global, out: &mut Vec<u8>) -> Result<(), NoMemory>
         ensures appended { OnOk result ((text : List ℕ) × IsPrintText (graph self.now.edits) text × (out.new.items ≡ out.old.items ++ text)) }
         ensures unchanged { OnErr result (out.new.items ≡ out.old.items) }
     {
         let edits = self.in_order(alloc)?;
-        append_print_text(alloc, edits, self.graph.seed(), out)
+        append_print_text(alloc, edits, self.graph.seed(), self.marks(), out)
     }
 
     /// Appends the canonical text of the graph.

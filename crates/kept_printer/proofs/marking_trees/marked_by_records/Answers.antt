@@ -3,7 +3,7 @@ use Rattle.std.specs.Prelude.{slice_get}
 use Rattle.std.proofs.lemmas.Option.{slice_get_read}
 use Rattle.std.proofs.lemmas.Grind.{common_steps}
 use Rattle.grove_terms.specs.declared.node.LentNode.{LentNode}
-use Rattle.grove_terms.specs.Lent.{node_of, nodes_of}
+use Rattle.grove_terms.specs.Lent.{nodes_of}
 use Rattle.marking.specs.declared.added.Added.{Added}
 use Rattle.marking.specs.Added.{marked_nodes}
 use Rattle.marking.specs.Grove.{IsMarkedTree}

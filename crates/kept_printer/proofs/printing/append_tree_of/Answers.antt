@@ -1,4 +1,4 @@
-use Rattle.std.proofs.Common.{◌≡◌, ◌++◌, List, ap, subst, sym, ◌∙◌}
+use Rattle.std.proofs.Common.{◌++◌, List, ap, subst, sym, ◌∙◌}
 use Rattle.std.proofs.lemmas.Result.{on_ok_weaker}
 use Rattle.grove_edits.specs.Graph.{graph}
 use Rattle.graph_table.specs.Table.{live, vertex_at}
@@ -10,8 +10,8 @@ use Rattle.grove_printer.specs.Print.{tree_text}
 use Rattle.kept_printer.proofs.Heads.{itself}
 use Rattle.kept_printer.proofs.printing.append_tree_of.Goals as goal
 
-pub marked_by_records-marked-requires : goal.marked_by_records-marked-requires
-marked_by_records-marked-requires c = record {
+pub marked_by_records-requires : goal.marked_by_records-requires
+marked_by_records-requires c = record {
   graph = graph c.args.table.now.edits;
   live = live c.args.table.now;
   head = vertex_at c.args.table.now c.args.head;
@@ -41,4 +41,4 @@ pub returns-in_err-tree-clause-in_part : goal.returns-in_err-tree-clause-in_part
 returns-in_err-tree-clause-in_part c = after_error c.from_residual.result (itself c.args.out.now.items)
 
 pub returns-in_err-marked-clause-in_part : goal.returns-in_err-marked-clause-in_part
-returns-in_err-marked-clause-in_part c = after_error c.from_residual.result (itself c.args.out.now.items)
+returns-in_err-marked-clause-in_part c = after_error c.from_residual-in_err-marked.result (itself c.args.out.now.items)

@@ -1,4 +1,4 @@
-use Rattle.std.proofs.Common.{◌≡◌, ◌∷◌, [], map, ap, sym, ◌∙◌}
+use Rattle.std.proofs.Common.{◌∷◌, [], map, ap, sym, ◌∙◌}
 use Rattle.std.specs.Prelude.{option_to_list}
 use Rattle.marking.specs.Added.{with_added}
 use Rattle.marking.specs.Reading.{meant}

@@ -7,8 +7,7 @@ use Rattle.grove_terms.specs.Lent.{node_of}
 use Rattle.marking.specs.Added.{with_added}
 use Rattle.marking.specs.Reading.{meant}
 use Rattle.mark_incremental.specs.Standing.{records_in}
-use Rattle.kept_printer.specs.declared.parent.Parent.{Parent}
-use Rattle.kept_printer.specs.Above.{Above, wanted_below, up_to, node_told_as}
+use Rattle.kept_printer.specs.Above.{wanted_below, up_to, node_told_as}
 use Rattle.kept_printer.specs.Parents.{parent_at, parents_at, IsParentOf, AreParentsOf}
 use Rattle.kept_printer.proofs.Stack.{one_more, wanted_of_last, none_left, all_more, above_then}
 use Rattle.kept_printer.proofs.taking.take.Goals as goal
