@@ -3,7 +3,7 @@ use Rattle.std.proofs.Common.{◌≡◌, ◌-◌, cond, List, [], ◌∷◌, ◌
 use Rattle.std.specs.Prelude.{Option, None, Some, unwrap_or}
 use Rattle.std.proofs.Math.Seq.{drop-append_seam}
 use Rattle.grove_sorts.specs.declared.ctor.Ctor.{Ctor}
-use Rattle.grove_sorts.specs.declared.ctor.Ctor.TheVariants.{Root, Pair}
+use Rattle.grove_sorts.specs.declared.ctor.Ctor.TheVariants.{Root}
 use Rattle.grove_sorts.specs.declared.sort.Sort.{Sort}
 use Rattle.grove_sorts.specs.declared.sort.Sort.TheVariants.{Top, Exp, Pat, Typ as TypeSort}
 use Rattle.grove_sorts.specs.Ctor.{sort_of_ctor}
@@ -13,11 +13,11 @@ use Rattle.grove_terms.specs.declared.node.What.{What}
 use Rattle.grove_terms.specs.declared.node.What.TheVariants.{Vertex, Hole, Conflict, MultiRef, CycleRef}
 use Rattle.grove_terms.specs.Forest.{Forest}
 use Rattle.type_core.specs.Typ.{Typ, Unknown}
-use Rattle.mark_step.specs.Expression.{Wanted, Synthesise, Analyse, Expression}
-use Rattle.mark_step.specs.Step.{wanted_next, settled}
+use Rattle.mark_step.specs.Expression.{Wanted, Synthesise, Expression}
+use Rattle.mark_step.specs.Step.{wanted_next, first_of, settled}
 use Rattle.mark_step.specs.Rows.{is_exp}
 use Rattle.marking.specs.Marking.{MarkedNode, marked_plain, marked_vertex, children_types}
-use Rattle.kept_printer.specs.Above.{Above, Of, Several, as_list, wanted_below, up_to, either, counted, own, above_after}
+use Rattle.kept_printer.specs.Above.{Above, Of, Several, wanted_below, up_to, either, counted, own, above_after}
 
 -- ---- which of those above are left
 
@@ -26,17 +26,7 @@ up_to-rest rest below =
     let past : length (rest ++ below) - length below ≡ length rest = omega (arith, length-append rest below) in
     ap (λ n. drop n (rest ++ below)) past ∙ drop-append_seam rest below
 
--- ---- the first type alone decides what is wanted
-
-abbrev pub first_of : List Typ → Option Typ
-first_of [] = None
-first_of (t ∷ ts) = Some t
-
-pub first_alone : (c : Ctor) (w : Wanted) (before : List Typ) → wanted_next c w (as_list (first_of before)) ≡ wanted_next c w before
-first_alone c w [] = refl
-first_alone Pair Synthesise (t ∷ ts) = refl
-first_alone Pair (Analyse a) (t ∷ ts) = refl
-first_alone c w (t ∷ ts) = refl
+-- ---- the type of the first expression
 
 pub first_then : (before : List Typ) (t : Typ) → either (first_of before) (Some t) ≡ first_of (before ++ t ∷ [])
 first_then [] t = refl

@@ -17,13 +17,14 @@ use Rattle.grove_terms.specs.Forest.{Forest, none, multi_ref, cycle_ref, tree, c
 use Rattle.grove_terms.specs.Nodes.{node_at, child_node, head_node, count_at}
 use Rattle.type_core.specs.Typ.{Typ, Unknown}
 use Rattle.mark_step.specs.Expression.{Wanted, Synthesise, Expression, Demanded}
-use Rattle.mark_step.specs.Step.{demand, wanted_next}
+use Rattle.mark_step.specs.Step.{demand, wanted_next, first_of}
+use Rattle.mark_step.proofs.Firsts.{first_alone}
 use Rattle.mark_step.specs.Rows.{is_exp}
 use Rattle.marking.specs.Types.{if_sole}
 use Rattle.marking.specs.Marking.{MarkedNode, expression, by_itself, judged_in, judged_child, marked_plain, marked_vertex, marked_place, marked_places, marked_children, marked_tree, synthesised_in}
 use Rattle.marking.proofs.Judged.{child_has_sort}
 use Rattle.kept_printer.specs.Above.{Above, Of, Several, wanted_under, up_to}
-use Rattle.kept_printer.proofs.Explained.{up_to-rest, first_of, first_alone, first_then, wanted_as, wanted_alike, AreExplained, with_type, type_of, IsPlain, plain_explained, opened_by, vertex_explained}
+use Rattle.kept_printer.proofs.Explained.{up_to-rest, first_then, wanted_as, wanted_alike, AreExplained, with_type, type_of, IsPlain, plain_explained, opened_by, vertex_explained}
 
 -- ---- nodes that lead from one state of the vertex above them to another
 

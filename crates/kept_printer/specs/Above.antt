@@ -9,7 +9,7 @@ use Rattle.grove_terms.specs.declared.node.What.TheVariants.{Vertex, Hole, Confl
 use Rattle.type_core.specs.Typ.{Typ}
 use Rattle.mark_step.specs.declared.node.Mark.TheVariants as mark
 use Rattle.mark_step.specs.Expression.{Wanted, Synthesise}
-use Rattle.mark_step.specs.Step.{wanted_next}
+use Rattle.mark_step.specs.Step.{wanted_next, as_list}
 use Rattle.marking.specs.Marking.{MarkedNode, marked_plain}
 use Rattle.kept_records.specs.Kept.{Kept, Records}
 
@@ -18,10 +18,6 @@ use Rattle.kept_records.specs.Kept.{Kept, Records}
 pub data Above : Type 0 where
   Of : (ctor : Ctor) → (wanted : Wanted) → (first : Option Typ) → Above
   Several : Above
-
-abbrev pub as_list : Option Typ → List Typ
-as_list None = []
-as_list (Some t) = t ∷ []
 
 abbrev pub wanted_under : Above → Wanted
 wanted_under (Of c w first) = wanted_next c w (as_list first)

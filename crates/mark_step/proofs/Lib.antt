@@ -2,3 +2,4 @@ pub mod ScopeLemmas
 pub mod RowLemmas
 pub mod NodeLemmas
 pub mod Positions
+pub mod Firsts

@@ -12,8 +12,7 @@ use Rattle.type_core.specs.Typ.{Typ}
 use Rattle.type_core.specs.TypeTable.{type_at}
 use Rattle.mark_step.specs.declared.node.NodeView.{NodeView}
 use Rattle.mark_step.specs.Scope.{Scope, bind}
-use Rattle.mark_step.specs.Expression.{Wanted, Synthesise}
-use Rattle.mark_step.specs.Step.{parts_or_unknown, wanted_of_rest, scope_in_let, scope_in_case}
+use Rattle.mark_step.specs.Step.{parts_or_unknown, scope_in_let, scope_in_case}
 use Rattle.mark_step.specs.Node.{bound_at, type_or_unknown, types_from, types_before}
 
 -- a value that is one by a result is what that is
@@ -38,12 +37,6 @@ module _ (types : List Typ) (node : NodeView) (index : ℕ) where
     by Let is (suc zero) late = absurd (omega (arith, late))
     by Let is (suc (suc n)) late = (_, refl)
     by _ is index late = absurd cc
-
-  pub definition_wanted : (w : Wanted) → node.ctor.now ≡ Let → index < 2 → Synthesise ≡ wanted_of_rest w (types_before types node index)
-  definition_wanted w is early = let known = before_definition is early in cc
-
-  pub body_wanted : (w : Wanted) → node.ctor.now ≡ Let → 2 ≤ index → w ≡ wanted_of_rest w (types_before types node index)
-  body_wanted w is late = let known = after_definition is late in let same = known.1 in cc
 
   pub definition_scope : (scope : Scope) → node.ctor.now ≡ Let → index < 2 → scope ≡ scope_in_let (bound_at types node) scope (types_before types node index)
   definition_scope scope is early = let known = before_definition is early in cc

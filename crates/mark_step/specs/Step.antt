@@ -79,6 +79,15 @@ wanted_next Inr w before = wanted_on_right w
 wanted_next Case w before = wanted_of_rest w before
 wanted_next TSum w before = Synthesise
 
+-- Of the types before, no other than the first decides what is wanted next.
+abbrev pub first_of : List Typ → Option Typ
+first_of [] = None
+first_of (t ∷ ts) = Some t
+
+abbrev pub as_list : Option Typ → List Typ
+as_list None = []
+as_list (Some t) = t ∷ []
+
 -- the scope of a definition, and of the body that it is bound in
 abbrev pub scope_in_let : Bound → Scope → List Typ → Scope
 scope_in_let b scope [] = scope

@@ -1,18 +1,18 @@
-ghost use Rattle.std.specs.Prelude.{◌≡◌, List, IfOk};
+ghost use Rattle.std.specs.Prelude.{◌≡◌, ◌↔◌, IsTrue, List, IfSome, IfOk};
 ghost use Rattle.std.specs.Option.{option_map};
 ghost use Rattle.grove_sorts.specs.declared.sort.Sort.TheVariants.{Exp};
 ghost use Rattle.grove_sorts.specs.Ctor.{sort_of_ctor};
-ghost use Rattle.type_core.specs.declared.former.Former.TheVariants.{Arrow, Product, Sum};
 ghost use Rattle.type_core.specs.Typ.{Typ};
 ghost use Rattle.type_core.specs.TypeTable.{IsTypeOf, type_at, KeepsTypes};
 ghost use Rattle.ctx_table.specs.CtxTable.{IsContextOf, context_at, KeepsContexts};
 ghost use Rattle.mark_step.specs.Scope.{bind, scope_at};
-ghost use Rattle.mark_step.specs.Step.{demand, parts_or_unknown, wanted_next, wanted_of_body, wanted_in_application, wanted_in_conditional, wanted_in_pair, wanted_of_rest, wanted_on_left, wanted_on_right, scope_next, scope_in_let, scope_in_case};
+ghost use Rattle.mark_step.specs.Step.{demand, wanted_next, first_of, scope_next, scope_in_let, scope_in_case};
 ghost use Rattle.mark_step.specs.Node.{wanted_at, bound_at, IsScopeOf, expression_at, demanded_at, IsModeOf, AreNumbers, IsNodeOf, IsDemandOf, sort_at_index, AreDoneBefore, types_before};
 
 use crate::node::{Demand, Mode, NodeView};
+use crate::wanted::{mode_next, sum_or_unknown};
 use ctx_table::{CtxId, CtxTable};
-use grove_sorts::{Ctor, Ident};
+use grove_sorts::{Ctor, Ident, Sort, place_at};
 use std::alloc::Global;
 use text_parts::NoMemory;
 use type_core::{TypeId, TypeTable};
@@ -137,163 +137,26 @@ fn child_mode(types: &TypeTable, node: &NodeView, index: usize) -> Mode
         ≡ wanted_next node.now.ctor.now (wanted_at types.now node.now.mode) (types_before types.now node.now index) }
     ensures number { IsModeOf types.now result }
 {
-    match node.ctor {
-        Ctor::Lam => body_mode(types, node.mode),
-        Ctor::Ap => mode_in_application(types, node, index),
-        Ctor::Plus => Mode::Ana(types.num()),
-        Ctor::Choose => mode_in_conditional(types, node, index),
-        Ctor::Pair => mode_in_pair(types, node, index),
-        Ctor::Root | Ctor::Fst | Ctor::Snd => Mode::Syn,
-        Ctor::Var(_) | Ctor::Num(_) | Ctor::LitTrue | Ctor::LitFalse => Mode::Syn,
-        Ctor::Let => mode_in_let(node, index),
-        Ctor::Inl => mode_on_left(types, node.mode),
-        Ctor::Inr => mode_on_right(types, node.mode),
-        Ctor::Case => mode_in_case(node, index),
-        Ctor::PVar(_) | Ctor::TNum | Ctor::TBool => Mode::Syn,
-        Ctor::TArrow | Ctor::TProd | Ctor::TSum => Mode::Syn,
-    }
+    mode_next(types, node.ctor, node.mode, first_before(node, index))
 }
 
-fn body_mode(types: &TypeTable, mode: Mode) -> Mode
-    requires { IsModeOf types.now mode }
-    ensures wanted { wanted_at types.now result ≡ wanted_of_body (wanted_at types.now mode) }
-    ensures number { IsModeOf types.now result }
+// The type of the first expression at a position before this one, if there is one.
+fn first_before(node: &NodeView, index: usize) -> Option<TypeId>
+    requires { AreDoneBefore node.now index }
+    ensures first { (types : List Typ) → option_map (type_at types) result ≡ first_of (types_before types node.now index) }
+    ensures number { (types : List Typ) → AreNumbers types node.now.done → IfSome result (IsTypeOf types) }
 {
-    match mode {
-        Mode::Syn => Mode::Syn,
-        Mode::Ana(typ) => Mode::Ana(arrow_or_unknown(types, typ).1),
+    for earlier in 0..index {
+        if is_expression(node.ctor, earlier) {
+            return Some(node.child_type(earlier));
+        }
     }
+    None
 }
 
-// The function is synthesised, and the argument analysed against what the function takes.
-fn mode_in_application(types: &TypeTable, node: &NodeView, index: usize) -> Mode
-    requires ctor { node.now.ctor.now ≡ Ctor.Ap }
-    requires earlier { AreDoneBefore node.now index }
-    requires done { AreNumbers types.now node.now.done }
-    ensures wanted { wanted_at types.now result ≡ wanted_in_application (types_before types.now node.now index) }
-    ensures number { IsModeOf types.now result }
+// Whether an expression stands at the position with this index.
+fn is_expression(ctor: &Ctor, index: usize) -> bool
+    ensures { IsTrue result ↔ (sort_at_index ctor.now index ≡ Some Exp) }
 {
-    if index == 0 {
-        return Mode::Syn;
-    }
-    Mode::Ana(arrow_or_unknown(types, node.child_type(0)).0)
-}
-
-// The condition is a truth value, and of the branches is wanted what is wanted of the conditional.
-fn mode_in_conditional(types: &TypeTable, node: &NodeView, index: usize) -> Mode
-    requires ctor { node.now.ctor.now ≡ Ctor.Choose }
-    requires mode { IsModeOf types.now node.now.mode }
-    ensures wanted { wanted_at types.now result
-        ≡ wanted_in_conditional (wanted_at types.now node.now.mode) (types_before types.now node.now index) }
-    ensures number { IsModeOf types.now result }
-{
-    if index == 0 {
-        return Mode::Ana(types.boolean());
-    }
-    node.mode
-}
-
-fn mode_in_pair(types: &TypeTable, node: &NodeView, index: usize) -> Mode
-    requires ctor { node.now.ctor.now ≡ Ctor.Pair }
-    requires mode { IsModeOf types.now node.now.mode }
-    ensures wanted { wanted_at types.now result
-        ≡ wanted_in_pair (wanted_at types.now node.now.mode) (types_before types.now node.now index) }
-    ensures number { IsModeOf types.now result }
-{
-    let Mode::Ana(typ) = node.mode else {
-        return Mode::Syn;
-    };
-    let (first, second) = product_or_unknown(types, typ);
-    if index == 0 {
-        return Mode::Ana(first);
-    }
-    Mode::Ana(second)
-}
-
-// The definition is synthesised, and of the body is wanted what is wanted of the whole.
-fn mode_in_let(node: &NodeView, index: usize) -> Mode
-    requires { node.now.ctor.now ≡ Ctor.Let }
-    ensures wanted { (types : List Typ) → wanted_at types result ≡ wanted_of_rest (wanted_at types node.now.mode) (types_before types node.now index) }
-    ensures number { (types : List Typ) → IsModeOf types node.now.mode → IsModeOf types result }
-{
-    if index < 2 {
-        return Mode::Syn;
-    }
-    node.mode
-}
-
-// What the case takes apart is synthesised, and of its bodies is wanted what is wanted of the whole.
-fn mode_in_case(node: &NodeView, index: usize) -> Mode
-    requires { node.now.ctor.now ≡ Ctor.Case }
-    ensures wanted { (types : List Typ) → wanted_at types result ≡ wanted_of_rest (wanted_at types node.now.mode) (types_before types node.now index) }
-    ensures number { (types : List Typ) → IsModeOf types node.now.mode → IsModeOf types result }
-{
-    if index == 0 {
-        return Mode::Syn;
-    }
-    node.mode
-}
-
-fn mode_on_left(types: &TypeTable, mode: Mode) -> Mode
-    requires { IsModeOf types.now mode }
-    ensures wanted { wanted_at types.now result ≡ wanted_on_left (wanted_at types.now mode) }
-    ensures number { IsModeOf types.now result }
-{
-    match mode {
-        Mode::Syn => Mode::Syn,
-        Mode::Ana(typ) => Mode::Ana(sum_or_unknown(types, typ).0),
-    }
-}
-
-fn mode_on_right(types: &TypeTable, mode: Mode) -> Mode
-    requires { IsModeOf types.now mode }
-    ensures wanted { wanted_at types.now result ≡ wanted_on_right (wanted_at types.now mode) }
-    ensures number { IsModeOf types.now result }
-{
-    match mode {
-        Mode::Syn => Mode::Syn,
-        Mode::Ana(typ) => Mode::Ana(sum_or_unknown(types, typ).1),
-    }
-}
-
-// What a function of the type takes and gives, both unknown where it is no function's.
-fn arrow_or_unknown(types: &TypeTable, typ: TypeId) -> (TypeId, TypeId)
-    requires { IsTypeOf types.now typ }
-    ensures from { type_at types.now result.0 ≡ (parts_or_unknown Arrow (type_at types.now typ)).0 }
-    ensures to { type_at types.now result.1 ≡ (parts_or_unknown Arrow (type_at types.now typ)).1 }
-    ensures from_number { IsTypeOf types.now result.0 }
-    ensures to_number { IsTypeOf types.now result.1 }
-{
-    match types.matched_arrow(typ) {
-        Some(parts) => parts,
-        None => (types.unknown(), types.unknown()),
-    }
-}
-
-// The parts of a pair of the type, both unknown where it is no pair's.
-fn product_or_unknown(types: &TypeTable, typ: TypeId) -> (TypeId, TypeId)
-    requires { IsTypeOf types.now typ }
-    ensures first { type_at types.now result.0 ≡ (parts_or_unknown Product (type_at types.now typ)).0 }
-    ensures second { type_at types.now result.1 ≡ (parts_or_unknown Product (type_at types.now typ)).1 }
-    ensures first_number { IsTypeOf types.now result.0 }
-    ensures second_number { IsTypeOf types.now result.1 }
-{
-    match types.matched_product(typ) {
-        Some(parts) => parts,
-        None => (types.unknown(), types.unknown()),
-    }
-}
-
-// The parts of a sum of the type, both unknown where it is no sum's.
-fn sum_or_unknown(types: &TypeTable, typ: TypeId) -> (TypeId, TypeId)
-    requires { IsTypeOf types.now typ }
-    ensures left { type_at types.now result.0 ≡ (parts_or_unknown Sum (type_at types.now typ)).0 }
-    ensures right { type_at types.now result.1 ≡ (parts_or_unknown Sum (type_at types.now typ)).1 }
-    ensures left_number { IsTypeOf types.now result.0 }
-    ensures right_number { IsTypeOf types.now result.1 }
-{
-    match types.matched_sum(typ) {
-        Some(parts) => parts,
-        None => (types.unknown(), types.unknown()),
-    }
+    matches!(place_at(ctor, index), Some((_, Sort::Exp)))
 }

@@ -7,6 +7,7 @@ mod children;
 mod laws;
 mod node;
 mod settling;
+mod wanted;
 
 pub use children::child_demand;
 pub use laws::{
@@ -16,3 +17,4 @@ pub use laws::{
 pub use node::{Binder, Demand, Mark, Mode, NodeView, Settled};
 pub use settling::{settle, settle_literal};
 pub use text_parts::NoMemory;
+pub use wanted::mode_next;
